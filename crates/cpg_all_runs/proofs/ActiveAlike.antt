@@ -1,4 +1,5 @@
--- Scenarios with the same active numbers have one run.
+-- Scenarios with the same active numbers have the same runs: they agree on what is active, so the same items are active and each
+-- waits for the same.
 use Rattle.std.proofs.Common.{◌≡◌, ◌∙◌, ℕ, ◌+◌, ◌-◌, ◌<◌, Bool, true, false, ◌&&◌, if◌then◌else◌, List, [], ◌∷◌, ◌++◌}
 use Rattle.std.proofs.Common.{map, get_or, Option, Some, None, option_to_list, option_map, arith, sym, ap, ap₂}
 use Rattle.std.proofs.Common.{subst, inl, inr}
@@ -32,27 +33,27 @@ use Rattle.cpg_run.specs.Run.{bounds_of_item, time_by, end_by}
 use Rattle.cpg_run.proofs.Runs.{time_is}
 use Rattle.cpg_all_runs.specs.Active.{active_fault, active_value, active_numbers, HaveSameRuns}
 
--- two scenarios agree on what is active in the first
+-- two scenarios agree on the values of conditions and the fault counts of processes that are active in the first
 pub record AreActiveAlike (g : Graph) (s u : Scenario) : Type 0 where
   pub values : (c : ℕ) → c < condition_count g → active g s.values (process_of g c) ≡ true →
       get_or s.values c false ≡ get_or u.values c false
   pub faults : (p : ℕ) → p < process_count g → active g s.values p ≡ true → fault_of s p ≡ fault_of u p
 
--- equal numbers of two things, of which the first is active, have the same count
+-- if two active numbers are equal, and the first thing is active, so is the second, with the same count
 one_more : (a b : Bool) (m n : ℕ) → (if a then m + 1 else 0) ≡ (if b then n + 1 else 0) → a ≡ true → m ≡ n
 one_more true true m n e t = omega arith
 one_more true false m n e t = absurd (omega arith)
 one_more false b m n e t = absurd (let z : false ≡ true = t in cc)
 
 module _ (g : Graph) (s u : Scenario) (same : active_numbers g s ≡ active_numbers g u) where
-  -- the active numbers are those of the processes and then those of the conditions, each at its place
+  -- the active number of a process is at the place of the process's number
   faults_at : (r : Scenario) (p : ℕ) → p < process_count g → get_or (active_numbers g r) p 0 ≡ active_fault g r p
   faults_at r p l = get_or_append_left (map (active_fault g r) (numbers_below (process_count g)))
       (map (active_value g r) (numbers_below (condition_count g))) 0 p
       (omega (arith, length-map-range_with_len (active_fault g r) 0 (process_count g)))
       ∙ get_or-map-below (active_fault g r) (process_count g) p 0 l
 
-  -- the numbers of the conditions stand behind those of the processes
+  -- that of a condition comes behind those of all processes
   values_at : (r : Scenario) (c : ℕ) → c < condition_count g →
       get_or (active_numbers g r) (process_count g + c) 0 ≡ active_value g r c
   values_at r c l =
@@ -76,27 +77,26 @@ module _ (g : Graph) (s u : Scenario) (same : active_numbers g s ≡ active_numb
 -- given two scenarios that agree on what is active in the first
 module _ (g : Graph) (urgency : List ℕ) (urgent : IsUrgencyOrder g urgency) (lawful : IsTopological g urgency)
     (s u : Scenario) (alike : AreActiveAlike g s u) where
-  -- they activate the same processes, in the same way, make the same edges live, and are decided by the same
-  -- conditions
+  -- each process has the same activation in both scenarios: whether it is active and, for a join, by which input
   activation_is_same : (p : ℕ) → p < process_count g → activation g s.values p ≡ activation g u.values p
   activation_is_same p l = same_everywhere g urgency lawful s.values u.values p (omega arith) alike.values
 
-  -- the same processes are active
+  -- the same processes are active in both scenarios
   active_is_same : (p : ℕ) → p < process_count g → active g s.values p ≡ active g u.values p
   active_is_same p l = ap is_active (activation_is_same p l)
 
-  -- the same edges are live
+  -- the same edges are live in both scenarios
   live_is_same : (e : ℕ) → e < edge_count g → live g s.values e ≡ live g u.values e
   live_is_same e l = live_same g urgency lawful s.values u.values e l
       (activation_is_same (source g e) (source_in_order g urgency lawful e l))
       (λ c k at acts. alike.values c k (subst (λ q. active g s.values q ≡ true) (sym at) acts))
 
-  -- the same conditions decide a process
+  -- the same conditions decide a process in both scenarios
   deciding_is_same : (p : ℕ) → deciding g s.values p ≡ deciding g u.values p
   deciding_is_same p = deciding_same g urgency urgent p s.values u.values
       (λ c l d. alike.values c l (deciding_is_active g urgency urgent lawful s.values p c l d))
 
-  -- the same items are active
+  -- the same items are active in both scenarios
   item_is_same : (x : ℕ) → ItemCases g x → item_active g s.values (item_at g x) ≡ item_active g u.values (item_at g x)
   item_is_same x (inl c) =
       ap (item_active g s.values) c.1 ∙ active_is_same x c.0 ∙ sym (ap (item_active g u.values) c.1)
@@ -107,7 +107,8 @@ module _ (g : Graph) (urgency : List ℕ) (urgent : IsUrgencyOrder g urgency) (l
       sym (ap (item_active g u.values) c.3)
 
   module _ (order : List ℕ) (topological : IsTopological g order) (frozen : List (Option ℕ)) (t : Times) where
-    -- a start waits for the same in both scenarios
+    -- a start waits for the same in both scenarios: the same inputs are live, the same processes active, and the same conditions
+    -- decide
     start_same : (p : ℕ) → start_bounds g order s t p ≡ start_bounds g order u t p
     start_same p = ap (λ xs. (process_at g p).release ∷ xs) (ap₂ ◌++◌
         (ap₂ ◌++◌
@@ -119,7 +120,7 @@ module _ (g : Graph) (urgency : List ℕ) (urgent : IsUrgencyOrder g urgency) (l
         (ap (map (heard_there g t (node_of g p))) (same_flat_map (deciding g s.values) (deciding g u.values)
         (before_on_node g order p ++ p ∷ []) (λ q c. deciding_is_same q))))
 
-    -- so does a send
+    -- a send waits for the same in both scenarios
     send_same : (x : ℕ) → send_bounds g order s t x ≡ send_bounds g order u t x
     send_same x = ap (λ ys. next_slot g (home g x) (end_in t (producer g x)) ∷ map (λ y. time_in t y + round g) ys)
         (same_filter (λ y. item_active g s.values (item_at g y)) (λ y. item_active g u.values (item_at g y))
@@ -144,7 +145,7 @@ module _ (g : Graph) (urgency : List ℕ) (urgent : IsUrgencyOrder g urgency) (l
         (item_is_same x (item_cases g x l)) (bounds_same x (item_cases g x l))
 
     module _ (run : IsRun g order frozen s t) where
-      -- and each execution the same end
+      -- each process has the same end: an active one has the same faults, and an inactive one has no start
       end_same : (p : ℕ) → p < process_count g → end_by g s t p ≡ end_by g u t p
       end_same p l = elim (cases_Bool (active g s.values p)) [
         | inl acts ↦

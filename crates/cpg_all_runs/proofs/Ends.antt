@@ -1,4 +1,4 @@
--- Peaks of numbers that are read off runs.
+-- The greatest of numbers that are read off runs, such as finishes, is that of all runs, with the least scenario that has it.
 use Rattle.std.proofs.Common.{◌≡◌, ◌≢◌, ◌∙◌, ℕ, ◌<◌, ◌≤◌, List, map, length, get_or, Contains, Option, Some, None}
 use Rattle.std.proofs.Common.{IfSome, IfNone, arith, sym, ap, ap₂, subst, inl, inr}
 use Rattle.std.proofs.lemmas.List.{get_or_default}
@@ -19,8 +19,8 @@ use Rattle.cpg_all_runs.proofs.Measured.{HasIn, AreMeasured, measured}
 
 module _ (g : Graph) (order : List ℕ) (top : IsTopological g order) where
   module _ (frozen : List (Option ℕ)) (s : Scenario) (t : Times) (run : IsRun g order frozen s t) where
-    -- what the search finds is the least process that ends at the finish, and it finds none only if there is no
-    -- process
+    -- what the search finds is the least process that ends at the finish; it finds none only if there is no process, since else
+    -- some process ends then
     pub ends_last : (by : Option ℕ) → IfSome by (λ p. IsFirstEnding t t.finish p) →
         IfNone by ((q : ℕ) → q < process_count g → get_or t.ends q None ≢ Some t.finish) →
         IsLeastEnding g t t.finish by
@@ -34,14 +34,14 @@ module _ (g : Graph) (order : List ℕ) (top : IsTopological g order) where
   module _ (value : Times → ℕ) (urgency : List ℕ) (frozen : List (Option ℕ)) (list : List Scenario)
       (all : AreScenarios g list) (numbers : List ℕ) (m : AreMeasured g order frozen value list numbers)
       (at : ℕ) (f : IsFirstGreatest g urgency (length list) list numbers at) where
-    -- the number of a lawful scenario
+    -- the number at the place of a scenario is that of its run, as it has just one
     number_is : (s : Scenario) (t : Times) (c : Contains list s) → IsRun g order frozen s t →
         get_or numbers c.0 0 ≡ value t
     number_is s t c run =
         let h = m.each c.0 s c.1 in
         sym h.2 ∙ ap value (run_unique g order top frozen s h.0 t (subst (λ z. IsRun g order frozen z h.0) c.2 h.1) run)
 
-    -- no run has a greater number than the one at that place
+    -- no run has a greater number than the one at that place, since each scenario is in the list
     pub peak_greatest : (s : Scenario) (t : Times) → IsScenario g s → IsRun g order frozen s t →
         value t ≤ get_or numbers at 0
     peak_greatest s t lawful run = let c = all.all s lawful in omega (arith, f.most c.0 c.1, number_is s t c run)
@@ -58,7 +58,7 @@ module _ (g : Graph) (order : List ℕ) (top : IsTopological g order) where
           sym (ap₂ (is_before g urgency) c.2 (get_or_default list at z d f.there ∙ sym e)) ∙ b;
     }
 
-  -- the number of the run of a scenario
+  -- if some run of a scenario has the number n, each has, as it has just one
   one_number : (value : Times → ℕ) (frozen : List (Option ℕ)) (n : ℕ) (s : Scenario) (t : Times) →
       HasIn g order frozen value n s → IsRun g order frozen s t → value t ≡ n
   one_number value frozen n s t has run = ap value (run_unique g order top frozen s t has.0 run has.1) ∙ has.2
@@ -69,7 +69,7 @@ module _ (g : Graph) (order : List ℕ) (top : IsTopological g order) where
       (numbers : List ℕ) (at : ℕ) (f : IsFirstGreatest g urgency (length list) list numbers at) (s : Scenario)
       (t : Times) (scenario_at : (d : Scenario) → s ≡ get_or list at d)
       (run_at : (d : Times) → t ≡ get_or runs at d) (by : Option ℕ) where
-    -- the scenario that is shown has the run that is shown
+    -- the run at that place is the run of the scenario there
     its_run : IsRun g order frozen s t
     its_run = subst (λ z. IsRun g order frozen z t) (sym (scenario_at s))
         (subst (IsRun g order frozen (get_or list at s)) (sym (run_at t)) (are.each at s t f.there))
@@ -105,7 +105,7 @@ module _ (g : Graph) (order : List ℕ) (top : IsTopological g order) where
               (run_unique g order top frozen s t u its_run run) exceeds);
         }
 
--- if something exceeds, some process has the greatest excess
+-- if the greatest excess isn't 0, some process has it, so the search finds the least one
 pub least_exceeding : (g : Graph) (t : Times) (by : Option ℕ) → 0 < excess_in_run g t →
     IfSome by (IsFirstExceeding g t (excess_in_run g t)) →
     IfNone by ((q : ℕ) → q < process_count g → excess_of g t q ≢ excess_in_run g t) →

@@ -1,4 +1,4 @@
--- The search for the first scenario of the greatest number.
+-- The search for the first scenario that has the greatest number, one scenario after another.
 use Rattle.std.proofs.Common.{◌≡◌, ◌∙◌, ℕ, ◌+◌, ◌≤◌, true, false, List, get_or, map, max, arith, sym, ap, inl, inr}
 use Rattle.std.proofs.lemmas.Bool.{cases_eq}
 use Rattle.std.specs.Ordering.{ord_max, nat_cmp}
@@ -14,9 +14,8 @@ use Rattle.cpg_all_runs.specs.Peaks.{IsFirstGreatest}
 -- given the place of the first greatest of n numbers
 module _ (g : Graph) (urgency : List ℕ) (n : ℕ) (list : List Scenario) (numbers : List ℕ) (at : ℕ)
     (f : IsFirstGreatest g urgency n list numbers at) where
-  -- If the number at n is greater, or as great and its scenario comes first, its place is the one.
-  -- The number at n is at least the greatest so far; a scenario before its own with the same number would come before
-  -- that of the old place.
+  -- If the number at n is greater, or as great and its scenario comes first, n is the place among the first n + 1. No scenario
+  -- with that number comes before the n-th, since it would come before that of the old place too.
   pub takes_it : get_or numbers at 0 ≤ get_or numbers n 0 →
       (get_or numbers n 0 ≡ get_or numbers at 0 → (d : Scenario) →
       is_before g urgency (get_or list n d) (get_or list at d) ≡ true) →
@@ -58,7 +57,7 @@ module _ (g : Graph) (urgency : List ℕ) (n : ℕ) (list : List Scenario) (numb
     ];
   }
 
--- of one number the greatest is that one
+-- of one number the place is 0
 pub starts_it : (g : Graph) (urgency : List ℕ) (list : List Scenario) (numbers : List ℕ) →
     IsFirstGreatest g urgency 1 list numbers 0
 starts_it g urgency list numbers = record {
@@ -68,7 +67,7 @@ starts_it g urgency list numbers = record {
       z) ∙ before_irreflexive g urgency (get_or list 0 d);
 }
 
--- the greatest of one number more is the greater of the old one and that number
+-- the greatest of the first n + 1 numbers is the greater of the greatest of the first n and the n-th
 pub greatest_more : (f : ℕ → ℕ) (n : ℕ) →
     greatest (map f (numbers_below (n + 1))) ≡ max (greatest (map f (numbers_below n))) (f n)
 greatest_more f n = ap (λ xs. greatest (map f xs)) (below_push n) ∙ ap greatest (map_push f (numbers_below n) n)

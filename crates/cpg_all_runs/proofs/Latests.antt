@@ -1,4 +1,4 @@
--- The search for the greatest time of an item.
+-- The search for the greatest time of an item over scenarios, one after another.
 use Rattle.std.proofs.Common.{◌≡◌, ◌∙◌, ℕ, ◌+◌, ◌<◌, ◌≤◌, max, List, [], ◌∷◌, length, get_or, Contains, Option, Some}
 use Rattle.std.proofs.Common.{None, option_to_list, unwrap_or, arith, refl, sym, ap, subst, inl, inr, ◌⊎◌}
 use Rattle.std.proofs.lemmas.Bool.{cases_eq, cases_lt}
@@ -16,25 +16,31 @@ use Rattle.cpg_run.proofs.RunUnique.{run_unique}
 use Rattle.cpg_all_runs.specs.Active.{AreExamples}
 use Rattle.cpg_run.specs.Latest.{later, IsUnfrozenTime}
 
--- at or below a time that is there
+-- `latest` is a time, and `time` isn't later
 pub record IsUpTo (latest : Option ℕ) (time : ℕ) : Type 0 where
   pub most : ℕ
   pub is : latest ≡ Some most
+  -- which is at least `time`
   pub few : time ≤ most
 
--- in some scenario the item has the time
+-- in some scenario of the list the item x has the time
 pub record HasTime (g : Graph) (order : List ℕ) (frozen : List (Option ℕ)) (x : ℕ) (list : List Scenario)
     (time : ℕ) : Type 0 where
   pub scenario : Scenario
+  -- is one of the list
   pub listed : Contains list scenario
   pub times : Times
+  -- these times are its run
   pub run : IsRun g order frozen scenario times
+  -- x has the time in it
   pub has : get_or times.times x None ≡ Some time
 
--- the greatest time in the first n scenarios
+-- `latest` is the greatest time of the item x in the first n scenarios, or None if it is active in none
 pub record IsLatest (g : Graph) (order : List ℕ) (frozen : List (Option ℕ)) (x n : ℕ) (list : List Scenario)
     (latest : Option ℕ) : Type 0 where
+  -- some scenario has it
   pub reached : (time : ℕ) → latest ≡ Some time → HasTime g order frozen x list time
+  -- no time of the item in the first n scenarios is later
   pub above : (i : ℕ) (s : Scenario) (t : Times) (time : ℕ) → i < n → get_or list i s ≡ s → IsRun g order frozen s t →
       get_or t.times x None ≡ Some time →
       IsUpTo latest time
@@ -48,7 +54,7 @@ later_cases (Some m) (Some n) time e = elim (cases_lt m n) [
   | inr l ↦ inl (ap (λ k. Some k) (let k : max m n ≡ m = omega arith in sym k) ∙ e)
 ]
 
--- a time up to the first is up to the later one
+-- a time that isn't later than the first isn't later than the later one
 later_first : (a b : Option ℕ) (time : ℕ) → IsUpTo a time → IsUpTo (later a b) time
 later_first None b time u = absurd (none-some u.most u.is)
 later_first (Some m) None time u = u
@@ -58,26 +64,26 @@ later_first (Some m) (Some n) time u = record {
   few = let e : m ≡ u.most = same_some m u.most u.is in let f = u.few in omega arith;
 }
   where
-    -- two numbers that are there are equal if they are so as options
+    -- two numbers are equal if they are so as options
     same_some : (a b : ℕ) → Some a ≡ Some b → a ≡ b
     same_some a b e = cc
 
--- the second time is up to the later one
+-- the second time isn't later than the later one
 later_second : (a : Option ℕ) (time : ℕ) → IsUpTo (later a (Some time)) time
 later_second None time = record { most = time; is = refl; few = omega arith }
 later_second (Some m) time = record { most = max m time; is = refl; few = omega arith }
 
--- given an item and scenarios that are gone through
+-- given an item and a list of scenarios
 module _ (g : Graph) (order : List ℕ) (top : IsTopological g order) (frozen : List (Option ℕ)) (x : ℕ)
     (list : List Scenario) where
-  -- before the first scenario there is no greatest time
+  -- before the first scenario the greatest time is None
   pub latest_first : IsLatest g order frozen x 0 list None
   latest_first = record {
     reached = λ time e. absurd (none-some time e);
     above = λ i s t time l at run e. absurd (omega arith);
   }
 
-  -- with one scenario more, the greatest time is the later of the old one and that of the scenario's run
+  -- with the n-th scenario the greatest time is the later of the one so far and that of the scenario's run
   pub latest_more : (n : ℕ) (latest : Option ℕ) (s : Scenario) (t : Times) → n < length list → get_or list n s ≡ s →
       IsRun g order frozen s t →
       IsLatest g order frozen x n list latest →
@@ -100,13 +106,13 @@ module _ (g : Graph) (order : List ℕ) (top : IsTopological g order) (frozen : 
   }
 
   module _ (all : AreExamples g list) (within : x < item_count g) (unset : get_or frozen x None ≡ None) where
-    -- the time of an active item that is not set
+    -- an item without a frozen time has the time that it would have if it were not frozen
     time_unset : (s : Scenario) (t : Times) (run : IsRun g order frozen s t) →
         greatest (unfrozen_time g order s t x ∷ option_to_list (get_or frozen x None)) ≡ unfrozen_time g order s t x
     time_unset s t run = ap (λ o. greatest (unfrozen_time g order s t x ∷ option_to_list o)) unset
         ∙ (let e = greatest-cons (unfrozen_time g order s t x) [] in omega arith)
 
-    -- the item would have this time in the scenario whose run has it
+    -- so the item would have the time that it has in some scenario
     would_have : (time : ℕ) → HasTime g order frozen x list time → WouldHave g order frozen x time
     would_have time h =
         let p = time_parts g order frozen h.scenario h.times h.run x time h.has in
@@ -120,7 +126,8 @@ module _ (g : Graph) (order : List ℕ) (top : IsTopological g order) (frozen : 
               (sym (time_active g order frozen h.scenario h.times h.run x within p.1) ∙ h.has);
         }
 
-    -- no time that the item would have is above the greatest one
+    -- no time that the item would have in any scenario is later than the greatest in the list, since one of the list has the same
+    -- runs
     would_be_up_to : (n : ℕ) (latest : Option ℕ) (time : ℕ) → n ≡ length list →
         IsLatest g order frozen x n list latest → WouldHave g order frozen x time →
         IsUpTo latest time
@@ -132,7 +139,7 @@ module _ (g : Graph) (order : List ℕ) (top : IsTopological g order) (frozen : 
         (time_active g order frozen w.scenario w.times w.run x within w.active
         ∙ ap (λ k. Some k) (time_unset w.scenario w.times w.run ∙ w.has))
 
-    -- the greatest time in all scenarios is the unfrozen time of the item
+    -- the greatest time in a list that shows all runs is the greatest that the item would have in any scenario
     pub latest_is : (n : ℕ) (latest : Option ℕ) → n ≡ length list → IsLatest g order frozen x n list latest →
         IsUnfrozenTime g order frozen x latest
     latest_is n latest long is = record {

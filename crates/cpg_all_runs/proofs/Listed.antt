@@ -1,4 +1,4 @@
--- Which scenarios the lists have.
+-- Which scenarios the lists of `Listing` have: those with faults or true values below a number, each once.
 use Rattle.std.proofs.Common.{length, ◌≡◌, ◌∙◌, ℕ, zero, suc, ◌+◌, ◌-◌, ◌≢◌, ◌<◌, ◌≤◌, Bool, true, false, List, [], ◌∷◌}
 use Rattle.std.proofs.Common.{◌++◌, map, get_or, set, sum, replicate, All, Contains, arith, refl, sym, ap}
 use Rattle.std.proofs.Common.{ap₂, subst, inl, inr, length-set, add-one}
@@ -19,7 +19,7 @@ pub use Rattle.cpg_run.proofs.ZeroScenario.{zero_lawful}
 use Rattle.cpg_all_runs.specs.Listing.{AreScenarios, HasValue, with_fault, with_true, with_each_fault, with_both}
 use Rattle.cpg_all_runs.specs.Listing.{with_faults_below, with_values_below}
 
--- the step of a loop that adds what a function gives of each number
+-- the step of a loop that adds what f gives of each number: with f of n, the first n become n + 1
 pub appended_push : {X : Type 0} (f : ℕ → X) (before xs ys : List X) (y : X) (n : ℕ) →
     xs ≡ before ++ map f (numbers_below n) → y ≡ f n →
     ys ≡ xs ++ y ∷ [] →
@@ -28,7 +28,7 @@ appended_push f before xs ys y n e h is =
     is ∙ ap₂ (λ zs z. zs ++ z ∷ []) e h ∙ append_assoc before (map f (numbers_below n)) (f n ∷ [])
     ∙ ap (λ zs. before ++ zs) (sym (ap (map f) (below_push n) ∙ map-append f (numbers_below n) (n ∷ [])))
 
--- of two elements set at one place the second stays
+-- of two elements set at one place the second stays: by induction on the list
 set_twice : {X : Type 0} (xs : List X) (i : ℕ) (y z d : X) → set (set xs i y) i z ≡ set xs i z
 set_twice [] zero y z d = refl
 set_twice [] (suc i) y z d = refl
@@ -43,7 +43,9 @@ module _ (g : Graph) where
   -- no faults from the process p on, and every value false
   pub record HasFaultsBelow (p : ℕ) (s : Scenario) : Type 0 where
     pub lawful : IsScenario g s
+    -- a process from p on has no faults
     pub later : (q : ℕ) → p ≤ q → fault_of s q ≡ 0
+    -- every value is false
     pub quiet : s.values ≡ replicate (condition_count g) false
 
   -- in the scenario without faults no process has one
@@ -54,7 +56,7 @@ module _ (g : Graph) where
         get_or_past (replicate (process_count g) 0) q 0 (omega (arith, length-replicate {A = ℕ} (process_count g) 0))
   ]
 
-  -- another fault count of a process leaves a scenario lawful if the graph allows all the faults
+  -- a scenario with another fault count of a process is one of the graph, if all its faults together are at most the graph's
   faults_changed : (p f : ℕ) (s : Scenario) → p < process_count g → IsScenario g s →
       sum s.faults + f ≤ g.faults + fault_of s p →
       IsScenario g (with_fault p s f)
@@ -86,7 +88,7 @@ module _ (g : Graph) where
         quiet = i.quiet;
       })
 
-  -- Each such scenario is in the list.
+  -- Each scenario without faults from p on, and with every value false, is in the list.
   -- By induction on p: the scenario without the faults of p is in the list before, and its count brings it back.
   pub lists_faults : (p : ℕ) → p ≤ process_count g → (s : Scenario) → HasFaultsBelow p s →
       Contains (with_faults_below g p) s
@@ -124,6 +126,7 @@ module _ (g : Graph) where
   -- every value false from the condition c on
   pub record HasValuesBelow (c : ℕ) (s : Scenario) : Type 0 where
     pub lawful : IsScenario g s
+    -- a condition from c on is false
     pub later : (d : ℕ) → c ≤ d → get_or s.values d false ≡ false
 
   -- without true values each value is false
@@ -134,7 +137,7 @@ module _ (g : Graph) where
         (omega (arith, length-replicate (condition_count g) false))
   ]
 
-  -- another value of a condition leaves a scenario lawful
+  -- a scenario with another value of a condition is one of the graph
   value_changed : (c : ℕ) (v : Bool) (s : Scenario) → IsScenario g s →
       IsScenario g (record s { values = set s.values c v })
   value_changed c v s is =
@@ -163,7 +166,7 @@ module _ (g : Graph) where
         ]
       ]
 
-  -- Each such scenario is in the list.
+  -- Each scenario with every value false from c on is in the list.
   -- By induction on c: the scenario with the value of c false is in the list before, and its value brings it back.
   pub lists_values : (c : ℕ) → c ≤ condition_count g → (s : Scenario) → HasValuesBelow c s →
       Contains (with_values_below g c) s
@@ -204,7 +207,7 @@ module _ (g : Graph) where
             (Contains-first without (with_true c without ∷ []))
       ])
 
-  -- without the count of a process a scenario is as it was before it was given
+  -- if a process has no fault in s, taking away the faults that it is given brings the counts of s back
   fault_cleared : (p f : ℕ) (s : Scenario) → fault_of s p ≡ 0 → set (with_fault p s f).faults p 0 ≡ s.faults
   fault_cleared p f s z = set_twice s.faults p f 0 0 ∙ sym (ap (set s.faults p) z) ∙ set-get_or s.faults p 0
 
@@ -234,7 +237,7 @@ module _ (g : Graph) where
       ∙ fault_cleared p y.0 t (b.later p (omega arith)))))
       (faults_apart p (omega arith))
 
-  -- without the value of a condition too
+  -- if a condition is false in s, making it false in s as it is, or with it true, brings the values of s back
   value_cleared : (c : ℕ) (s u : Scenario) → get_or s.values c false ≡ false → Contains (with_both c s) u →
       (set u.values c false ≡ s.values) × (u.faults ≡ s.faults)
   value_cleared c s u z k = elim (Contains-cases s (with_true c s ∷ []) u k) [
@@ -311,7 +314,7 @@ module _ (g : Graph) where
   unfolding with_values_below
   values_more c xs ys e f = f ∙ ap (flat_map (with_both c)) e ∙ ap (with_values_below g) (sym (add-one c))
 
-  -- the scenario without faults, in which every value is false, is the first list
+  -- the first list has just the scenario without faults in which every value is false
   pub faults_first : (s : Scenario) → s ≡ zero_scenario g → s ∷ [] ≡ with_faults_below g 0
   unfolding with_faults_below
   faults_first s e = ap (λ x. x ∷ []) e
@@ -321,6 +324,6 @@ module _ (g : Graph) where
   unfolding with_values_below
   values_first = refl
 
-  -- there is a scenario
+  -- a list of all scenarios isn't empty, as it has the one without faults
   pub some_listed : (list : List Scenario) → AreScenarios g list → 0 < length list
   some_listed list all = let c = all.all (zero_scenario g) (zero_lawful g) in let l = c.1 in omega arith

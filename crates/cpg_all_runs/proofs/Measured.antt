@@ -1,4 +1,4 @@
--- Runs one after another, and numbers that are read off them.
+-- A list of runs with one more, and numbers that are read off runs.
 use Rattle.std.proofs.Common.{◌≡◌, ◌∙◌, ℕ, ◌+◌, ◌<◌, List, [], ◌∷◌, ◌++◌, map, length, get_or, Option, arith, sym, ap}
 use Rattle.std.proofs.Common.{ap₂, subst, inl, inr, length-append}
 use Rattle.std.proofs.lemmas.Bool.{cases_lt}
@@ -13,7 +13,7 @@ use Rattle.cpg_all_runs.specs.Runs.{AreFirstRuns, AreRuns}
 abbrev pub HasIn : Graph → List ℕ → List (Option ℕ) → (Times → ℕ) → ℕ → Scenario → Type 0
 HasIn g order frozen value n s = (t : Times) × IsRun g order frozen s t × (value t ≡ n)
 
--- at each place a number that a run of the scenario there has
+-- the number at each place of `numbers` is that of some run of the scenario there
 pub record AreMeasured (g : Graph) (order : List ℕ) (frozen : List (Option ℕ)) (value : Times → ℕ)
     (list : List Scenario) (numbers : List ℕ) : Type 0 where
   pub long : length numbers ≡ length list
@@ -21,7 +21,7 @@ pub record AreMeasured (g : Graph) (order : List ℕ) (frozen : List (Option ℕ
       HasIn g order frozen value (get_or numbers i 0) (get_or list i s)
 
 module _ (g : Graph) (order : List ℕ) (frozen : List (Option ℕ)) where
-  -- with the run of one scenario more, these are the runs of the first n + 1
+  -- if t, the run of the n-th scenario, is added to the runs of the first n, these are the runs of the first n + 1
   pub runs_more : (n : ℕ) (list : List Scenario) (runs more : List Times) (t : Times) →
       AreFirstRuns g order frozen n list runs →
       ((d : Scenario) → IsRun g order frozen (get_or list n d) t) →
@@ -56,6 +56,6 @@ module _ (g : Graph) (order : List ℕ) (frozen : List (Option ℕ)) where
     );
   }
     where
-      -- what stands where there is no run
+      -- the default where there is no run
       no_run : Times
       no_run = record { times = []; ends = []; finish = 0 }

@@ -1,4 +1,4 @@
--- Look-ups of places by numbers.
+-- The map of first places: each list of numbers that was met has the first place at which it was met.
 use Rattle.std.proofs.Common.{Ordering, Less, Equal, Greater, ◌≡◌, ◌≢◌, ◌∙◌, ℕ, ◌+◌, ◌<◌, ◌≤◌, true, Bool, false, List}
 use Rattle.std.proofs.Common.{[], ◌∷◌, ◌++◌, map, All, length, length-append, get_or, Some, None, rules, refl}
 use Rattle.std.proofs.Common.{sym, ap, subst, inl, inr, arith}
@@ -20,7 +20,7 @@ use Rattle.cpg_base.proofs.Lists.{map_below_push}
 use Rattle.cpg_all_runs.specs.FirstAlike.{AreFirstPlaces}
 use Rattle.cpg_all_runs.specs.Placed.{place_in, with_place, GetsPlace}
 
--- numbers are listed one after another, behind others
+-- the step of a loop that adds the numbers f n behind others: with f n the first n become n + 1
 pub map_below_after : (f : ℕ → ℕ) (before xs more : List ℕ) (v n : ℕ) → xs ≡ before ++ map f (numbers_below n) →
     v ≡ f n → more ≡ xs ++ v ∷ [] →
     more ≡ before ++ map f (numbers_below (n + 1))
@@ -29,12 +29,12 @@ map_below_after f before xs more v n is new pushed =
     ∙ ap (λ ys. before ++ ys)
     (map_below_push f (map f (numbers_below n)) (map f (numbers_below n) ++ v ∷ []) v n refl new refl)
 
--- two numbers that are there are equal if they are so as options
+-- two numbers are equal if they are so as options
 same_some : (a b : ℕ) → Some a ≡ Some b → a ≡ b
 same_some a b e = cc
 
 module _ (P : Vec ℕ × ℕ → Type 0) where
-  -- what holds of all entries of a map holds of one that is found
+  -- what holds of all entries of a map holds of one that is found: by induction on the entries
   placed_found : (f : Vec ℕ → Ordering) (es : List (Vec ℕ × ℕ)) (i : ℕ) → All P es → lookup (is_at f) es ≡ Some i →
       (k : Vec ℕ) × (f k ≡ Equal) × P (k, i)
   placed_found f [] i a e = absurd (none-some i e)
@@ -47,7 +47,8 @@ module _ (P : Vec ℕ × ℕ → Type 0) where
     | inr t ↦ placed_found f es i (All-tail P x es a) (sym (lookup_tail (is_at f) x es t) ∙ e)
   ]
 
-  -- whichever way the comparison goes, what holds of all entries holds after one is put in
+  -- a step of the next lemma: whether the new entry goes before the first, replaces its value, or goes behind it, what holds of
+  -- all holds of all then
   put_by_order : (k : Vec ℕ) (v : ℕ) (e : Vec ℕ × ℕ) (es rest : List (Vec ℕ × ℕ)) → P (k, v) → (o : Ordering) →
       (o ≡ Equal → P (e.0, v)) → All P (e ∷ es) → All P rest →
       All P (match_ordering o ((k, v) ∷ e ∷ es) ((e.0, v) ∷ es) (e ∷ rest))
@@ -55,7 +56,7 @@ module _ (P : Vec ℕ × ℕ → Type 0) where
   put_by_order k v e es rest p Equal q a r = All-cons P (e.0, v) es (q refl) (All-tail P e es a)
   put_by_order k v e es rest p Greater q a r = All-cons P e rest (All-head P e es a) r
 
-  -- what holds of all entries holds after one more is put in
+  -- what holds of all entries, and of a new one, holds of all after it is put in: by induction on the entries
   placed_inserted : (cmp : Vec ℕ → Vec ℕ → Ordering) (k : Vec ℕ) (v : ℕ) → P (k, v) →
       ((j : Vec ℕ) → cmp k j ≡ Equal → P (j, v)) → (es : List (Vec ℕ × ℕ)) → All P es →
       All P (insert_entry cmp es k v)
@@ -63,11 +64,11 @@ module _ (P : Vec ℕ × ℕ → Type 0) where
   placed_inserted cmp k v p q (e ∷ es) a = put_by_order k v e es (insert_entry cmp es k v) p (cmp k e.0) (q e.0) a
       (placed_inserted cmp k v p q es (All-tail P e es a))
 
--- an entry's place is below n, and the first that has its numbers
+-- the place of an entry is below n, and is the first at which f has the entry's numbers
 abbrev pub IsPlaced : (ℕ → List ℕ) → ℕ → Vec ℕ × ℕ → Type 0
 IsPlaced f n e = (e.1 < n) × (f e.1 ≡ e.0.items) × ((j : ℕ) → f j ≡ e.0.items → e.1 ≤ j)
 
--- the numbers of the first n places have their first places
+-- each entry has the first place of its numbers, and the numbers of each of the first n places have an entry
 pub record ArePlaced (f : ℕ → List ℕ) (n : ℕ) (entries : List (Vec ℕ × ℕ)) : Type 0 where
   pub each : All (IsPlaced f n) entries
   pub all : (i : ℕ) → i < n → place_in entries (f i) ≢ None
@@ -76,12 +77,12 @@ pub record ArePlaced (f : ℕ → List ℕ) (n : ℕ) (entries : List (Vec ℕ �
 abbrev is_key : List ℕ → Vec ℕ → Bool
 is_key numbers k = is_at (λ (j : Vec ℕ). slice_cmp nat_cmp numbers j.items) k
 
--- numbers are their own key
+-- a list of numbers is equal to itself by the comparison
 key_itself : (numbers : List ℕ) → is_eq (slice_cmp nat_cmp numbers numbers) ≡ true
 key_itself numbers = sym (texts_ties numbers numbers) ∙ (bytes_decides numbers numbers).1 refl
 
 module _ (numbers : List ℕ) where
-  -- if the first entry has the numbers, they have a place
+  -- if the key of the first entry is the numbers, they have a place
   known_head : (e : Vec ℕ × ℕ) (es : List (Vec ℕ × ℕ)) → is_key numbers e.0 ≡ true → place_in (e ∷ es) numbers ≢ None
   known_head e es t none = none-some e.1 (sym none ∙ lookup_head (is_key numbers) e es t)
 
@@ -107,7 +108,7 @@ module _ (numbers : List ℕ) where
   ]
 
   module _ (k : Vec ℕ) (v : ℕ) where
-    -- whichever way the comparison goes, a list of numbers that has a place keeps one
+    -- a step of the next lemma: whichever way the comparison goes, numbers that have a place keep one
     kept_by_order : (e : Vec ℕ × ℕ) (es rest : List (Vec ℕ × ℕ)) → place_in (e ∷ es) numbers ≢ None →
         (place_in es numbers ≢ None → place_in rest numbers ≢ None) → (o : Ordering)
         → place_in (match_ordering o ((k, v) ∷ e ∷ es) ((e.0, v) ∷ es) (e ∷ rest)) numbers ≢ None
@@ -118,14 +119,14 @@ module _ (numbers : List ℕ) where
       | inr t ↦ known_tail e rest (r (known_behind e es t h))
     ]
 
-    -- what has a place keeps one
+    -- numbers that have a place keep one when another entry is put in: by induction on the entries
     known_kept : (es : List (Vec ℕ × ℕ)) → place_in es numbers ≢ None → place_in (with_place es k v) numbers ≢ None
     known_kept [] h = absurd (h refl)
     known_kept (e ∷ es) h =
         kept_by_order e es (with_place es k v) h (known_kept es) (slice_cmp nat_cmp k.items e.0.items)
 
 module _ (k : Vec ℕ) (v : ℕ) where
-  -- whichever way the comparison goes, what is put in has a place
+  -- a step of the next lemma: whichever way the comparison goes, what is put in has a place
   put_in_order : (e : Vec ℕ × ℕ) (es rest : List (Vec ℕ × ℕ)) → place_in rest k.items ≢ None → (o : Ordering) →
       slice_cmp nat_cmp k.items e.0.items ≡ o
       → place_in (match_ordering o ((k, v) ∷ e ∷ es) ((e.0, v) ∷ es) (e ∷ rest)) k.items ≢ None
@@ -133,27 +134,27 @@ module _ (k : Vec ℕ) (v : ℕ) where
   put_in_order e es rest r Equal at = known_head k.items (e.0, v) es (ap is_eq at)
   put_in_order e es rest r Greater at = known_tail k.items e rest r
 
-  -- what is put has a place
+  -- what is put in has a place: by induction on the entries
   known_put : (es : List (Vec ℕ × ℕ)) → place_in (with_place es k v) k.items ≢ None
   known_put [] = known_head k.items (k, v) [] (key_itself k.items)
   known_put (e ∷ es) = put_in_order e es (with_place es k v) (known_put es) (slice_cmp nat_cmp k.items e.0.items) refl
 
 module _ (f : ℕ → List ℕ) (n : ℕ) where
-  -- before the first place the empty map has all first places
+  -- of no places the empty map has all first places
   pub none_placed : ArePlaced f 0 []
   none_placed = record { each = search rules; all = λ i l. absurd (omega arith) }
 
-  -- given that the numbers of one more place get a place
+  -- given a map with the first places of the first n, and that the numbers of the place n keep or get a place
   module _ (old new : List (Vec ℕ × ℕ)) (k : Vec ℕ) (place : ℕ) (a : ArePlaced f n old) (is : k.items ≡ f n)
       (gets : GetsPlace k n old new place) where
-    -- if the numbers have no place, none before n has them
+    -- if the numbers have no place, f has them at none before n
     unknown_least : place_in old k.items ≡ None → (j : ℕ) → f j ≡ f n → n ≤ j
     unknown_least none j e = elim (cases_lt j n) [
       | inl l ↦ absurd (a.all j l (ap (place_in old) (e ∙ sym is) ∙ none))
       | inr h ↦ h
     ]
 
-    -- the place that the numbers get or keep is the first one at which they stand
+    -- the place that the numbers keep or get is the first one at which f has them
     pub first_place : (f place ≡ f n) × ((j : ℕ) → f j ≡ f n → place ≤ j)
     first_place = elim gets [
       | inl c ↦
@@ -163,11 +164,11 @@ module _ (f : ℕ → List ℕ) (n : ℕ) where
       | inr c ↦ (ap f c.1, λ j e. let l = unknown_least c.0 j e in omega (arith, c.1))
     ]
 
-    -- the entries so far are at first places below n + 1, too
+    -- the entries so far have first places below n + 1, too
     each_still : All (IsPlaced f (n + 1)) old
     each_still = All-weaker (IsPlaced f n) (IsPlaced f (n + 1)) (λ e p. (omega (arith, p.0), p.1, p.2)) old a.each
 
-    -- so are all entries with the new one
+    -- all entries, with the new one if there is one, have the first places of their numbers
     each_more : All (IsPlaced f (n + 1)) new
     each_more = elim gets [
       | inl c ↦ subst (All (IsPlaced f (n + 1))) (sym c.1) each_still
@@ -186,14 +187,14 @@ module _ (f : ℕ → List ℕ) (n : ℕ) where
       | inr c ↦ subst (λ es. place_in es numbers ≢ None) (sym c.2) (known_kept numbers k n old h)
     ]
 
-    -- the numbers of the place itself have one
+    -- the numbers of the place n have one
     known_now : place_in new k.items ≢ None
     known_now = elim gets [
       | inl c ↦ subst (λ es. place_in es k.items ≢ None) (sym c.1) (λ none. none-some place (sym none ∙ c.0))
       | inr c ↦ subst (λ es. place_in es k.items ≢ None) (sym c.2) (known_put k n old)
     ]
 
-    -- the map then has the first places of the numbers of one more place
+    -- the new map has the first places of the first n + 1
     pub places_more : ArePlaced f (n + 1) new
     places_more = record {
       each = each_more;
@@ -203,7 +204,7 @@ module _ (f : ℕ → List ℕ) (n : ℕ) where
       ];
     }
 
-    -- the list of first places then has one more
+    -- the list of first places, with this place added, has those of the first n + 1
     pub firsts_more : (firsts more : List ℕ) → AreFirstPlaces f n firsts → more ≡ firsts ++ place ∷ [] →
         AreFirstPlaces f (n + 1) more
     firsts_more firsts more b pushed =

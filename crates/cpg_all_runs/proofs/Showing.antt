@@ -1,4 +1,4 @@
--- Lists of scenarios that show what can be active.
+-- Lists of scenarios that show all runs of others: each of those has the runs of some scenario of the list.
 use Rattle.std.proofs.Common.{◌≡◌, ◌≢◌, ◌∙◌, ℕ, ◌+◌, ◌<◌, List, [], ◌∷◌, ◌++◌, length, length-append, get_or, Contains}
 use Rattle.std.proofs.Common.{arith, refl, sym, ap, subst, inl, inr}
 use Rattle.std.proofs.lemmas.Bool.{cases_eq}
@@ -12,7 +12,7 @@ use Rattle.cpg_all_runs.specs.Active.{HaveSameRuns, IsShown, AreExamples}
 use Rattle.cpg_all_runs.specs.FirstAlike.{scenario_at, AreFirstAlike}
 use Rattle.cpg_all_runs.specs.Listing.{AreScenarios}
 
--- the list shows what is active in the first n scenarios
+-- the list has scenarios of the graph, and shows the first n of `scenarios`
 pub record AreFirstExamples (g : Graph) (n : ℕ) (scenarios list : List Scenario) : Type 0 where
   pub lawful : (s : Scenario) → Contains list s → IsScenario g s
   pub shown : (i : ℕ) → i < n → IsShown g list (scenario_at g scenarios i)
@@ -23,7 +23,7 @@ module _ (g : Graph) where
   same_itself s =
       record { onward = λ order frozen t topological run. run; back = λ order frozen t topological run. run }
 
-  -- to have the same runs goes through a third scenario
+  -- if s has the runs of r, and r those of u, s has those of u
   same_through : (s r u : Scenario) → HaveSameRuns g s r → HaveSameRuns g r u → HaveSameRuns g s u
   same_through s r u h k = record {
     onward =
@@ -31,7 +31,7 @@ module _ (g : Graph) where
     back = λ order frozen t topological run. h.back order frozen t topological (k.back order frozen t topological run);
   }
 
-  -- what a list shows, a longer one shows too
+  -- what a list shows, it shows with one more scenario too
   shown_longer : (list : List Scenario) (r s : Scenario) → IsShown g list s → IsShown g (list ++ r ∷ []) s
   shown_longer list r s w = (
     w.0,
@@ -47,7 +47,7 @@ module _ (g : Graph) where
     λ d. subst (λ z. HaveSameRuns g z r) (sym (get_or-append_seam list r [] d)) (same_itself r),
   )
 
-  -- a list of scenarios of the graph with one more of them has only such scenarios
+  -- a list of scenarios of the graph, with one more of the graph, has scenarios of the graph alone
   lawful_longer : (list : List Scenario) (r : Scenario) → IsScenario g r →
       ((s : Scenario) → Contains list s → IsScenario g s) → (s : Scenario) → Contains (list ++ r ∷ []) s →
       IsScenario g s
@@ -59,10 +59,10 @@ module _ (g : Graph) where
     ]
   ]
 
-  -- given a list that shows what is active in the first n scenarios
+  -- given a list that shows the first n scenarios
   module _ (n : ℕ) (scenarios list : List Scenario) (a : AreFirstExamples g n scenarios list)
       (within : n < length scenarios) where
-    -- with the next scenario added, the list shows one scenario more
+    -- with the n-th scenario added, the list shows the first n + 1
     pub examples_more : (more : List Scenario) (r : Scenario) → r ≡ scenario_at g scenarios n → IsScenario g r →
         more ≡ list ++ r ∷ [] →
         AreFirstExamples g (n + 1) scenarios more
@@ -74,7 +74,7 @@ module _ (g : Graph) where
       ]);
     }
 
-    -- if an earlier scenario has the same active numbers, the list shows the next one already
+    -- if an earlier scenario has the active numbers of the n-th, the list shows the first n + 1 as it is
     pub examples_kept : (firsts : List ℕ) → AreFirstAlike g scenarios firsts → get_or firsts n 0 ≢ n →
         AreFirstExamples g (n + 1) scenarios list
     examples_kept firsts alike other = record {
@@ -95,7 +95,7 @@ module _ (g : Graph) where
       ];
     }
 
-  -- a list that shows what is active in all scenarios of the graph is one of examples
+  -- a list that shows all scenarios of the graph is one of examples
   pub examples_all : (n : ℕ) (scenarios list : List Scenario) → AreScenarios g scenarios → n ≡ length scenarios →
       AreFirstExamples g n scenarios list →
       AreExamples g list

@@ -1,4 +1,5 @@
--- How all scenarios go along an order together.
+-- The runs of all scenarios are found along an order together: at the first place, over one place, and when a frozen time is
+-- set.
 use Rattle.std.proofs.Common.{◌≡◌, ◌≢◌, ◌∙◌, ℕ, ◌+◌, ◌*◌, ◌<◌, ◌≤◌, List, [], ◌∷◌, ◌++◌, length, length-set}
 use Rattle.std.proofs.Common.{length-append, get_or, set, Option, None, arith, sym, ap, ap₂, inl, inr, subst}
 use Rattle.std.proofs.Common.{get_or-set_same, get_or-set_other}
@@ -13,13 +14,13 @@ use Rattle.cpg_run.specs.Progress.{ProgressState, IsAlong}
 use Rattle.cpg_run.proofs.Agreeing.{along_same}
 use Rattle.cpg_all_runs.specs.Sweep.{AreAlong, place_of_item}
 
--- nothing is known of n scenarios
+-- `found` has n progresses before the first place
 pub record AreBeginnings (g : Graph) (n : ℕ) (found : List ProgressState) : Type 0 where
   pub count : length found ≡ n
   pub each : (order : List ℕ) (frozen : List (Option ℕ)) (s : Scenario) (j : ℕ) (p : ProgressState) → j < n →
       IsAlong g order frozen s 0 (get_or found j p)
 
--- one scenario more of whose run nothing is known
+-- with one more progress before the first place there are n + 1
 pub beginnings_more : (g : Graph) (n : ℕ) (found more : List ProgressState) (q : ProgressState) →
     AreBeginnings g n found →
     ((order : List ℕ) (frozen : List (Option ℕ)) (s : Scenario) → IsAlong g order frozen s 0 q)
@@ -36,17 +37,19 @@ beginnings_more g n found more q a new is = record {
   ];
 }
 
--- the first n have gone on over the place i
+-- the runs of the first n scenarios are found before the place i + 1, and those of the others before i
 pub record AreStepped (g : Graph) (order : List ℕ) (frozen : List (Option ℕ)) (i n : ℕ) (list : List Scenario)
     (found : List ProgressState) : Type 0 where
   pub count : length found ≡ length list
+  -- the first n have come to the next place
   pub stepped : (j : ℕ) (s : Scenario) (p : ProgressState) → j < n → j < length list →
       IsAlong g order frozen (get_or list j s) (i + 1) (get_or found j p)
+  -- the others are still before the place i
   pub others : (j : ℕ) (s : Scenario) (p : ProgressState) → n ≤ j → j < length list →
       IsAlong g order frozen (get_or list j s) i (get_or found j p)
 
 module _ (g : Graph) (order : List ℕ) (frozen : List (Option ℕ)) (i : ℕ) (list : List Scenario) where
-  -- one scenario more has gone on over the place
+  -- if the n-th progress is replaced by one before the place i + 1, the first n + 1 are found before that
   pub stepped_more : (n : ℕ) (found more : List ProgressState) (q : ProgressState) →
       AreStepped g order frozen i n list found → n < length list
       → ((s : Scenario) → IsAlong g order frozen (get_or list n s) (i + 1) q) → more ≡ set found n q →
@@ -64,12 +67,12 @@ module _ (g : Graph) (order : List ℕ) (frozen : List (Option ℕ)) (i : ℕ) (
         ∙ get_or-set_other found n j q p (λ e. omega arith))) (a.others j s p (omega arith) k);
   }
 
-  -- once all scenarios have gone on over the place, what is found is that before the next place
+  -- after the last scenario the runs of all are found before the place i + 1
   pub stepped_all : (n : ℕ) (found : List ProgressState) → AreStepped g order frozen i n list found → n ≡ length list →
       AreAlong g order frozen (i + 1) list found
   stepped_all n found a e = record { count = a.count; each = λ j s p l. a.stepped j s p (omega arith) l }
 
-  -- what is found before a place stays so if an item of the place, or of a later one, gets a frozen time
+  -- what is found before the place i stays right if an item of that place gets a frozen time, as it rests on earlier ones alone
   pub along_kept : IsTopological g order → (more : List (Option ℕ)) (x : ℕ) (found : List ProgressState) →
       place_of_item g order x ≡ i →
       ((y : ℕ) → y ≢ x → get_or more y None ≡ get_or frozen y None)
@@ -80,7 +83,7 @@ module _ (g : Graph) (order : List ℕ) (frozen : List (Option ℕ)) (i : ℕ) (
         (λ y h k. sym (same y (λ e. omega (arith, ap (place_of_item g order) e, at)))) (a.each j s p l);
   }
 
--- over plain numbers
+-- over plain numbers: if a * m + f is less than b * m + h, with h below m, a is at most b
 no_earlier_place : (a b f h m : ℕ) → a * m + f < b * m + h → h < m → a ≤ b
 no_earlier_place a b f h m l k =
     elim (cases_lt b a) [ inl less ↦ absurd (let r = sooner b a h m less k in omega arith) | inr more ↦ more ]

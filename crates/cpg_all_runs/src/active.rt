@@ -1,4 +1,4 @@
-//! What is active in a scenario.
+//! What is active in a scenario, as a list of numbers.
 ghost use Rattle.std.specs.Prelude.{◌≡◌, ◌<◌, IfOk, map};
 ghost use Rattle.cpg_base.specs.Numbers.{numbers_below};
 ghost use Rattle.cpg_base.specs.Graph.{process_count, condition_count};
@@ -11,7 +11,7 @@ use cpg_rules::GuardTrees;
 use cpg_run::is_active;
 use std::alloc::Global;
 
-/// One more than the fault count of an active process, and 0 of another.
+/// Returns one more than the fault count of a process if it is active, and 0 otherwise.
 fn active_fault(problem: &Problem, guards: &GuardTrees, scenario: &Scenario, process: u32) -> u16
     requires admitted { AreAdmitted problem.now guards.now }
     requires scenario { IsScenario problem.now scenario.now }
@@ -25,7 +25,7 @@ fn active_fault(problem: &Problem, guards: &GuardTrees, scenario: &Scenario, pro
     }
 }
 
-/// One more than the value of a condition whose process is active, as a number, and 0 of another.
+/// Returns 1 if a condition is false and 2 if it is true, or 0 if its process is inactive.
 fn active_value(problem: &Problem, guards: &GuardTrees, scenario: &Scenario, condition: u32) -> u16
     requires admitted { AreAdmitted problem.now guards.now }
     requires scenario { IsScenario problem.now scenario.now }
@@ -40,7 +40,7 @@ fn active_value(problem: &Problem, guards: &GuardTrees, scenario: &Scenario, con
     }
 }
 
-/// The active numbers of the processes.
+/// Returns `active_fault` of each process, in the order of their numbers.
 fn active_faults(
     alloc: Global,
     problem: &Problem,
@@ -60,8 +60,8 @@ fn active_faults(
     Ok(numbers)
 }
 
-/// What is active in a scenario: for each process and then for each condition 0 if it isn't active or decided, else
-/// one more than its fault count or its value. Scenarios in which these are equal have equal runs.
+/// Returns `active_fault` of each process and then `active_value` of each condition. Scenarios in which these are equal
+/// differ only in faults and values of inactive processes, so they have the same runs.
 pub(crate) fn active_numbers(
     alloc: Global,
     problem: &Problem,

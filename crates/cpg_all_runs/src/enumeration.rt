@@ -10,7 +10,8 @@ use crate::few::MOST_SCENARIOS;
 use cpg_base::{OutOfMemory, Problem, Scenario};
 use std::alloc::Global;
 
-/// Adds the scenario with each count of a process that the graph allows together with the other counts.
+/// Adds to `scenarios` the scenario with each fault count of a process that the faults left by the other processes allow.
+/// The process has no fault in `scenario`.
 fn add_faults(
     problem: &Problem,
     process: u32,
@@ -21,6 +22,7 @@ fn add_faults(
     requires scenario { IsScenario problem.now scenario.now }
     ensures { IfOk result (λ _. scenarios.new.items ≡ scenarios.old.items ++ with_each_fault problem.now process scenario.now) }
 {
+    // a scenario has no more faults in all than the graph, so the total fits and the difference isn't negative
     let spare = problem.faults() - scenario.total() as u8;
     for faults in 0..spare + 1 {
         let mut other = scenario.copy()?;
@@ -30,7 +32,7 @@ fn add_faults(
     Ok(())
 }
 
-/// Adds the scenario with the value of a condition as it is, and with that value true.
+/// Adds to `scenarios` the scenario as it is, and the one with the condition true.
 fn add_values(
     condition: u32,
     scenario: &Scenario,
@@ -46,7 +48,7 @@ fn add_values(
     Ok(())
 }
 
-/// Each scenario with each count of a process.
+/// Returns each of the scenarios with each fault count of a process, as `add_faults` adds them.
 fn spread_faults(
     alloc: Global,
     problem: &Problem,
@@ -65,7 +67,7 @@ fn spread_faults(
     Ok(more)
 }
 
-/// Each scenario with both values of a condition.
+/// Returns each of the scenarios as it is, and with the condition true.
 fn spread_values(
     alloc: Global,
     condition: u32,
@@ -82,11 +84,12 @@ fn spread_values(
     Ok(more)
 }
 
-/// The scenarios in which every value is false.
+/// Returns the scenarios in which every value is false, with faults in all processes.
 fn faulty(alloc: Global, problem: &Problem) -> Result<Vec<Scenario>, OutOfMemory>
     ensures { IfOk result (λ list. list.items ≡ with_faults_below problem.now (process_count problem.now)) }
 {
     let mut list = Vec::new(alloc);
+    // first the one without faults; then each process in turn gets each count that is left
     list.push(Scenario::zero(alloc, problem)?)?;
     for process in 0..problem.processes().len() as u32 {
         list = spread_faults(alloc, problem, process, list.as_slice())?;
@@ -94,12 +97,13 @@ fn faulty(alloc: Global, problem: &Problem) -> Result<Vec<Scenario>, OutOfMemory
     Ok(list)
 }
 
-/// The scenarios of a graph that has at most 16,384 of them, each once.
+/// Returns all scenarios of a graph, each once. The graph has at most 16,384 of them.
 pub fn scenarios(alloc: Global, problem: &Problem) -> Result<Vec<Scenario>, OutOfMemory>
     requires { length (scenarios problem.now) ≤ MOST_SCENARIOS }
     ensures { IfOk result (λ list. AreScenarios problem.now list.items) }
 {
     let mut list = faulty(alloc, problem)?;
+    // each condition in turn doubles the list
     for condition in 0..problem.conditions() {
         list = spread_values(alloc, condition, list.as_slice())?;
     }

@@ -1,4 +1,4 @@
-//! Scenarios that show what can be active.
+//! Scenarios that show all runs of a graph.
 ghost use Rattle.std.specs.Prelude.{◌≡◌, IfOk, length};
 ghost use Rattle.cpg_base.specs.Graph.{Graph};
 ghost use Rattle.cpg_all_runs.specs.Active.{AreExamples};
@@ -8,7 +8,8 @@ ghost use Rattle.cpg_all_runs.specs.Listing.{AreScenarios};
 use cpg_base::{OutOfMemory, Scenario};
 use std::alloc::Global;
 
-/// The first scenario with each list of active numbers, given the result of `first_alike` for all scenarios.
+/// Returns the first scenario with each list of active numbers, given all scenarios and the result of `first_alike` for
+/// them. Each scenario of the graph has the same runs as one of these.
 pub(crate) fn examples(
     alloc: Global,
     scenarios: &[Scenario],
@@ -19,6 +20,7 @@ pub(crate) fn examples(
 {
     let mut list = Vec::new(alloc);
     for at in 0..scenarios.len() {
+        // it is itself the first scenario with its active numbers
         if firsts[at] == at {
             list.push(scenarios[at].copy()?)?;
         }

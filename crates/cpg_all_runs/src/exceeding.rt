@@ -12,16 +12,17 @@ use cpg_rules::Admitted;
 use cpg_run::RunTimes;
 use std::alloc::Global;
 
-/// How far the end of a process is past its due.
+/// Returns how far the end of a process is past its due: 0 if it ends in time or is inactive.
 fn excess_of(problem: &Problem, times: &RunTimes, process: u32) -> u64
     requires { process < process_count problem.now }
     ensures { result ≡ excess_of problem.now times.now process }
 {
+    // an inactive process has no end, and 0 is past no due
     let end = times.end(process).unwrap_or(0);
     end.saturating_sub(problem.due(process))
 }
 
-/// The greatest excess of a run.
+/// Returns how far an end of a run is past its due at most: 0 if none is.
 fn excess_in_run(problem: &Problem, times: &RunTimes) -> u64
     ensures { result ≡ excess_in_run problem.now times.now }
 {
@@ -32,7 +33,7 @@ fn excess_in_run(problem: &Problem, times: &RunTimes) -> u64
     most
 }
 
-/// The first process with this excess.
+/// Returns the first process whose end is past its due by `excess`, and `None` exactly if there is none.
 fn first_exceeding(problem: &Problem, times: &RunTimes, excess: u64) -> Option<u32>
     ensures found { IfSome result (IsFirstExceeding problem.now times.now excess) }
     ensures none { IfNone result ((q : ℕ) → q < process_count problem.now → excess_of problem.now times.now q ≢ excess) }
@@ -45,18 +46,19 @@ fn first_exceeding(problem: &Problem, times: &RunTimes, excess: u64) -> Option<u
     None
 }
 
-/// The first process with the greatest excess of a run, and `None` if nothing exceeds.
+/// Returns the first process with the greatest excess of a run, and `None` exactly if no end is past its due.
 fn most_exceeding(problem: &Problem, times: &RunTimes) -> Option<u32>
     ensures { IsLeastExceeding problem.now times.now (excess_in_run problem.now times.now) result }
 {
     let excess = excess_in_run(problem, times);
+    // an excess of 0 belongs to no process, though processes that end in time have it
     if excess == 0 {
         return None;
     }
     first_exceeding(problem, times, excess)
 }
 
-/// The greatest excess of each run.
+/// Returns the greatest excess of each run, in their order.
 fn excesses(alloc: Global, problem: &Problem, runs: &[RunTimes]) -> Result<Vec<u64>, OutOfMemory>
     ensures { IfOk result (λ numbers. numbers.items ≡ map (excess_in_run problem.now) runs.now) }
 {
@@ -68,9 +70,9 @@ fn excesses(alloc: Global, problem: &Problem, runs: &[RunTimes]) -> Result<Vec<u
     Ok(numbers)
 }
 
-/// The greatest excess over all scenarios of a graph, given all of them and the run of each: how far an end is past its
-/// due at most. It comes with the first scenario by the urgency order that has it, and the first process that has it
-/// there, or `None` if nothing exceeds.
+/// Returns how far an end is past its due at most over all scenarios of a graph, given all of them and the run of each.
+/// The scenario of the peak is the first by the urgency order that has this excess, and its process the first that has it
+/// there, or `None` if the excess is 0.
 pub fn excess(
     alloc: Global,
     admitted: &Admitted,
@@ -82,6 +84,7 @@ pub fn excess(
     ensures { IfOk result (λ peak. IsExcessOfRuns admitted.now.graph admitted.now.order scenarios.now runs.now peak.time peak.scenario peak.process) }
 {
     let numbers = excesses(alloc, admitted.problem(), runs)?;
+    // the place of the least scenario with the greatest excess
     let at = first_greatest(
         admitted.problem(),
         admitted.order(),

@@ -1,4 +1,4 @@
-//! The times of frozen items.
+//! Finds the times of frozen items from the runs of all scenarios.
 ghost use Rattle.std.specs.Prelude.{◌≡◌, ◌≢◌, ◌<◌, ◌++◌, ◌∷◌, [], ℕ, IfOk, None, filter, get_or, length};
 ghost use Rattle.cpg_base.specs.Graph.{process_count, item_count, is_frozen};
 ghost use Rattle.cpg_order.specs.Urgency.{IsTopological};
@@ -22,7 +22,7 @@ use cpg_rules::Admitted;
 use cpg_run::{FrozenTimes, RunProgress, Setting};
 use std::alloc::Global;
 
-/// Adds an item, if it is frozen.
+/// Adds an item to `items`, if it is frozen.
 fn add_if_frozen(problem: &Problem, item: u32, items: &mut Vec<u32>) -> Result<(), OutOfMemory>
     requires { item < item_count problem.now }
     ensures { IfOk result (λ _. items.new.items ≡ items.old.items ++ filter (is_frozen problem.now) (item ∷ [])) }
@@ -33,7 +33,7 @@ fn add_if_frozen(problem: &Problem, item: u32, items: &mut Vec<u32>) -> Result<(
     Ok(())
 }
 
-/// Adds the frozen items of a process: its start, and then its messages by number.
+/// Adds to `items` the frozen items of a process: its start, and then what it sends, in the order of its queue.
 fn add_frozen_of(
     problem: &Problem,
     plan: &Plan,
@@ -51,7 +51,7 @@ fn add_frozen_of(
     Ok(())
 }
 
-/// The frozen items along an order.
+/// Returns the frozen items of all processes, along an order.
 fn frozen_items(
     alloc: Global,
     problem: &Problem,
@@ -69,7 +69,8 @@ fn frozen_items(
     Ok(items)
 }
 
-/// Finds and sets the time of a frozen item of the process at a place, if it is active in some scenario.
+/// Finds and sets the time of a frozen item of the process at a place. An item that is active in no scenario gets none.
+/// Given are scenarios that show all runs, and what is found of the run of each before the place.
 fn settle(
     alloc: Global,
     setting: &Setting<'_>,
@@ -99,9 +100,9 @@ fn settle(
     Ok(())
 }
 
-/// The times of the frozen items, as in `frozen_times`, given these items along the order and scenarios that show what
-/// can be active. All scenarios go along the order together, as far as the last frozen item. The time of each frozen item
-/// is found at its place.
+/// Returns the times of the frozen items, as in `frozen_times`, given these items along the order and scenarios that show
+/// all runs. The runs are found along the order together, as far as the place of the last frozen item, and the time of
+/// each frozen item is found at its place.
 fn sweep(
     alloc: Global,
     setting: &Setting<'_>,
@@ -117,8 +118,10 @@ fn sweep(
     let problem = setting.problem;
     let mut frozen = FrozenTimes::none(alloc, problem)?;
     let mut found = beginnings(alloc, problem, scenarios)?;
+    // the place up to which the runs are found
     let mut place = 0;
     for item in items {
+        // what came before `next` has its frozen times, so the runs up to there can be found
         let next = setting.order.place(problem.producer(*item));
         advance(alloc, setting, &frozen, scenarios, &mut found, place, next)?;
         settle(
@@ -135,9 +138,9 @@ fn sweep(
     Ok(frozen)
 }
 
-/// The times of the frozen items under an order, in time units, given all scenarios and the result of `first_alike` for
-/// them. The time of an item is the greatest that it would have in some scenario if it were not frozen. An item that is
-/// never active has none. If nothing is frozen, no scenario is looked at.
+/// Returns the times of the frozen items under an order, in time units, given all scenarios and the result of
+/// `first_alike` for them. The time of an item is the greatest that it would have in any scenario if it were not frozen.
+/// An item that is active in no scenario has none.
 pub fn frozen_times(
     alloc: Global,
     admitted: &Admitted,
@@ -155,6 +158,7 @@ pub fn frozen_times(
 {
     let problem = admitted.problem();
     let items = frozen_items(alloc, problem, order, plan)?;
+    // if nothing is frozen, no scenario has to be looked at
     if items.is_empty() {
         let frozen = FrozenTimes::none(alloc, problem)?;
         return Ok(frozen);

@@ -1,4 +1,4 @@
-//! The greatest time of an item over all scenarios.
+//! Finds the greatest time of an item over all scenarios.
 ghost use Rattle.std.specs.Prelude.{◌≡◌, ◌<◌, ℕ, IfOk, None, get_or, length};
 ghost use Rattle.cpg_base.specs.Graph.{process_count, item_count};
 ghost use Rattle.cpg_base.specs.Scenario.{IsScenario};
@@ -14,7 +14,7 @@ use cpg_base::{OutOfMemory, Scenario};
 use cpg_run::{FrozenTimes, RunProgress, Setting};
 use std::alloc::Global;
 
-/// The later of two times that may be missing.
+/// Returns the later of two times, the one that there is if there is only one, and `None` if there is none.
 fn later(first: Option<u64>, second: Option<u64>) -> Option<u64>
     ensures { result ≡ later first second }
 {
@@ -27,8 +27,8 @@ fn later(first: Option<u64>, second: Option<u64>) -> Option<u64>
     }
 }
 
-/// The time of an item in a scenario. The item comes from the process at a place, and the scenario's run is known before
-/// that place.
+/// Returns the time of an item in a scenario, or `None` if it is inactive there. The item comes from the process at
+/// `place`, and `progress` is what is found of the scenario's run before that place.
 fn time_there(
     alloc: Global,
     setting: &Setting<'_>,
@@ -49,14 +49,15 @@ fn time_there(
     ensures { IfOk result (λ time. (t : Times) → IsRun setting.now.problem.now setting.now.order.now frozen.now scenario.now t
         → time ≡ get_or t.times item None) }
 {
+    // a copy, since the frozen time of the item isn't set yet and the progress is needed again once it is
     let mut next = progress.copy()?;
     next.step(alloc, setting, frozen, scenario, place)?;
     Ok(next.time(item))
 }
 
-/// The greatest time over all scenarios that an item would have if it were not frozen, in time units, or `None` if it is
-/// never active. Given are scenarios that show what can be active, what is known of the run of each before the item's
-/// place, and frozen times that leave the item out.
+/// Returns the greatest time over all scenarios that an item would have if it were not frozen, in time units, or `None`
+/// if it is active in none. Given are scenarios that show all runs, what is found of the run of each before the place of
+/// the item's process, and frozen times that leave the item out.
 pub(crate) fn unfrozen_time(
     alloc: Global,
     setting: &Setting<'_>,

@@ -1,4 +1,4 @@
-//! The greatest finish over all scenarios.
+//! Finds the greatest finish over all scenarios.
 ghost use Rattle.std.specs.Prelude.{◌≡◌, ◌≢◌, ◌<◌, ◌↔◌, ℕ, IfOk, IfSome, IfNone, IsTrue, Some, None, get_or, length, map};
 ghost use Rattle.cpg_all_runs.specs.Listing.{AreScenarios};
 ghost use Rattle.cpg_all_runs.specs.Peaks.{IsFirstEnding, IsWorstOfRuns};
@@ -9,19 +9,19 @@ use cpg_rules::Admitted;
 use cpg_run::RunTimes;
 use std::alloc::Global;
 
-/// The greatest of a number of time units over all scenarios, the first scenario that has it, and the first process
-/// that has it there.
+/// The greatest finish or the greatest excess over all scenarios, with the first scenario and process that have it.
 #[derive(Drop)]
 pub struct Peak {
-    /// The number, in time units.
+    /// The finish or the excess, in time units.
     pub time: u64,
-    /// The first scenario that has it.
+    /// The first scenario by the urgency order that has this finish or excess.
     pub scenario: Scenario,
-    /// The first process that has it in that scenario.
+    /// The first process by number that ends at this finish, or has this excess, in that scenario. `None` for the finish of
+    /// a graph without processes, and for an excess of 0.
     pub process: Option<u32>,
 }
 
-/// When each run finishes.
+/// Returns the finish of each run, in their order.
 fn finishes(alloc: Global, runs: &[RunTimes]) -> Result<Vec<u64>, OutOfMemory>
     ensures { IfOk result (λ numbers. numbers.items ≡ map (λ t. t.finish) runs.now) }
 {
@@ -33,7 +33,7 @@ fn finishes(alloc: Global, runs: &[RunTimes]) -> Result<Vec<u64>, OutOfMemory>
     Ok(numbers)
 }
 
-/// Whether a process ends at a time.
+/// Whether a process is active and ends at a time.
 fn ends_at(times: &RunTimes, process: u32, time: u64) -> bool
     ensures { IsTrue result ↔ (get_or times.now.ends process None ≡ Some time) }
 {
@@ -43,7 +43,7 @@ fn ends_at(times: &RunTimes, process: u32, time: u64) -> bool
     }
 }
 
-/// The first of this many processes that ends at a time.
+/// Returns the first of the first `processes` processes that ends at a time, and `None` exactly if none does.
 fn first_ending(times: &RunTimes, processes: u32, time: u64) -> Option<u32>
     ensures found { IfSome result (λ p. IsFirstEnding times.now time p) }
     ensures none { IfNone result ((q : ℕ) → q < processes → get_or times.now.ends q None ≢ Some time) }
@@ -56,9 +56,9 @@ fn first_ending(times: &RunTimes, processes: u32, time: u64) -> Option<u32>
     None
 }
 
-/// The greatest finish over all scenarios of a graph, given all of them and the run of each. It comes with the first
-/// scenario by the urgency order that has it, and the first process that ends then, or `None` if the graph has no
-/// process.
+/// Returns the greatest finish over all scenarios of a graph, given all of them and the run of each. The scenario of the
+/// peak is the first by the urgency order that has it, and its process the first that ends then in that scenario, or
+/// `None` if the graph has no process.
 pub fn worst(
     alloc: Global,
     admitted: &Admitted,
@@ -70,6 +70,7 @@ pub fn worst(
     ensures { IfOk result (λ peak. IsWorstOfRuns admitted.now.graph admitted.now.order scenarios.now runs.now peak.time peak.scenario peak.process) }
 {
     let numbers = finishes(alloc, runs)?;
+    // the place of the least scenario with the greatest finish
     let at = first_greatest(
         admitted.problem(),
         admitted.order(),

@@ -1,4 +1,4 @@
-//! Which scenarios have the same active numbers.
+//! Finds which scenarios have the same active numbers.
 ghost use Rattle.std.specs.Prelude.{All, IfOk};
 ghost use Rattle.cpg_base.specs.Scenario.{IsScenario};
 ghost use Rattle.cpg_all_runs.specs.FirstAlike.{AreFirstAlike};
@@ -10,7 +10,7 @@ use cpg_rules::Admitted;
 use std::alloc::Global;
 use std::collections::BTreeMap;
 
-/// The place of a list of numbers. If it has none, it gets the given one.
+/// Returns the place of a list of numbers in the map. If it has none yet, it gets the place `at`.
 fn kept_place(
     places: &mut BTreeMap<Vec<u16>, usize>,
     numbers: Vec<u16>,
@@ -25,7 +25,8 @@ fn kept_place(
     Ok(at)
 }
 
-/// For each scenario of a list, the place of the first one with the same active numbers. These two have the same runs.
+/// Returns for each scenario of a list the place of the first one with the same active numbers, its own place if no
+/// earlier one has them. The scenarios at both places have the same runs.
 pub fn first_alike(
     alloc: Global,
     admitted: &Admitted,
@@ -36,6 +37,7 @@ pub fn first_alike(
 {
     let problem = admitted.problem();
     let guards = admitted.guards();
+    // for each list of active numbers met so far the place of the first scenario that has it
     let mut places = BTreeMap::new(alloc);
     let mut firsts = Vec::new(alloc);
     firsts.reserve(scenarios.len())?;

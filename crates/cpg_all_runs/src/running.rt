@@ -1,4 +1,4 @@
-//! The runs of all scenarios of a graph.
+//! Finds the runs of all scenarios of a graph.
 ghost use Rattle.std.specs.Prelude.{◌≡◌, ◌<◌, All, IfOk, get_or, length};
 ghost use Rattle.cpg_base.specs.Graph.{item_count};
 ghost use Rattle.cpg_base.specs.Scenario.{Scenario, IsScenario};
@@ -17,8 +17,8 @@ use cpg_rules::Admitted;
 use cpg_run::{FrozenTimes, RunTimes, Setting, run_by};
 use std::alloc::Global;
 
-/// The run of the scenario at a place of a list, given the place of one that has the same runs. If that place comes
-/// before, its run is known and is copied.
+/// Returns the run of the scenario at the place `at` of a list, given the runs of those before it and the place `first` of
+/// one with the same runs.
 fn run_at(
     alloc: Global,
     setting: &Setting<'_>,
@@ -38,6 +38,7 @@ fn run_at(
         (scenario_at setting.now.problem.now scenarios.now at) }
     ensures { IfOk result (λ times. (s : Scenario) → IsRun setting.now.problem.now setting.now.order.now frozen.now (get_or scenarios.now at s) times) }
 {
+    // an earlier scenario has the same run, which is known; otherwise the one at `at` is the first that has it
     if first < at {
         let run = runs[first].copy()?;
         return Ok(run);
@@ -46,8 +47,8 @@ fn run_at(
     Ok(run)
 }
 
-/// The run of each scenario of a list, in its order, given the result of `first_alike` for the list. Scenarios with the
-/// same active numbers have one run, which is found once.
+/// Returns the run of each scenario of a list, in its order, given the result of `first_alike` for the list. Scenarios
+/// with the same active numbers have one run, which is found once.
 pub fn runs(
     alloc: Global,
     admitted: &Admitted,
@@ -65,7 +66,7 @@ pub fn runs(
     requires firsts { AreFirstAlike admitted.now.graph scenarios.now firsts.now }
     ensures { IfOk result (λ runs. AreRuns admitted.now.graph order.now frozen.now scenarios.now runs.items) }
 {
-    // called for its contract, which says that the graph is admitted
+    // called for its contract: the graph is admitted
     let _problem = admitted.problem();
     let setting = Setting::of(admitted, order, plan);
     let mut runs = Vec::new(alloc);

@@ -1,4 +1,4 @@
-//! The first scenario of the greatest number.
+//! Finds the first scenario that has the greatest of given numbers.
 ghost use Rattle.std.specs.Prelude.{◌≡◌, ◌<◌, All, true, false, length};
 ghost use Rattle.cpg_base.specs.Graph.{process_count};
 ghost use Rattle.cpg_base.specs.Scenario.{IsScenario, is_before};
@@ -6,7 +6,8 @@ ghost use Rattle.cpg_all_runs.specs.Peaks.{IsFirstGreatest};
 
 use cpg_base::{Order, Problem, Scenario, is_before};
 
-/// Whether a scenario has a greater number than another, or the same and comes before it.
+/// Whether a scenario's number is greater than the other's, or equal and the scenario comes before the other in the
+/// urgency order.
 fn goes_first(
     problem: &Problem,
     urgency: &Order,
@@ -28,7 +29,8 @@ fn goes_first(
     is_before(problem, urgency, scenario, other)
 }
 
-/// The place of the greatest of the numbers of scenarios. Of equal numbers it is the one whose scenario comes first.
+/// Returns the place of the greatest of the numbers of scenarios. If several are as great, it is the place of the one
+/// whose scenario comes first in the urgency order.
 pub(crate) fn first_greatest(
     problem: &Problem,
     urgency: &Order,
@@ -41,6 +43,7 @@ pub(crate) fn first_greatest(
     requires some { 0 < length scenarios.now }
     ensures { IsFirstGreatest problem.now urgency.now (length scenarios.now) scenarios.now numbers.now result }
 {
+    // there is at least one scenario, and each later one is compared with the first greatest so far
     let mut at = 0;
     for next in 1..scenarios.len() {
         if goes_first(

@@ -1,4 +1,4 @@
-//! All scenarios along an order, a place at a time.
+//! Finds the runs of many scenarios along an order, all at one place before any at the next.
 ghost use Rattle.std.specs.Prelude.{◌≡◌, ◌+◌, ◌<◌, ◌≤◌, All, ℕ, IfOk, OnOk, List, Option, length};
 ghost use Rattle.cpg_base.specs.Graph.{process_count, item_count};
 ghost use Rattle.cpg_base.specs.Scenario.{IsScenario};
@@ -10,7 +10,7 @@ use cpg_base::{OutOfMemory, Problem, Scenario};
 use cpg_run::{FrozenTimes, RunProgress, Setting};
 use std::alloc::Global;
 
-/// For each of these scenarios, progress with nothing known of its run.
+/// Returns for each of these scenarios the progress before the first place, at which nothing of its run is known.
 pub(crate) fn beginnings(
     alloc: Global,
     problem: &Problem,
@@ -26,7 +26,7 @@ pub(crate) fn beginnings(
     Ok(found)
 }
 
-/// For each scenario, finds the times of the process at a place.
+/// For each scenario, finds the times of the process at a place and of what it sends.
 fn step_each(
     alloc: Global,
     setting: &Setting<'_>,
@@ -49,7 +49,7 @@ fn step_each(
     Ok(())
 }
 
-/// For each scenario, goes on from a place to another that isn't before it.
+/// For each scenario, goes on from the place `from` to the place `to`, which isn't before it.
 pub(crate) fn advance(
     alloc: Global,
     setting: &Setting<'_>,

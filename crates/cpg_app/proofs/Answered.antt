@@ -24,12 +24,13 @@ use Rattle.cpg_app.proofs.Named.{work_named}
 use Rattle.cpg_app.proofs.Streamed.{lawful_closed, lawful_stream}
 use Rattle.cpg_app.proofs.Worked.{IsLive}
 
--- what a halt of the work names is there
+-- what the line of a halt of the work names is there
 pub halt_named : (c : Command) (vs : List Value) (h : Halt) → OrMemory (StopsWork c vs) h → IsNamed h
 halt_named c vs h (inl stops) = work_named c vs h stops
 halt_named c vs h (inr memory) = subst IsNamed (sym memory) tt
 
--- a node that follows a stream is open
+-- the follower of a node of tables, before its stream, is open with its own head and table, as they are those of the
+-- tables
 pub is_open : (t : Tables) (name : Text) (f : Follower) → IsFollower t name f → f ≡ open_follower f.head f.table
 is_open t name f is =
     let head = ap (λ (g : Follower). g.head) is.opened in
@@ -42,8 +43,8 @@ pub may_follow : (may : Text → Type 0) (c : Command) (vs : List Value) (f : Fo
 may_follow may c vs f path live files =
     (subst (λ (k : Command). All may (file_words k)) live.command files) 1 path (omega arith)
 
--- the run of a node that followed a stream
--- `words`, `reads`: the run's words are the command, whose files were read. `live`: the command follows a stream.
+-- Given a run of a command that follows a stream (`live`), whose words are the command (`words`), and whose files were
+-- read (`reads`).
 module _ (r : Ran) (c : Command) (vs : List Value) (f : Follower) (path : Text) (mid : List Fetch)
     (words : command_of r.words ≡ Some c) (reads : Reads None (files_of c) r.shelf.old.history mid vs)
     (live : IsLive c vs f path) where
@@ -60,6 +61,7 @@ module _ (r : Ran) (c : Command) (vs : List Value) (f : Follower) (path : Text) 
   pack_read =
       one vs live.said (subst (λ (k : Command). Reads None (files_of k) r.shelf.old.history mid vs) live.command reads)
 
+  -- given that the node then followed its stream
   module _ (at : IsFollowedAt f.head f.table path mid r.shelf.new.history r.out r.err r.status) where
     -- what the run has read and followed, from the words of its command
     abbrev follows : Follows r
@@ -86,7 +88,7 @@ module _ (r : Ran) (c : Command) (vs : List Value) (f : Follower) (path : Text) 
     table_is : f.table ≡ table_at live.tables.nodes live.follower.node
     table_is = ap (λ (g : Follower). g.table) live.follower.opened
 
-    -- what was put out is what the stream says to the node
+    -- what was written is what is to be written of the stream, by the head and the table of the pack
     told : IsToldTo live.tables.head (table_at live.tables.nodes live.follower.node)
         (streamed at.fetch r.out) r.err r.status
     told =
@@ -94,7 +96,7 @@ module _ (r : Ran) (c : Command) (vs : List Value) (f : Follower) (path : Text) 
         head_is
         (subst (λ n. IsToldTo f.head n (streamed at.fetch r.out) r.err r.status) table_is at.ends)
 
-    -- a run in which a node followed its stream ends lawfully
+    -- a run in which a node followed its stream, to the close or not, ends lawfully
     pub followed_lawful : IsLawful r
     followed_lawful = elim told [
       | inl all ↦ lawful_closed r (record { follows = follows; completes = all.0; status = all.1; err = all.2 })

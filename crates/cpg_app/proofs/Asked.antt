@@ -1,4 +1,4 @@
--- What a command asks for and its files say is one thing: so a run answers it, or stops for it, as it must.
+-- A run's words are one command, and its files say one thing. So what it puts out, or stops for, is by what they say.
 use Rattle.std.proofs.Common.{ℕ, ◌≡◌, ◌∙◌, List, [], ◌∷◌, Some, None, refl, sym, ap₂, subst, inl, inr}
 use Rattle.std.specs.Prelude.{◌⊎◌}
 use Rattle.std.proofs.lemmas.Option.{none-some, same_Some}
@@ -25,7 +25,7 @@ use Rattle.cpg_app.specs.Endings.{Ran, Has, Prints, Stops}
 
 -- ---- by what was read
 
--- a fact of the graph that the files say is one of a graph that is alike
+-- if the files say values that are alike to this graph, a fact of what they say is a fact of a graph that is alike
 pub on_graph : (a : Admission) (values : List Value) (F : Admission → Type 0) → AllAlike (graph_value a ∷ []) values →
     OnGraph values F →
     (b : Admission) × AreAlike a b × F b
@@ -33,14 +33,14 @@ on_graph a values F alike (b, is, fact) =
     let k : AllAlike (graph_value a ∷ []) (graph_value b ∷ []) = subst (AllAlike (graph_value a ∷ [])) is alike in
     (b, k.0, fact)
 
--- a fact of the tables that the files say is one of the tables
+-- if the files say values that are alike to these tables, a fact of what they say is a fact of these tables
 pub on_tables : (t : Tables) (values : List Value) (F : Tables → Type 0) → AllAlike (tables_value t ∷ []) values →
     OnTables values F → F t
 on_tables t values F alike (u, is, fact) =
     let k : AllAlike (tables_value t ∷ []) (tables_value u ∷ []) = subst (AllAlike (tables_value t ∷ [])) is alike in
     subst F k.0 fact
 
--- a fact of the graph and the tables that the files say is one of a graph that is alike, and of the tables
+-- the same for a graph and tables: a fact of a graph that is alike, and of these tables
 pub on_judged : (a : Admission) (t : Tables) (values : List Value) (F : Admission → Tables → Type 0) →
     AllAlike (graph_value a ∷ tables_value t ∷ []) values → OnJudged values F →
     (b : Admission) ×
@@ -50,7 +50,7 @@ on_judged a t values F alike (b, u, is, fact) =
     subst (AllAlike (graph_value a ∷ tables_value t ∷ [])) is alike in
     (b, k.0, subst (F b) k.1.0 fact)
 
--- a fact of the graph, the tables and the play that the files say is one of a graph that is alike, and of the others
+-- the same for a graph, tables and what is played: a fact of a graph that is alike, and of these tables and this play
 pub on_played : (a : Admission) (t : Tables) (p : Played) (values : List Value)
     (F : Admission → Tables → Played → Type 0) →
     AllAlike (graph_value a ∷ tables_value t ∷ played_value p ∷ []) values →
@@ -61,7 +61,7 @@ on_played a t p values F alike (b, u, q, is, fact) =
     subst (AllAlike (graph_value a ∷ tables_value t ∷ played_value p ∷ [])) is alike in
     (b, k.0, subst (F b t) k.1.1.0 (subst (λ v. F b v q) k.1.0 fact))
 
--- a fact of the graph, the tables and the log that the files say is one of a graph that is alike, and of some log
+-- the same for a graph, tables and a log: a fact of a graph that is alike, of these tables and of some log
 pub on_logged : (a : Admission) (t : Tables) (l : Log) (values : List Value) (F : Admission → Tables → Log → Type 0) →
     AllAlike (graph_value a ∷ tables_value t ∷ log_value l ∷ []) values →
     OnLogged values F → (b : Admission) × AreAlike a b × ((m : Log) × F b t m)
@@ -79,7 +79,7 @@ part_of period problem = record { period = period; problem = problem }
 same_part : (p q : Part) → p.period ≡ q.period → p.problem ≡ q.problem → p ≡ q
 same_part p q e k = ap₂ part_of e k
 
--- if the files say the parts of pairs alike, they are the same parts
+-- parts whose values are alike, with the periods of the same pairs, are equal; by induction on the pairs
 same_parts : (pairs : List Pair) (parts others : List Part) → AllAlike (part_values parts) (part_values others) →
     HavePeriods pairs parts → HavePeriods pairs others → others ≡ parts
 same_parts [] [] [] alike x y = refl
@@ -90,7 +90,7 @@ same_parts (pair ∷ pairs) (p ∷ parts) [] alike x y = absurd y
 same_parts (pair ∷ pairs) (p ∷ parts) (q ∷ others) alike x y =
     ap₂ (λ d ds. d ∷ ds) (same_part q p (y.0 ∙ sym x.0) alike.0) (same_parts pairs parts others alike.1 x.1 y.1)
 
--- a fact of the parts that the files say is one of the parts with the given periods
+-- if the files say values that are alike to those of these parts, a fact of what they say is a fact of these parts
 pub on_parts : (pairs : List Pair) (parts : List Part) (values : List Value) (F : List Part → Type 0) →
     AllAlike (part_values parts) values → HavePeriods pairs parts → OnParts pairs values F → F parts
 on_parts pairs parts values F alike periods (others, is, also, fact) =
@@ -98,18 +98,19 @@ on_parts pairs parts values F alike periods (others, is, also, fact) =
 
 -- ---- of a run
 
+-- given a run whose words are a command and whose files say these values
 module _ (r : Ran) (c : Command) (vs : List Value) (has : Has r c vs) where
-  -- the words of a run say one command
+  -- if the run's words are also command d, it is c
   same_command : (d : Command) → command_of r.words ≡ Some d → d ≡ c
   same_command d e = same_Some d c (sym e ∙ has.words)
 
-  -- whatever values the same files say, they are alike
+  -- if the run's files also say other values, these are alike to the first
   alike : (d : Command) (ws : List Value) → Has r d ws → AllAlike vs ws
   alike d ws also = reads_alike None (files_of c) r.shelf.old.history r.shelf.new.history vs ws has.reads
       (subst (λ (k : Command). Reads None (files_of k) r.shelf.old.history r.shelf.new.history ws)
       (same_command d also.words) also.reads)
 
-  -- what it puts out is what was asked for
+  -- a text that the run puts out is one that c puts out, by values that are alike
   pub printed : (text : Text) → Prints r text → (ws : List Value) × AllAlike vs ws × PutsOut c ws text
   printed text p = (
     p.values,
@@ -117,7 +118,8 @@ module _ (r : Ran) (c : Command) (vs : List Value) (has : Has r c vs) where
     subst (λ (k : Command). PutsOut k p.values text) (same_command p.command p.has.words) p.puts,
   )
 
-  -- if it stops, memory runs out, or its work stops
+  -- If the run stops, memory ran out, or the work of c stops, by values that are alike: the words form a command, and
+  -- the files were read.
   pub stopped_by : (h : Halt) → Stops r h → (h ≡ Memory) ⊎ ((ws : List Value) × AllAlike vs ws × StopsWork c ws h)
   stopped_by h (inl words) =
       elim words.cause [ inl formless ↦ absurd (none-some c (sym formless.1 ∙ has.words)) | inr memory ↦ inl memory ]

@@ -36,12 +36,13 @@ use Rattle.cpg_outputs.specs.declared.figures.Trial.{Trial}
 use Rattle.cpg_app.specs.Trial.{AreFiguresOf, IsEnding, IsGenerated, IsTrial, planned_world}
 use Rattle.cpg_app.proofs.Finishes.{finish_is}
 
--- a generated graph keeps all rules, so only lack of memory keeps it from being admitted
+-- a generated graph keeps all rules, so a fault of its admission is that memory ran out
 pub admission_fault : (number : ℕ) (g : Graph) (fault : RuleFault) → g ≡ generated number → ShowsFault g fault →
     fault ≡ RuleFault.OutOfMemory
 admission_fault number g fault same shows = no_fault number fault (subst (λ x. ShowsFault x fault) same shows)
 
--- the tables of a generated graph are made: no fault is shown but that memory runs out
+-- A fault of a generated graph's compile is that memory ran out. By the fault: no item of such a graph is too wide, and
+-- it ends in time under its urgency order.
 pub compile_fault : (g : Graph) (urgency : List ℕ) (fault : CompileFault) → IsGenerated g → IsTopological g urgency →
     ShowsCompileFault g urgency fault →
     fault ≡ CompileFault.OutOfMemory
@@ -58,7 +59,7 @@ compile_fault g urgency (CompileFault.Late s p time) made topological shows =
     absurd (omega (arith, none, some))
 compile_fault g urgency CompileFault.OutOfMemory made topological shows = refl
 
--- they have the graph's head and are valid
+-- the tables of a compilation have the graph's head and are valid
 pub compiled_valid : (g : Graph) (urgency : List ℕ) (c : Compiled) → IsCompilation g urgency c →
     IsHeadFor g c.built.tables.head × IsValid g c.built.tables.nodes
 compiled_valid g urgency c is = (subst (IsHeadFor g) (sym is.built.head) (own_head g), is.valid)
@@ -82,7 +83,8 @@ verdict_is g urgency t (Verdict.No fault) lawful shows = (
       (faulty_tables g t.nodes urgency fault (lawful.count ∙ ap (λ nodes. length nodes) both.0.nodes) shows.1 both.1),
 )
 
--- a play from the opening that a number drives
+-- A play that a number drives from the state before the first turns to its end, with its greatest end and its waits, is
+-- an ending.
 pub ending_is : (g : Graph) (tables : List NodeTable) (s : Scenario) (number : ℕ) (old new : Playing)
     (waits finish : ℕ) →
     old ≡ opened g tables (planned_world g s) →
@@ -96,7 +98,8 @@ ending_is g tables s number old new waits finish is driven whole e = record {
   finish = e;
 }
 
--- the play of the worst case ends at the greatest finish
+-- The play in the worst scenario ends at the greatest finish: the greatest end of a whole play is the finish of the
+-- scenario's run (`finish_is`), and this run has the greatest finish.
 pub reaches_worst : (g : Graph) → WellFormed g → (urgency : List ℕ) (c : Compiled) → IsCompilation g urgency c →
     (number : ℕ) (e : Ending) →
     IsEnding g c.built.tables.nodes c.built.worst_in number e → e.finish ≡ c.built.worst

@@ -1,4 +1,4 @@
--- A run ends lawfully by what its work answered and its sinks took.
+-- A run ends lawfully, by what its work answered and its sinks took.
 use Rattle.std.proofs.Common.{◌≡◌, ◌≢◌, List, [], ◌∷◌, Option, None, arith, refl, inl, inr}
 use Rattle.std.specs.Prelude.{◌⊎◌, Result, Ok, Err}
 use Rattle.cpg_base.specs.Graph.{Graph}
@@ -27,7 +27,8 @@ use Rattle.cpg_app.proofs.Written.{stopped}
 of_whole : (f : File) (fetch : Fetch) → IsWhole f fetch → IsFetchOf f fetch
 of_whole f fetch w = record { named = w.named }
 
--- by why the file stops: it can't be read, it is too long, or memory is out
+-- If a file stops a run, but not by a fault of the shelf, memory may have run out at the same fetch instead. By why it
+-- stops.
 wants_too : (g : Option Graph) (f : File) (fetch : Fetch) (h : Halt) → h ≢ Read → StopsAt g f fetch h →
     IsWanting f fetch Memory
 wants_too g f fetch h other (inl unread) = absurd (other unread.halt_is)
@@ -43,7 +44,7 @@ wants_too g f fetch h other (inr (inr (inl refused))) =
 wants_too g f fetch h other (inr (inr (inr wanting))) =
     record { of = wanting.of; sound = wanting.sound; few = wanting.few; halt_is = refl }
 
--- where reading stops over anything but a fetch, lack of memory may stop it too
+-- where the reading of files stops, but not by a fault of the shelf, it may have stopped as memory ran out
 files_memory : (g : Option Graph) (files : List File) (past now : List Fetch) (h : Halt) → h ≢ Read →
     StopsReading g files past now h →
     StopsReading g files past now Memory
@@ -53,8 +54,9 @@ files_memory g (f ∷ fs) past now h other (fetch, inl here) =
 files_memory g (f ∷ fs) past now h other (fetch, inr (v, read, there)) =
     (fetch, inr (v, read, files_memory (graph_after g v) fs (fetch ∷ past) now h other there))
 
+-- given a run
 module _ (r : Ran) where
-  -- where a run stops over anything but a fetch, lack of memory may stop it too
+  -- where a run stops, but not by a fault of the shelf, it may have stopped as memory ran out
   memory_too : (h : Halt) → h ≢ Read → Stops r h → Stops r Memory
   memory_too h other (inl words) = inl (record { unread = words.unread; cause = inr refl })
   memory_too h other (inr (inl files)) = inr (inl
@@ -62,11 +64,11 @@ module _ (r : Ran) where
   memory_too h other (inr (inr work)) =
       inr (inr (record { command = work.command; values = work.values; has = work.has; stops = inr refl }))
 
-  -- it stops, and its line was sent
+  -- a run that stops, wrote nothing to `out`, and sent its line to `err` ends lawfully
   told_lawful : (h : Halt) → Stops r h → Untouched r.out → Sent r.err r.status (status_of h) (line_of h) → IsLawful r
   told_lawful h stops silent sent = lawful_by r h (record { stops = stops; ending = stopped r h silent sent })
 
-  -- it stops, and its line was sent, or that of out of memory
+  -- a run that stops is lawful if it sent its line or, as memory ran out for that, the line that says so
   either_lawful : (h : Halt) → h ≢ Read → Stops r h → Untouched r.out → Sent r.err r.status (status_of h) (line_of h) ⊎
       Sent r.err r.status (status_of Memory) (line_of Memory) → IsLawful r
   either_lawful h other stops silent (inl sent) = told_lawful h stops silent sent
@@ -82,7 +84,8 @@ module _ (r : Ran) where
   stopped_lawful (Unsafe a fault) stops silent said = either_lawful (Unsafe a fault) (λ e. cc) stops silent said
   stopped_lawful Memory stops silent said = told_lawful Memory stops silent said
 
-  -- a run whose output was written, or met a fault, ends lawfully
+  -- A run whose output was written ends lawfully. By the result: it was taken whole, `out` met a fault, or memory ran
+  -- out.
   pub written_lawful : (text : Text) (written : Result Unit WriteFault) → Prints r text → IsWritten r.out written text →
       IsEnded written r.err r.status → IsLawful r
   written_lawful text (Ok done) prints out ended = lawful_with r text
@@ -94,7 +97,7 @@ module _ (r : Ran) where
       inr (inr (record { command = prints.command; values = prints.values; has = prints.has; stops = inr refl })) in
       told_lawful Memory stops out ended
 
-  -- a run whose words can't be had ends lawfully
+  -- a run that has no command, and reports why, ends lawfully
   pub wordless_lawful : (fault : WordsFault) → (fault ≡ WordsFault.Bad → command_of r.words ≡ None) →
       r.shelf.new.history ≡ r.shelf.old.history →
       Untouched r.out →

@@ -22,9 +22,8 @@ use Rattle.cpg_cluster.specs.Correct.{ends_asked, ended_in}
 use Rattle.cpg_cluster.specs.Whole.{IsWholePlay}
 use Rattle.cpg_show.specs.TraceText.{finish_of, end_times}
 
--- a whole play of tables that have the times of each run, in a world whose scenario has a run
--- `exact`: the tables have the times of the runs. `run`: t is the run of the world's scenario. `whole`: the play of
--- the cluster is at its end.
+-- Given tables that have the times of each scenario's run (`exact`), a world whose scenario has the run t (`run`), and
+-- the end of a play of the tables in this world (`whole`).
 module _ (g : Graph) (formed : WellFormed g) (tables : List NodeTable) (order : List ℕ) (frozen : List (Option ℕ))
     (exact : HasRunTimes g order frozen tables) (w : World)
     (lawful : IsScenario g w.scenario)
@@ -33,15 +32,15 @@ module _ (g : Graph) (formed : WellFormed g) (tables : List NodeTable) (order : 
   starts_of : (p : ℕ) → at tables p w.scenario ≡ option_to_list (get_or t.times p None)
   starts_of p = exact w.scenario t p lawful run
 
-  -- the end of a process that starts at a time
+  -- the end of process p if it starts at this time
   abbrev end_at : ℕ → ℕ → ℕ
   end_at p start = start + duration g p (fault_of w.scenario p)
 
-  -- the planned end, as a play notes it
+  -- the same with the report, as a play notes it
   abbrev planned_end : ℕ → ℕ → ℕ × Ended
   planned_end p start = (end_at p start, ended_in g w.scenario p)
 
-  -- a process with a start has that end
+  -- a process that has a start has the end of this start
   ended_at : (p : ℕ) (o : Option ℕ) (start : ℕ) → Contains (option_to_list o) start →
       option_map (end_at p) o ≡ Some (end_at p start)
   ended_at p None start m = absurd (Contains-nil start m)
@@ -70,7 +69,8 @@ module _ (g : Graph) (formed : WellFormed g) (tables : List NodeTable) (order : 
   abbrev times : List ℕ
   times = flat_map (end_times c.ends) (numbers_below (length g.nodes))
 
-  -- an end of the play is one of the run
+  -- An end of the play is one of the run. It is in the list of some node, so the tables ask for it: by a process of
+  -- this node and its start, which is that of the run.
   of_play : (x : ℕ) → Contains times x → Contains (flat_map option_to_list t.ends) x
   of_play x m =
       let at_node = Contains-flat_map_parts (end_times c.ends) (numbers_below (length g.nodes)) x m in
@@ -97,7 +97,8 @@ module _ (g : Graph) (formed : WellFormed g) (tables : List NodeTable) (order : 
       (Contains-numbers (process_count g) p below))))
       (Contains-first x [])
 
-  -- an end of the run is one of the play
+  -- An end of the run is one of the play. It comes from the start of a process, which the tables have, so they ask for
+  -- this end on the process's node, which has reached all its planned ends.
   of_run : (x : ℕ) → Contains (flat_map option_to_list t.ends) x → Contains times x
   of_run x m =
       let one = Contains-flat_map_parts option_to_list t.ends x m in
@@ -124,7 +125,7 @@ module _ (g : Graph) (formed : WellFormed g) (tables : List NodeTable) (order : 
       (subst (Contains (end_times c.ends node)) started.2
       (Contains-map (λ (e : ℕ × Ended). e.0) (get_or c.ends node []) (planned_end p started.0) told))
 
-  -- the greatest end of the play is the finish of the scenario's run
+  -- The greatest end of the play is the finish of the scenario's run: neither is greater, as they have the same ends.
   pub finish_is : finish_of g c.ends ≡ t.finish
   finish_is =
       let a = greatest-le times (greatest (flat_map option_to_list t.ends))

@@ -20,6 +20,7 @@ use Rattle.cpg_app.specs.Outputs.{packed as packed_of}
 use Rattle.cpg_app.specs.Joined.{GaveAll, FrontsAreRefused}
 use Rattle.cpg_app.proofs.Joined.{IsOutputFor, pack_of}
 
+-- given the pack of an admitted graph, and a number n of bytes less than it has
 module _ (g : Graph) (pack : Text) (is : IsOutputFor packed_of g pack) (n : ℕ) (l : n < length pack) where
   -- the tables that were packed
   abbrev tables : Tables
@@ -49,18 +50,19 @@ module _ (g : Graph) (pack : Text) (is : IsOutputFor packed_of g pack) (n : ℕ)
     subst (λ (bytes : Text). length bytes ≤ limit_of PackFile) (sym is.made_of.spelled) is.made_of.pack.short,
   )
 
-  -- it is no pack from this place alone
+  -- if what was given is no pack from some place on, this place is its end
   one_place : (fetch : Fetch) (m : ℕ) → GaveAll fetch (take n pack) → IsBadPack fetch.given m → m ≡ length (take n pack)
   one_place fetch m gave other =
       (packs_are_refused_at_one_place fetch.given).one m n other (of_fetch fetch gave) ∙ sym front
 
-  -- no reading of a file takes the front as a pack
+  -- a fetch of the front isn't read as any value, as the front spells no tables
   unread : (o : Option Graph) (fetch : Fetch) (value : Value) → GaveAll fetch (take n pack) →
       IsRead o (file PackFile fetch.name) fetch value → ⊥
   unread o fetch value gave is_read =
       (of_fetch fetch gave).no_pack is_read.says.0 is_read.says.2.lawful is_read.says.2.spelled
 
-  -- reading the front stops as a bad pack at its end, or over memory
+  -- If a fetch of the front stops a run, it is rejected at its end, or memory ran out. By why it stops: the fetch met
+  -- no fault, and the front isn't too long.
   stops : (o : Option Graph) (fetch : Fetch) (halt : Halt) → GaveAll fetch (take n pack) →
       StopsAt o (file PackFile fetch.name) fetch halt →
       (halt ≡ Refused (BadPack (length (take n pack)))) ⊎

@@ -52,7 +52,7 @@ use Rattle.cpg_app.proofs.Streamed.{is_live, other_words}
 put_out : (r : Ran) (bytes text : Text) → Whole r.out bytes → Whole r.out text → bytes ≡ text
 put_out r bytes text wrote took = append_cancel_left r.out.old bytes text (sym wrote.taken ∙ took.taken)
 
--- what is made of a graph is also made of another admission of the graph
+-- bytes that are made of one admission of a graph are made of another that is alike
 made_again : (a b : Admission) → AreAlike a b → (spell : Graph → Compiled → Text) (bytes : Text) →
     IsMadeOf b spell bytes →
     IsMadeOf a spell bytes
@@ -63,14 +63,16 @@ made_again a b same spell bytes made =
     (made.compilation, made.pack, made.safe, made.spelled) in
     record { compiled = c; compilation = all.0; pack = all.1; safe = all.2; spelled = all.3 }
 
--- a graph is admitted, and bytes are spelled from its tables
+-- the graph is admitted, and the bytes are those that `spell` gives for one of its compilations
 pub record IsOutputFor (spell : Graph → Compiled → Text) (g : Graph) (made : Text) : Type 0 where
   pub admission : Admission
   pub of : admission.graph ≡ g
   pub admitted : IsAdmitted admission.graph admission.order admission.guards
   pub made_of : IsMadeOf admission spell made
 
--- if a command's output is made of a graph file, its graph is admitted, and the bytes are spelled from its tables
+-- What a command wrote for a graph is its output for it, given that the command puts out what `spell` gives for a
+-- compilation of the file's graph (`puts`), isn't `live` (`dead`), and reads the graph file alone (`files`). The run
+-- ended with status 0, so it printed its output whole: it didn't follow a stream.
 output_of : (asked : Text → Command) (spell : Graph → Compiled → Text) →
     ((graph text : Text) (vs : List Value) → PutsOut (asked graph) vs text → OnGraph vs (λ a. IsMadeOf a spell text)) →
     ((graph : Text) → is_live (Some (asked graph)) ≡ false) →
@@ -94,17 +96,17 @@ output_of asked spell puts dead files r g made has = elim (has.lawful.done has.d
   | inr closed ↦ absurd (other_words r closed.follows (Some (asked has.graph)) (dead has.graph) has.has.words)
 ]
 
--- what was printed for a graph is the output of `show` for it
+-- what `show` wrote for a graph is its output for it
 shown_of : (r : Ran) (g : Graph) (text : Text) → HasShown r g text → IsOutputFor shown g text
 shown_of = output_of Show shown (λ graph text vs puts. puts) (λ graph. refl) (λ graph. refl)
 
--- the pack that `compile` wrote is that of the tables of an admitted graph
+-- what `compile` wrote for a graph is its output for it
 pub pack_of : (r : Ran) (g : Graph) (pack : Text) → HasPacked r g pack → IsOutputFor packed_of g pack
 pack_of = output_of Compile packed_of (λ graph text vs puts. puts) (λ graph. refl) (λ graph. refl)
 
 -- ---- names of nodes
 
--- a test that some element passes has a first
+-- if some element passes a test, there is a first that does
 found : {X : Type 0} (p : X → Bool) (xs : List X) (i : ℕ) (d : X) → i < length xs → p (get_or xs i d) ≡ true →
     (j : ℕ) × (position p xs ≡ Some j)
 found p xs i d l passes = elim (cases_lt (position_or_len p xs) (length xs)) [
@@ -112,11 +114,11 @@ found p xs i d l passes = elim (cases_lt (position_or_len p xs) (length xs)) [
   | inr ge ↦ absurd (true≢false (sym passes ∙ fails_before_first p xs i d (omega (arith, ge, l))))
 ]
 
--- a text is found equal to itself
+-- a text passes the test of equality with itself
 same_text : (text : Text) → bytes_eq text text ≡ true
 same_text text = (bytes_eq-Decides text text).1 refl
 
--- some node is the first with a node's name
+-- for each node, some node is the first that has its name
 node_named : (h : Head) (node : ℕ) → node < length h.nodes →
     (first : ℕ) × (first_named h (get_or h.nodes node []) ≡ Some first)
 node_named h node l =
@@ -124,12 +126,13 @@ node_named h node l =
 
 -- ---- the pack is taken
 
+-- given the pack of an admitted graph
 module _ (g : Graph) (pack : Text) (is : IsOutputFor packed_of g pack) where
   -- the tables that were packed
   abbrev tables : Tables
   tables = is.made_of.compiled.built.tables
 
-  -- tables of these bytes are those
+  -- lawful tables that the bytes spell are those that were packed
   same_tables : (t : Tables) → AreLawful t → pack ≡ spelling t → tables ≡ t
   same_tables t lawful e = (one_spelling tables t [] is.made_of.pack.lawful lawful
       (sym is.made_of.spelled ∙ (e ∙ sym (append-nil (spelling t))))).0
@@ -138,7 +141,8 @@ module _ (g : Graph) (pack : Text) (is : IsOutputFor packed_of g pack) where
   head_is : IsHeadFor is.admission.graph tables.head
   head_is = subst (IsHeadFor is.admission.graph) (sym is.made_of.pack.head) (own_head is.admission.graph)
 
-  -- a run that asks for a verdict on the pack ends well
+  -- A run that asks to judge the pack for its graph ends well: the tables are those that were packed, which have the
+  -- graph's head and are valid.
   judged : (r : Ran) (a : Admission) (t : Tables) → IsLawful r → a.graph ≡ g → pack ≡ spelling t → AsksVerdict r a t →
       EndsWell r
   judged r a t lawful of e asks =
@@ -149,7 +153,8 @@ module _ (g : Graph) (pack : Text) (is : IsOutputFor packed_of g pack) where
       (subst (λ h. IsValid h t.nodes) graph
       (subst (λ (u : Tables). IsValid is.admission.graph u.nodes) same is.made_of.safe.valid))
 
-  -- the pack has the tables of the graph, so the node of that name is found and its text is written
+  -- A run that asks for the table of one of the graph's nodes ends well: the tables have the graph's nodes, so one is
+  -- the first that has the name.
   taken : (r : Ran) (path : Text) (t : Tables) (node : ℕ) → IsLawful r → pack ≡ spelling t → node < length g.nodes →
       Asks r (Node path (get_or g.nodes node [])) (tables_value t ∷ []) → EndsWell r
   taken r path t node lawful e l asks =
@@ -162,7 +167,7 @@ module _ (g : Graph) (pack : Text) (is : IsOutputFor packed_of g pack) where
       lawful.named path (get_or g.nodes node []) t named.0 asks
       (subst (λ (ns : List Text). first_named t.head (get_or ns node []) ≡ Some named.0) nodes named.1)
 
-  -- however it is read
+  -- a fetch that gave the whole pack is read as its tables, whatever graph was read before
   read : (o : Option Graph) (fetch : Fetch) → GaveAll fetch pack →
       (t : Tables) × IsRead o (file PackFile fetch.name) fetch (tables_value t) × (pack ≡ spelling t)
   read o fetch gave =
@@ -177,7 +182,7 @@ module _ (g : Graph) (pack : Text) (is : IsOutputFor packed_of g pack) where
         is.made_of.spelled,
       )
 
-  -- only lack of memory stops the reading of the pack
+  -- if a fetch that gave the whole pack stops a run, memory ran out, as the pack is also read
   unstopped : (o : Option Graph) (fetch : Fetch) (halt : Halt) → GaveAll fetch pack →
       StopsAt o (file PackFile fetch.name) fetch halt → halt ≡ Memory
   unstopped o fetch halt gave stops =
@@ -196,7 +201,7 @@ packs_are_taken r g pack has = let is = pack_of r g pack has in record {
 
 -- ---- what is shown and what is packed ask the same
 
--- two admissions of one graph
+-- two admissions of one graph are alike, as it has one urgency order
 alike : (g : Graph) (a b : Admission) → a.graph ≡ g → b.graph ≡ g → IsAdmitted a.graph a.order a.guards →
     IsAdmitted b.graph b.order b.guards → AreAlike a b
 alike g a b e f x y =
@@ -207,7 +212,8 @@ alike g a b e f x y =
           one_urgency_order a.graph b.order a.order (subst (λ h. IsUrgencyOrder h b.order) same y.urgency) x.urgency;
     }
 
--- what `show` printed and what `compile` wrote for one graph ask the same in every scenario
+-- What `show` printed and what `compile` wrote for one graph are of one admitted graph. Both are made of a compilation
+-- of it, and two compilations ask the same in every scenario (`ask_the_same`).
 pub show_and_compile_agree : ShowAndCompileAgree
 show_and_compile_agree r q g text pack shows packs =
     let one = shown_of r g text shows in

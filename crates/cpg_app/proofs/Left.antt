@@ -1,4 +1,4 @@
--- The halts that are left for a command, once it is known what it asks for.
+-- The halts that a command can stop with, once it is known what its files say.
 use Rattle.std.proofs.Common.{ℕ, ◌≡◌, ◌≢◌, ◌∙◌, List, length, ap, inl, inr}
 use Rattle.std.specs.Prelude.{◌⊎◌, Err}
 use Rattle.cpg_rules.specs.Admission.{Admission}
@@ -26,13 +26,14 @@ use Rattle.cpg_app.specs.Outputs.{AreJudgedSafe}
 
 -- ---- of a graph
 
--- out of memory, late, or too wide
+-- by its status, the halt says that memory ran out, that the graph is late, or that it is too wide; and it is so
 abbrev pub CompileLeft : Admission → Halt → Type 0
 CompileLeft a h = (status_of h ≡ 8) ⊎ (((status_of h ≡ 5) × IsLate a.graph a.order) ⊎
     ((status_of h ≡ 6) × ((x : ℕ) × IsWide a.graph (first_order a.graph a.order) x)))
 
+-- given two admissions that are alike
 module _ (a b : Admission) (same : AreAlike a b) (h : Halt) where
-  -- what a compile fault leaves of a graph
+  -- the halt of a compile's fault for b is one of these for a; by the fault
   of_fault : (fault : CompileFault) → h ≡ halt_of_compile b fault → ShowsCompileFault b.graph b.order fault →
       CompileLeft a h
   of_fault (CompileFault.TooWide x) e shows =
@@ -40,19 +41,20 @@ module _ (a b : Admission) (same : AreAlike a b) (h : Halt) where
   of_fault (CompileFault.Late s p time) e shows = inr (inl (ap status_of e, moved a b same IsLate shows.0))
   of_fault CompileFault.OutOfMemory e shows = inl (ap status_of e)
 
-  -- the compile of a graph that is alike stops for lack of memory, or because the graph is late or too wide
+  -- the halt by which the compile of b fails is one of these for a
   pub compile_left : IsUncompiled b h → CompileLeft a h
   compile_left wrong = of_fault wrong.fault wrong.halt_is wrong.shows
 
 -- ---- of a graph and tables
 
--- the tables are another graph's, or they aren't valid
+-- by its status, the halt says that the tables are another graph's, or that they break a rule; and it is so
 abbrev pub CheckLeft : Admission → Tables → Halt → Type 0
 CheckLeft a t h = ((status_of h ≡ 4) × (IsHeadFor a.graph t.head → ⊥)) ⊎
     ((status_of h ≡ 7) × IsHeadFor a.graph t.head × (IsValid a.graph t.nodes → ⊥))
 
+-- given two admissions that are alike, and lawful tables
 module _ (a b : Admission) (same : AreAlike a b) (t : Tables) (lawful : AreLawful t) where
-  -- a check for a graph that is alike stops because the head is another graph's or the tables aren't valid
+  -- the halt by which a check for b stops is one of these for a
   pub check_left : (h : Halt) → StopsVerdict b t h → CheckLeft a t h
   check_left h (inl other) = inl (
     ap status_of other.halt_is,
@@ -64,18 +66,18 @@ module _ (a b : Admission) (same : AreAlike a b) (t : Tables) (lawful : AreLawfu
       (broken.head, faulty_tables b.graph t.nodes b.order broken.fault count broken.first) in
       inr (ap status_of broken.halt_is, here.0, here.1)
 
-  -- tables that were found safe are valid and have the graph's head
+  -- tables that are found safe for b have the head of a's graph and are valid for it
   pub judged_is : AreJudgedSafe b t → IsHeadFor a.graph t.head × IsValid a.graph t.nodes
   judged_is judged = moved a b same (λ g o. IsHeadFor g t.head × IsValid g t.nodes) (judged.head, judged.safe.valid)
 
 -- ---- of parts
 
--- out of memory, or a refusal that is shown
+-- by its status, the halt says that memory ran out, or that the parts are refused; and they are, for some fault
 abbrev pub PartsLeft : List Part → Halt → Type 0
 PartsLeft parts h = (status_of h ≡ 8) ⊎
     ((status_of h ≡ 4) × ((fault : HyperFault) × ShowsUnrolled parts (Err fault) × (fault ≢ OutOfMemory)))
 
--- by the fault: a range, or what else unrolling the parts meets
+-- the halt of a fault of the parts is one of these; by the fault
 refused_left : (parts : List Part) (h : Halt) (fault : HyperFault) → h ≡ halt_of_parts fault →
     ShowsUnrolled parts (Err fault) →
     PartsLeft parts h
@@ -88,6 +90,6 @@ refused_left parts h (HyperFault.LongName p) e shows = inr (ap status_of e, (Hyp
 refused_left parts h (HyperFault.Order p) e shows = inr (ap status_of e, (HyperFault.Order p, shows, λ k. cc))
 refused_left parts h HyperFault.OutOfMemory e shows = inl (ap status_of e)
 
--- parts without a common graph stop a run for lack of memory, or with a refusal and its cause
+-- the halt by which parts aren't unrolled is one of these
 pub parts_left : (parts : List Part) (h : Halt) → IsNotUnrolled parts h → PartsLeft parts h
 parts_left parts h wrong = refused_left parts h wrong.fault wrong.halt_is wrong.shows

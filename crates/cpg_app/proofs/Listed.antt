@@ -1,4 +1,4 @@
--- What is written of tables that have a compile's rows, though the tables aren't made.
+-- What is written by the rows of a compile is the output by the tables that have these rows, which aren't assembled.
 use Rattle.std.proofs.Common.{◌≡◌, subst, sym}
 use Rattle.cpg_base.specs.Graph.{Graph}
 use Rattle.cpg_base.specs.Limits.{IsWithinLimits}
@@ -17,7 +17,8 @@ use Rattle.cpg_show.proofs.Rows.{tables_have_text}
 use Rattle.cpg_app.specs.Outputs.{IsMadeOf, packed, packed_by, shown, shown_by}
 use Rattle.cpg_app.proofs.Safe.{compilations_are_safe}
 
--- what is told of the tables, if the bytes are what they spell
+-- Bytes are made of a graph if `spell` gives them for the compilation with a compile's rows. Its tables are lawful, as
+-- their head and their rows are, and safe, as all tables of a compilation are.
 made_of_rows : (a : Admission) → WellFormed a.graph → IsPackHead (head_of a.graph) →
     (r : BuiltRows) (are : AreCompiledRows a.graph a.order r) (spell : Graph → Compiled → Text) (bytes : Text) →
     bytes ≡ spell a.graph (compiled_of r are.tables) → IsMadeOf a spell bytes
@@ -36,14 +37,14 @@ made_of_rows a formed head r are spell bytes is =
       spelled = is;
     }
 
--- the text of rows is that of the tables that have them
+-- the text that is written by the rows of a compile is the output of `show`
 pub shown_of_rows : (a : Admission) → WellFormed a.graph → IsPackHead (head_of a.graph) → (r : BuiltRows) →
     AreCompiledRows a.graph a.order r →
     IsMadeOf a shown (shown_by a.graph r)
 shown_of_rows a formed head r are = made_of_rows a formed head r are shown (shown_by a.graph r)
     (sym (tables_have_text a.graph r.order r.rows.items r.worst.time are.tables.nodes are.written.columns))
 
--- the pack of the rows of a compile is what `compile` makes of the graph
+-- the pack that is written by the rows of a compile is the output of `compile`
 pub packed_of_rows : (a : Admission) → IsWithinLimits a.graph → WellFormed a.graph → IsPackHead (head_of a.graph) →
     (r : BuiltRows) →
     AreCompiledRows a.graph a.order r →

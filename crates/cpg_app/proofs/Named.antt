@@ -1,4 +1,5 @@
--- The items, processes and nodes that a halt of a run names are there.
+-- The items, processes and nodes that the line of a halt names are there. Below, `names only things that are there`
+-- says that each of them is one of its graph.
 use Rattle.std.proofs.Common.{◌≡◌, List, [], ◌∷◌, Option, Some, None, sym, subst, inl, inr}
 use Rattle.cpg_base.specs.Graph.{Graph}
 use Rattle.cpg_base.specs.Scenario.{Scenario, IsScenario, zero_scenario}
@@ -112,7 +113,8 @@ files_named g (f ∷ fs) past now h (fetch, inr (v, read, there)) =
 compile_named : (a : Admission) (h : Halt) → IsUncompiled a h → IsNamed h
 compile_named a h wrong = named_as h _ wrong.halt_is (of_compile a wrong.fault wrong.shows)
 
--- the first rule that tables break names only things that are there
+-- The first violation of tables names only things that are there. By whether it breaks a rule of columns, V1 to V9, or
+-- V10.
 fault_named : (a : Admission) (t : Tables) (f : Fault) → IsFirstFault a.graph a.order t.nodes f → IsNamed (Unsafe a f)
 fault_named a t f (inl broken) =
     let shown = first_broken a.graph a.order t.nodes f column_rules broken in

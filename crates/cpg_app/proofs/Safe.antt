@@ -1,4 +1,4 @@
--- What valid tables give, and what a compile answers.
+-- Valid tables are safe, and so are those of a compilation.
 use Rattle.std.proofs.Common.{List, ℕ}
 use Rattle.cpg_base.specs.Graph.{Graph}
 use Rattle.cpg_base.specs.WellFormed.{WellFormed}

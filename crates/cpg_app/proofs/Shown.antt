@@ -1,4 +1,4 @@
--- A run that ends by its output or by a reason to stop keeps what each status says.
+-- A run that ends with an output, or stops with a halt, keeps what each status says.
 use Rattle.std.proofs.Common.{ℕ, ◌≡◌, ◌≢◌, ◌∙◌, List, [], ◌∷◌, Some, None, length, sym, ap, subst, arith, inl, inr}
 use Rattle.std.specs.Prelude.{◌⊎◌, Ok, Err}
 use Rattle.std.proofs.lemmas.Option.{none-some, same_Some}
@@ -54,7 +54,7 @@ use Rattle.cpg_app.proofs.Unrolled.{not_both}
 
 -- ---- a stream isn't fetched
 
--- one fetch isn't two, nor none
+-- a history with one fetch more isn't the same history with two more
 one_is_two : (f e d : Fetch) (past : List Fetch) → f ∷ past ≡ e ∷ d ∷ past → ⊥
 one_is_two f e d past is = let l = ap length is in omega (arith, l)
 
@@ -62,10 +62,11 @@ one_is_two f e d past is = let l = ap length is in omega (arith, l)
 none_is_two : (e d : Fetch) (past : List Fetch) → past ≡ e ∷ d ∷ past → ⊥
 none_is_two e d past is = let l = ap length is in omega (arith, l)
 
+-- given a run
 module _ (r : Ran) where
   -- ---- what is told of an admitted graph, and of tables
 
-  -- what a run that asks for tables prints is made of the graph
+  -- what a run that asks for a graph's tables prints is made of an admission that is alike, as a text or as a pack
   made_here : (a : Admission) → AsksForTables r a → (text : Text) → Prints r text →
       (spell : Graph → Compiled → Text) × (b : Admission) × AreAlike a b × IsMadeOf b spell text
   made_here a (graph, inl asks) text p = let q = printed r _ _ asks.has text p in
@@ -75,7 +76,7 @@ module _ (r : Ran) where
       let k = on_graph a q.0 _ q.1 q.2 in
       (packed, k.0, k.1, k.2)
 
-  -- the graph is admitted
+  -- the graph whose tables are asked for is admitted
   admitted_here : (a : Admission) → AsksForTables r a → IsAdmitted a.graph a.order a.guards
   admitted_here a (graph, inl asks) = (values_lawful None
       (files_of (Show graph)) r.shelf.old.history r.shelf.new.history (graph_value a ∷ []) asks.has.reads).0
@@ -100,7 +101,7 @@ module _ (r : Ran) where
   tables_faultless a (graph, inl asks) = asks.faultless
   tables_faultless a (graph, inr asks) = asks.faultless
 
-  -- what is left of a graph where the run stops
+  -- if a run that asks for a graph's tables stops, memory ran out, or the graph is late or too wide
   tables_left : (a : Admission) → AsksForTables r a → (h : Halt) → Stops r h → CompileLeft a h
   tables_left a (graph, inl asks) h stops = elim (stopped_by r _ _ asks.has h stops) [
     | inl memory ↦ inl (ap status_of memory)
@@ -128,7 +129,7 @@ module _ (r : Ran) where
       (values_lawful None (files_of (Audit graph pack audit.path)) r.shelf.old.history r.shelf.new.history
       (graph_value a ∷ tables_value t ∷ log_value audit.log ∷ []) audit.asks.has.reads).1.0
 
-  -- what was checked, played, or audited by, is valid
+  -- if a run that asks to judge tables has an output, they have the graph's head and are valid
   judged_here : (a : Admission) (t : Tables) → AsksVerdict r a t → (text : Text) → Prints r text →
       IsHeadFor a.graph t.head × IsValid a.graph t.nodes
   judged_here a t (graph, pack, inl asks) text p =
@@ -143,7 +144,7 @@ module _ (r : Ran) where
       let lawful : AreLawful t = tables_lawful a t (graph, pack, inr (inr audit)) in
       judged_is a k.0 k.1 t lawful k.2.1.judged
 
-  -- what is left of them where the run stops
+  -- if a run that asks to judge tables stops, memory ran out, or they are another graph's, or they aren't valid
   verdict_left : (a : Admission) (t : Tables) → AsksVerdict r a t → (h : Halt) → Stops r h →
       (h ≡ Memory) ⊎ CheckLeft a t h
   verdict_left a t (graph, pack, inl asks) h stops = elim (stopped_by r _ _ asks.has h stops) [
@@ -175,24 +176,25 @@ module _ (r : Ran) where
   no_output f text p = subst (λ (k : Command). PutsOut k p.values text)
       (same_Some p.command (Live f.pack f.name f.stream) (sym p.has.words ∙ f.words)) p.puts
 
-  -- it doesn't read its pack alone
+  -- a run that follows a stream hasn't read one pack alone: it has made two fetches
   read_one : (f : Follows r) (name : Text) (vs : List Value) →
       Reads None (file PackFile name ∷ []) r.shelf.old.history r.shelf.new.history vs → ⊥
   read_one f name [] reads = reads
   read_one f name (v ∷ []) reads = one_is_two reads.0 f.fetch f.read r.shelf.old.history (sym reads.2 ∙ f.history)
   read_one f name (v ∷ w ∷ vs) reads = reads.2
 
-  -- its pack isn't all that was fetched
+  -- the same for any words of `live`
   pub one_file : (f : Follows r) {pack name stream : Text} (vs : List Value) → Has r (Live pack name stream) vs → ⊥
   one_file f {pack = pack} vs has = read_one f pack vs has.reads
 
-  -- a run that follows a stream doesn't stop over its pack
+  -- a run that follows a stream isn't stopped by its pack, as it has fetched the stream too
   one_stop : (f : Follows r) (h : Halt) →
       StopsReading None (files_of (Live f.pack f.name f.stream)) r.shelf.old.history r.shelf.new.history h → ⊥
   one_stop f h (fetch, inl here) = one_is_two fetch f.fetch f.read r.shelf.old.history (sym here.1 ∙ f.history)
   one_stop f h (fetch, inr there) = there.2
 
-  -- a run that follows a stream has no reason to stop before that
+  -- A run that follows a stream doesn't stop before: not in its words, as something was fetched, nor by its pack, nor
+  -- after its pack alone was read.
   no_stop : (f : Follows r) (h : Halt) → Stops r h → ⊥
   no_stop f h (inl words) = none_is_two f.fetch f.read r.shelf.old.history (sym words.unread ∙ f.history)
   no_stop f h (inr (inl files)) = one_stop f h
@@ -204,12 +206,13 @@ module _ (r : Ran) where
 
   -- ---- with an output
 
+  -- given that the run ends with an output
   module _ (text : Text) (with : EndsWith r text) where
     -- a run with an output has status 0 or 3
     with_status : (r.status ≡ 0) ⊎ (r.status ≡ 3)
     with_status = elim with.ending [ inl p ↦ inl p.status | inr c ↦ inr c.status ]
 
-    -- a run that prints has status 0 or 3
+    -- a run with an output has no other status
     other_status : (n : ℕ) → r.status ≡ n → n ≢ 0 → n ≢ 3 → ⊥
     other_status n e a b = elim with_status [ inl z ↦ a (sym e ∙ z) | inr t ↦ b (sym e ∙ t) ]
 
@@ -226,11 +229,11 @@ module _ (r : Ran) where
     with_unmet : r.status ≢ 3 → (r.out.now ≡ r.out.before) × (r.err.now ≡ r.err.before)
     with_unmet other = elim with.ending [ inl p ↦ (p.out.faultless, p.err.faultless) | inr c ↦ absurd (other c.status) ]
 
-    -- without faults the status is 0
+    -- without faults the status is 0, so it is 0 or 8
     with_safe : IsFaultless r → (r.status ≡ 0) ⊎ (r.status ≡ 8)
     with_safe faultless = elim with.ending [ inl p ↦ inl p.status | inr c ↦ absurd (faultless.out c.out.rose) ]
 
-    -- a run that prints tables isn't over a graph that is too wide
+    -- if tables are printed, no item of a graph without a given order is too wide under its first order
     with_wide : (a : Admission) (x : ℕ) → AsksForTables r a → a.graph.order ≡ None →
         IsWide a.graph (first_order a.graph a.order) x →
         (r.status ≡ 6) ⊎ (r.status ≡ 8)
@@ -238,7 +241,7 @@ module _ (r : Ran) where
         absurd (moved a made.1 made.2
         (λ g o. g.order ≡ None → IsNarrow g (first_order g o)) made.3.compilation.compiled.narrow ungiven x wide)
 
-    -- a run that prints tables isn't over a graph that is late
+    -- if tables are printed, the graph isn't late, as it is compiled
     with_late : (a : Admission) → AsksForTables r a → IsLate a.graph a.order →
         ((r.status ≡ 5) ⊎ (r.status ≡ 8)) ⊎ IsRefusedAsWide r a
     with_late a asks late = let made = made_here a asks text with.prints in
@@ -246,7 +249,7 @@ module _ (r : Ran) where
         (first_is_topological a asks) made.3.compiled.order late
         (moved a made.1 made.2 (λ g o. IsCompiled g o made.3.compiled.order) made.3.compilation.compiled))
 
-    -- a run with an output isn't over a node that no name has
+    -- if a node's table is printed, some node has the name
     with_nameless : (pack name : Text) (t : Tables) → Asks r (Node pack name) (tables_value t ∷ []) →
         first_named t.head name ≡ None →
         (r.status ≡ 4) ⊎ (r.status ≡ 8)
@@ -254,7 +257,7 @@ module _ (r : Ran) where
         let k = on_tables t q.0 _ q.1 q.2 in
         absurd (none-some k.node (sym none ∙ k.named))
 
-    -- a run with an output isn't over parts that have no graph
+    -- if a graph of parts is printed, the parts aren't refused
     with_apart : (pairs : List Pair) (parts : List Part) (fault : HyperFault) →
         Asks r (Hyper pairs) (part_values parts) → HavePeriods pairs parts →
         ShowsUnrolled parts (Err fault) →
@@ -263,12 +266,13 @@ module _ (r : Ran) where
         let k = on_parts pairs parts q.0 _ q.1 periods q.2 in
         absurd (not_both parts k.0 fault k.1 shows other)
 
-    -- a run of `live` has no output by text
+    -- a run of `live` has no such output
     with_unfollowed : (pack name stream : Text) (t : Tables) → Asks r (Live pack name stream) (tables_value t ∷ []) →
         (r.status ≡ 4) ⊎ (r.status ≡ 8)
     with_unfollowed pack name stream t asks = absurd (printed r _ _ asks.has text with.prints).2
 
-    -- a run that ends with an output keeps what each status says
+    -- A run that ends with an output keeps what each status says. Its status is 0 or 3, and what its files say allows
+    -- an output.
     pub lawful_with : IsLawful r
     lawful_with = record {
       ends = inl (text, with);
@@ -305,16 +309,17 @@ module _ (r : Ran) where
 
   -- ---- without
 
+  -- given that the run stops with a halt
   module _ (halt : Halt) (by : EndsBy r halt) where
     -- with a status other than 3 the reason was told
     told_of : r.status ≢ 3 → IsTold r halt
     told_of other = elim by.ending [ inl t ↦ t | inr m ↦ absurd (other m.status) ]
 
-    -- with a status other than 3 the reason was told
+    -- the same, for a status n other than 3
     told_at : (n : ℕ) → r.status ≡ n → n ≢ 3 → IsTold r halt
     told_at n e other = told_of (λ three. other (sym e ∙ three))
 
-    -- with a status other than 3 the status is that of the reason
+    -- with a status n other than 3, the halt's status is n
     status_at : (n : ℕ) → r.status ≡ n → n ≢ 3 → status_of halt ≡ n
     status_at n e other = sym (told_at n e other).status ∙ e
 
@@ -322,7 +327,8 @@ module _ (r : Ran) where
     told_here : IsFaultless r → r.status ≡ status_of halt
     told_here faultless = elim by.ending [ inl t ↦ t.status | inr m ↦ absurd (faultless.err m.err.rose) ]
 
-    -- status 1 says that the words are no command
+    -- A halt with status 1 says that the words form no command. By where the run stops: a file or the work stops it
+    -- with another status.
     words_at : status_of halt ≡ 1 → Stops r halt → command_of r.words ≡ None
     words_at one (inl words) = elim words.cause [
       | inl formless ↦ formless.1
@@ -337,14 +343,15 @@ module _ (r : Ran) where
       | inr memory ↦ absurd (let e = ap status_of memory in omega (arith, one, e))
     ]
 
-    -- words that are no command give status 1, or memory ran out
+    -- if the words form no command, the halt has status 1, or 8 as memory ran out
     formless_at : command_of r.words ≡ None → Stops r halt → (status_of halt ≡ 1) ⊎ (status_of halt ≡ 8)
     formless_at none (inl words) =
         elim words.cause [ inl formless ↦ inl (ap status_of formless.0) | inr memory ↦ inr (ap status_of memory) ]
     formless_at none (inr (inl files)) = absurd (none-some files.command (sym none ∙ files.words))
     formless_at none (inr (inr work)) = absurd (none-some work.command (sym none ∙ work.has.words))
 
-    -- status 2 says that a fetch failed
+    -- A halt with status 2 says that the last fetch failed. By where the run stops: only a file stops it with this
+    -- status.
     failed_at : status_of halt ≡ 2 → Stops r halt → IsFailed r
     failed_at two (inl words) = elim words.cause [
       | inl formless ↦ absurd (let e = ap status_of formless.0 in omega (arith, two, e))
@@ -360,12 +367,12 @@ module _ (r : Ran) where
       | inr memory ↦ absurd (let e = ap status_of memory in omega (arith, two, e))
     ]
 
-    -- a run on words that are no command has status 1 or 8, unless its line was cut off
+    -- if the words form no command, the run has status 1 or 8, unless `err` met a fault
     by_formless : command_of r.words ≡ None → r.status ≢ 3 → (r.status ≡ 1) ⊎ (r.status ≡ 8)
     by_formless none other = let t = (told_of other).status in
         elim (formless_at none by.stops) [ inl e ↦ inl (t ∙ e) | inr e ↦ inr (t ∙ e) ]
 
-    -- status 2 says that a fetch failed, and that this was told
+    -- with status 2 the last fetch failed, and the line that says so was written
     by_read : r.status ≡ 2 → IsFailed r × ((Stops r Read × IsTold r Read) ⊎ IsUnreadStream r)
     by_read two =
         let at = status_at 2 two (λ e. omega arith) in
@@ -374,7 +381,7 @@ module _ (r : Ran) where
           inl (subst (Stops r) is by.stops, subst (IsTold r) is (told_at 2 two (λ e. omega arith))),
         )
 
-    -- a run that stops over anything but a fetch has only sound fetches
+    -- no fetch failed, or the halt says that one did
     sound_at : Stops r halt → AreSound r.shelf.old.history r.shelf.new.history ⊎ (halt ≡ Read)
     sound_at (inl words) = inl (sound_none r.shelf.old.history r.shelf.new.history words.unread)
     sound_at (inr (inl files)) = stops_sound None (files_of files.command) _ _ halt files.stops
@@ -399,13 +406,13 @@ module _ (r : Ran) where
     by_unmet : r.status ≢ 3 → (r.out.now ≡ r.out.before) × (r.err.now ≡ r.err.before)
     by_unmet other = let told = told_of other in (told.out.faultless, told.err.faultless)
 
-    -- status 4 says that something is refused, and what
+    -- with status 4 the run stops with a refusal
     by_refused : r.status ≡ 4 → (refusal : Refusal) × Stops r (Refused refusal) × IsTold r (Refused refusal)
     by_refused four =
         let is = refused_of halt (status_at 4 four (λ e. omega arith)) in
         (is.0, subst (Stops r) is.1 by.stops, subst (IsTold r) is.1 (told_at 4 four (λ e. omega arith)))
 
-    -- status 5 is that of a late graph alone, so the run stops for it
+    -- with status 5 the run stops as a process is late
     by_tardy : r.status ≡ 5 →
         (a : Admission) × (s : Scenario) × (p : ℕ) × (finish : ℕ) × Stops r (Late a s p finish) ×
         IsTold r (Late a s p finish)
@@ -419,24 +426,25 @@ module _ (r : Ran) where
           subst (IsTold r) is.4 (told_at 5 five (λ e. omega arith)),
         )
 
-    -- status 6 says that an item is too wide, and which
+    -- with status 6 the run stops as an item is too wide
     by_width : r.status ≡ 6 → (a : Admission) × (x : ℕ) × Stops r (TooWide a x) × IsTold r (TooWide a x)
     by_width six =
         let is = wide_of halt (status_at 6 six (λ e. omega arith)) in
         (is.0, is.1, subst (Stops r) is.2 by.stops, subst (IsTold r) is.2 (told_at 6 six (λ e. omega arith)))
 
-    -- status 7 says that tables are unsafe, and by which fault
+    -- with status 7 the run stops as tables break a rule
     by_fault : r.status ≡ 7 → (a : Admission) × (fault : Fault) × Stops r (Unsafe a fault) × IsTold r (Unsafe a fault)
     by_fault seven =
         let is = unsafe_of halt (status_at 7 seven (λ e. omega arith)) in
         (is.0, is.1, subst (Stops r) is.2 by.stops, subst (IsTold r) is.2 (told_at 7 seven (λ e. omega arith)))
 
-    -- nothing goes to the first sink
+    -- nothing was written to `out`
     by_silent : Untouched r.out
     by_silent = elim by.ending [ inl t ↦ t.out | inr m ↦ m.out ]
 
+    -- given that it asks for a graph's tables
     module _ (a : Admission) (asks : AsksForTables r a) where
-      -- the status is that of the reason
+      -- the status is that of the halt, as no sink met a fault
       here : r.status ≡ status_of halt
       here = told_here (tables_faultless a asks)
 
@@ -449,7 +457,7 @@ module _ (r : Ran) where
         | inr (inr shows) ↦ inl (here ∙ shows.0)
       ]
 
-      -- the refusal for width
+      -- a halt with status 6, and an item that is too wide, are a refusal as too wide
       refused_as_wide : (status_of halt ≡ 6) × ((x : ℕ) × IsWide a.graph (first_order a.graph a.order) x) →
           IsRefusedAsWide r a
       refused_as_wide w = record { status = here ∙ w.0; item = w.1.0; wide = w.1.1 }
@@ -463,7 +471,7 @@ module _ (r : Ran) where
         | inr (inr wide) ↦ inr (refused_as_wide wide)
       ]
 
-      -- one that is late gives status 5 or 8, or is refused as too wide
+      -- a graph that is late gives status 5 or 8, or is refused as too wide
       by_late : IsLate a.graph a.order → ((r.status ≡ 5) ⊎ (r.status ≡ 8)) ⊎ IsRefusedAsWide r a
       by_late is_late = elim (tables_left a asks halt by.stops) [
         | inl e ↦ inl (inr (here ∙ e))
@@ -471,8 +479,9 @@ module _ (r : Ran) where
         | inr (inr wide) ↦ inr (refused_as_wide wide)
       ]
 
+    -- given that it asks to judge tables for a graph
     module _ (a : Admission) (t : Tables) (asks : AsksVerdict r a t) where
-      -- the status is that of the reason
+      -- the status is that of the halt, as no sink met a fault
       here_too : r.status ≡ status_of halt
       here_too = told_here (check_faultless a t asks)
 
@@ -484,7 +493,7 @@ module _ (r : Ran) where
         | inr (inr broken) ↦ absurd (differs broken.1)
       ]
 
-      -- valid tables give status 0 or 8
+      -- valid tables of the graph's head give status 8, as a run that stops has no output
       by_safe : IsHeadFor a.graph t.head → IsValid a.graph t.nodes → (r.status ≡ 0) ⊎ (r.status ≡ 8)
       by_safe head valid = elim (verdict_left a t asks halt by.stops) [
         | inl memory ↦ inr (here_too ∙ ap status_of memory)
@@ -500,7 +509,7 @@ module _ (r : Ran) where
         | inr (inr broken) ↦ inl (here_too ∙ broken.0)
       ]
 
-    -- a node that a name has gives status 0 or 8
+    -- a name that some node has gives status 8
     by_named : (pack name : Text) (t : Tables) (node : ℕ) → Asks r (Node pack name) (tables_value t ∷ []) →
         first_named t.head name ≡ Some node →
         (r.status ≡ 0) ⊎ (r.status ≡ 8)
@@ -509,7 +518,7 @@ module _ (r : Ran) where
       | inr q ↦ let k = on_tables t q.0 _ q.1 q.2 in absurd (none-some node (sym k.none ∙ named))
     ]
 
-    -- one that no name has gives status 4 or 8
+    -- a name that no node has gives status 4 or 8
     by_nameless : (pack name : Text) (t : Tables) → Asks r (Node pack name) (tables_value t ∷ []) →
         first_named t.head name ≡ None →
         (r.status ≡ 4) ⊎ (r.status ≡ 8)
@@ -518,7 +527,7 @@ module _ (r : Ran) where
       | inr q ↦ let k = on_tables t q.0 _ q.1 q.2 in inl (told_here asks.faultless ∙ ap status_of k.halt_is)
     ]
 
-    -- a node that no name has gives status 4 or 8 for `live` too
+    -- a name that no node has gives status 4 or 8 for `live`
     by_unfollowed : (pack name stream : Text) (t : Tables) → Asks r (Live pack name stream) (tables_value t ∷ []) →
         first_named t.head name ≡ None →
         (r.status ≡ 4) ⊎ (r.status ≡ 8)
@@ -527,7 +536,7 @@ module _ (r : Ran) where
       | inr q ↦ let k = on_tables t q.0 _ q.1 q.2 in inl (told_here asks.faultless ∙ ap status_of k.halt_is)
     ]
 
-    -- `trial` gives status 0, 3 or 8
+    -- a run of `trial` that stops has status 8, or 3 as `err` met a fault
     by_tried : (number : ℕ) → command_of r.words ≡ Some (Trial number) →
         (r.status ≡ 0) ⊎ ((r.status ≡ 3) ⊎ (r.status ≡ 8))
     by_tried number asks = elim by.ending [
@@ -535,6 +544,8 @@ module _ (r : Ran) where
       | inr muted ↦ inr (inl muted.status)
     ]
       where
+        -- the halt is that memory ran out: the words form a command, which reads no file, and whose work stops for
+        -- nothing else
         trial_memory : (number : ℕ) → command_of r.words ≡ Some (Trial number) → Stops r halt → halt ≡ Memory
         trial_memory number asks (inl words) = elim words.cause [
           | inl formless ↦ absurd (none-some (Trial number) (sym formless.1 ∙ asks))
@@ -549,7 +560,7 @@ module _ (r : Ran) where
           | inr memory ↦ memory
         ]
 
-    -- `tune` gives status 0 or 8
+    -- a run of `tune` on an admitted graph that stops has status 8
     by_tuned : (graph : Text) (a : Admission) → Asks r (Tune graph) (graph_value a ∷ []) →
         (r.status ≡ 0) ⊎ (r.status ≡ 8)
     by_tuned graph a asks = elim (stopped_by r _ _ asks.has halt by.stops) [
@@ -557,7 +568,7 @@ module _ (r : Ran) where
       | inr q ↦ absurd q.2
     ]
 
-    -- what may stop `hyper` with its parts read
+    -- if a run of `hyper` whose parts were read stops, memory ran out, or the parts are refused
     left_parts : (pairs : List Pair) (parts : List Part) → Asks r (Hyper pairs) (part_values parts) →
         HavePeriods pairs parts →
         PartsLeft parts halt
@@ -566,7 +577,7 @@ module _ (r : Ran) where
       | inr q ↦ parts_left parts halt (on_parts pairs parts q.0 (λ ps. IsNotUnrolled ps halt) q.1 periods q.2)
     ]
 
-    -- parts that have a graph give its text, or status 8
+    -- parts that have a graph of all their instances give status 8
     by_unrolled : (pairs : List Pair) (parts : List Part) (g : Graph) → Asks r (Hyper pairs) (part_values parts) →
         HavePeriods pairs parts → ShowsUnrolled parts (Ok g) →
         (r.status ≡ 0) ⊎
@@ -576,7 +587,7 @@ module _ (r : Ran) where
       | inr refused ↦ absurd (not_both parts g refused.1.0 made refused.1.1 refused.1.2)
     ]
 
-    -- parts that have none give status 4 or 8
+    -- parts that were read give status 4 or 8
     by_apart : (pairs : List Pair) (parts : List Part) → Asks r (Hyper pairs) (part_values parts) →
         HavePeriods pairs parts →
         (r.status ≡ 4) ⊎ (r.status ≡ 8)
@@ -585,7 +596,8 @@ module _ (r : Ran) where
       | inr refused ↦ inl (told_here asks.faultless ∙ refused.0)
     ]
 
-    -- a run that ends by a reason to stop keeps what each status says
+    -- A run that stops keeps what each status says. Its status is that of its halt, or 3, and what its files say leaves
+    -- only such halts.
     pub lawful_by : IsLawful r
     lawful_by = record {
       -- how the run ends, and what each status says of it

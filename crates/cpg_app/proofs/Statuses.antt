@@ -1,4 +1,4 @@
--- What the status of a halt says.
+-- What the status of a halt says: a status from 1 to 7 but 3 is that of one kind of halt.
 use Rattle.std.proofs.Common.{ℕ, ◌≡◌, ◌≤◌, true, List, [], ◌∷◌, Option, Some, None, refl, ap, arith, inl, inr}
 use Rattle.std.specs.Prelude.{◌⊎◌}
 use Rattle.cpg_base.specs.Graph.{Graph}
@@ -153,7 +153,7 @@ of_bytes (Some g) LogFile bytes h none = as_halt h _ none.halt_is (omega arith)
 of_bytes None ScenarioFile bytes h none = absurd none
 of_bytes None LogFile bytes h none = absurd none
 
--- the fetch failed, or a later status comes
+-- a file stops a run as its fetch failed, or with a status from 4 on
 of_file : (g : Option Graph) (f : File) (fetch : Fetch) (h : Halt) → StopsAt g f fetch h →
     ((h ≡ Read) × (fetch.failed ≡ true)) ⊎ (4 ≤ status_of h)
 of_file g f fetch h (inl unread) = inl (unread.halt_is, unread.failed)
@@ -187,11 +187,11 @@ of_compile a (CompileFault.TooWide x) = omega arith
 of_compile a (CompileFault.Late s p time) = omega arith
 of_compile a CompileFault.OutOfMemory = omega arith
 
--- what leaves a graph without tables has a status from 4 on
+-- the halt by which a compile fails has a status from 4 on
 of_made : (a : Admission) (h : Halt) → IsUncompiled a h → 4 ≤ status_of h
 of_made a h wrong = as_halt h _ wrong.halt_is (of_compile a wrong.fault)
 
--- what stops a verdict has a status from 4 on
+-- the halt by which a check stops has a status from 4 on
 of_verdict : (a : Admission) (t : Tables) (h : Halt) → StopsVerdict a t h → 4 ≤ status_of h
 of_verdict a t h (inl other) = as_halt h _ other.halt_is (omega arith)
 of_verdict a t h (inr broken) = as_halt h _ broken.halt_is (omega arith)

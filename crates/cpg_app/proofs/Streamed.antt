@@ -40,22 +40,23 @@ abbrev pub is_live : Option Command → Bool
 is_live (Some (Live pack name stream)) = true
 is_live other = false
 
--- the node that `live` names
+-- the name of the node in a command of `live`, or the empty text for any other
 abbrev name_in : Option Command → Text
 name_in (Some (Live pack name stream)) = name
 name_in other = []
 
+-- given a run that follows a stream
 module _ (r : Ran) (f : Follows r) where
-  -- words of a command other than `live` follow no stream
+  -- its words aren't those of a command other than `live`
   pub other_words : (c : Option Command) → is_live c ≡ false → command_of r.words ≡ c → ⊥
   other_words c off e = true≢false (ap is_live (sym f.words ∙ e) ∙ off)
 
-  -- a run that follows a stream doesn't ask for tables
+  -- it doesn't ask for a graph's tables
   not_shown : (a : Admission) → AsksForTables r a → ⊥
   not_shown a (graph, inl asks) = other_words (Some (Show graph)) refl asks.has.words
   not_shown a (graph, inr asks) = other_words (Some (Compile graph)) refl asks.has.words
 
-  -- a run that follows a stream doesn't ask for a verdict
+  -- it doesn't ask to judge tables
   not_judged : (a : Admission) (t : Tables) → AsksVerdict r a t → ⊥
   not_judged a t (graph, pack, inl asks) = other_words (Some (Check graph pack)) refl asks.has.words
   not_judged a t (graph, pack, inr (inl play)) =
@@ -65,46 +66,47 @@ module _ (r : Ran) (f : Follows r) where
 
 -- ---- one stream
 
--- the last fetch, or a default
+-- the last fetch of a history, or d if there is none
 head_or : Fetch → List Fetch → Fetch
 head_or d [] = d
 head_or d (f ∷ fs) = f
 
--- the last but one, or a default
+-- the last fetch but one, or d if there is none
 second_or : Fetch → List Fetch → Fetch
 second_or d [] = d
 second_or d (f ∷ fs) = head_or d fs
 
+-- given two accounts of a run that follows a stream; they agree
 module _ (r : Ran) (f g : Follows r) where
-  -- two accounts of the run have the same fetches
+  -- both have the same fetches
   histories : f.fetch ∷ f.read ∷ r.shelf.old.history ≡ g.fetch ∷ g.read ∷ r.shelf.old.history
   histories = sym f.history ∙ g.history
 
-  -- two ways in which a run follows a stream have the same fetch
+  -- both have the same fetch of the stream, which is the last
   pub same_fetch : f.fetch ≡ g.fetch
   unfolding head_or
   same_fetch = ap (head_or f.fetch) histories
 
-  -- two accounts of the run read the same pack
+  -- both have the same fetch of the pack, which is the last but one
   same_read : f.read ≡ g.read
   unfolding head_or second_or
   same_read = ap (second_or f.read) histories
 
-  -- two accounts of the run read the same tables
+  -- both have the same tables, as the same bytes say them
   same_tables : g.tables ≡ f.tables
   same_tables = says_alike None PackFile f.read.given (tables_value f.tables) (tables_value g.tables) f.spelled.says
       (subst (λ (e : Fetch). Says None PackFile e.given (tables_value g.tables)) (sym same_read) g.spelled.says)
 
-  -- they name the same node
+  -- both have the same name, as it is in the words
   same_name : f.name ≡ g.name
   same_name = ap name_in (sym f.words ∙ g.words)
 
-  -- two accounts of the run follow the same node
+  -- both have the same node: the first that has the name in the tables
   same_node : g.node ≡ f.node
   same_node = same_Some g.node f.node (sym g.named ∙ (ap (λ (t : Tables). first_named t.head g.name) same_tables
       ∙ (ap (first_named f.tables.head) (sym same_name) ∙ f.named)))
 
-  -- two accounts of the run have the same table of the node
+  -- both have the same table of the node
   pub same_table : table_of g ≡ table_of f
   same_table = ap (λ (t : Tables). table_at t.nodes g.node) same_tables ∙ ap (table_at f.tables.nodes) same_node
 
@@ -113,7 +115,7 @@ module _ (r : Ran) (f g : Follows r) where
   same_end = ap (λ (e : Fetch). stream_end (table_of g) e.given) (sym same_fetch)
       ∙ ap (λ t. stream_end t f.fetch.given) same_table
 
--- if its stream didn't fail, no fetch did
+-- if the fetch of the stream didn't fail, no fetch of the run did: that of the pack, which was read, didn't either
 sound_all : (r : Ran) (f : Follows r) → f.fetch.failed ≡ false → AreSound r.shelf.old.history r.shelf.new.history
 sound_all r f sound =
     let past = f.read ∷ r.shelf.old.history in
@@ -127,12 +129,13 @@ wrote_all r f lines wrote = record { faultless = wrote.faultless; taken = wrote.
 
 -- ---- followed to its close
 
+-- given a run that follows its stream to the close
 module _ (r : Ran) (ends : EndsAtClose r) where
   -- what the run follows
   abbrev closed_stream : Follows r
   closed_stream = ends.follows
 
-  -- a stream that was followed to its close gives no status but 0
+  -- the run has no status but 0
   zero_alone : (n : ℕ) → r.status ≡ n → n ≢ 0 → ⊥
   zero_alone n e other = other (sym e ∙ ends.status)
 
@@ -183,7 +186,7 @@ module _ (r : Ran) (ends : EndsAtClose r) where
 
 -- ---- not followed to its close
 
--- under another status than that of a fault, the wanted one
+-- if bytes were sent to a sink, and the status is n and not 3, the wanted status was n
 status_sent : (sink : SinkSeen) (status wanted n : ℕ) (bytes : Text) → Sent sink status wanted bytes → status ≡ n →
     n ≢ 3 → wanted ≡ n
 status_sent sink status wanted n bytes sent e other = sym (sent.whole (λ three. other (sym e ∙ three))).0 ∙ e
@@ -197,6 +200,7 @@ said_status r Broken.Sink said = inr (inl said.0)
 said_status r (Broken.Refused fault) said =
     elim (cases_eq r.status 3) [ inl three ↦ inr (inl three) | inr other ↦ inr (inr (said.whole other).0) ]
 
+-- given a run that follows its stream, but not to the close
 module _ (r : Ran) (ends : EndsInStream r) where
   -- what the run follows
   abbrev stream : Follows r
@@ -210,7 +214,7 @@ module _ (r : Ran) (ends : EndsInStream r) where
   abbrev table : NodeTable
   table = table_of stream
 
-  -- no other status comes
+  -- the run has no status but 2, 3 and 4
   other_status : (n : ℕ) → r.status ≡ n → n ≢ 2 → n ≢ 3 → n ≢ 4 → ⊥
   other_status n e a b c = elim (said_status r ends.broken ends.said) [
     | inl two ↦ a (sym e ∙ two)
@@ -234,7 +238,7 @@ module _ (r : Ran) (ends : EndsInStream r) where
   faultless_stream Broken.Sink breaks said other = absurd (other said.0)
   faultless_stream (Broken.Refused fault) breaks said other = (breaks.2.faultless, (said.whole other).1.faultless)
 
-  -- status 4 says that the stream was refused
+  -- with status 4 the stream was refused
   refused_stream : (broken : Broken) → Breaks head table (stream_of r stream) broken → IsSaid r.err r.status broken →
       r.status ≡ 4 →
       IsRefusedStream r
@@ -244,7 +248,7 @@ module _ (r : Ran) (ends : EndsInStream r) where
   refused_stream (Broken.Refused fault) breaks said four = record
       { follows = stream; fault = fault; lines = breaks.0; refused = breaks.1; out = wrote_all r stream breaks.0 breaks.2; err = (said.whole (λ three. omega arith)).1 }
 
-  -- status 2 says that the stream couldn't be fetched
+  -- with status 2 the shelf met a fault in the stream
   unread_stream : (broken : Broken) → Breaks head table (stream_of r stream) broken → IsSaid r.err r.status broken →
       r.status ≡ 2 →
       IsUnreadStream r
@@ -265,12 +269,12 @@ module _ (r : Ran) (ends : EndsInStream r) where
   sound_stream Broken.Sink breaks said = inl (sound_all r stream breaks.1.sound)
   sound_stream (Broken.Refused fault) breaks said = inl (sound_all r stream breaks.1.sound)
 
-  -- a stream that couldn't be fetched is a fetch that failed
+  -- if the shelf met a fault in the stream, the last fetch failed
   failed_stream : IsUnreadStream r → IsFailed r
   failed_stream unread = let f = unread.follows in
       record { fetch = f.fetch; past = f.read ∷ r.shelf.old.history; last = f.history; failed = unread.lawful.failed }
 
-  -- with a status other than 0 and 3 the first sink is untouched, or the stream failed or was refused
+  -- with a status other than 0 and 3, the shelf met a fault in the stream, or the stream was refused
   silent : r.status ≢ 0 → r.status ≢ 3 →
       Untouched r.out ⊎ (((r.status ≡ 2) × IsUnreadStream r) ⊎ ((r.status ≡ 4) × IsRefusedStream r))
   silent zero other = elim (said_status r ends.broken ends.said) [
@@ -279,7 +283,8 @@ module _ (r : Ran) (ends : EndsInStream r) where
     | inr (inr four) ↦ inr (inr (four, refused_stream ends.broken ends.breaks ends.said four))
   ]
 
-  -- without faults the status is that of the stream's end
+  -- Without faults the status is that of the stream's end. By why the stream isn't followed: only a refusal is no
+  -- fault.
   ended : (g : Follows r) → IsFaultless r → g.fetch.failed ≡ false → (broken : Broken) →
       Breaks head table (stream_of r stream) broken →
       IsSaid r.err r.status broken →

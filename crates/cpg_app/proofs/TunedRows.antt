@@ -12,7 +12,8 @@ use Rattle.cpg_tune.proofs.Kept.{items_same}
 use Rattle.cpg_app.specs.Tunes.{IsJudged}
 use Rattle.cpg_outputs.specs.Tunes.{IsNamedRow}
 
--- an item of the tuned graph is one of the graph
+-- If the answer of a row names an item, the graph has it: with other parts and another fault number it has as many
+-- items.
 row_named : (g : Graph) (faults : ℕ) (judged : Judged) → IsJudged (row_graph g faults) judged → IsNamedRow g judged
 row_named g faults (Worst finish) is = tt
 row_named g faults (Late finish) is = tt

@@ -12,7 +12,7 @@ use Rattle.cpg_hyper.specs.Refusals.{Exceeds, FailsFirst, HasFewEnough, HasShort
 use Rattle.cpg_hyper.specs.Refusals.{FitsPeriod, GivesNoOrder, ShowsUnrolled}
 use Rattle.cpg_hyper.specs.Unrolled.{first_graph, unrolled}
 
--- if each part passes a test, none is the first that fails it
+-- if a fact holds of each part, no part is the first of which it doesn't
 none_fails : (P : ℕ → Part → Type 0) (parts : List Part) (p : ℕ) → HoldsOfEach P parts → FailsFirst P parts p → ⊥
 none_fails P [] p holds fails = let l = fails.within in omega (arith, l)
 none_fails P (d ∷ parts) p holds fails = fails.fails d (holds p d fails.within)
@@ -30,7 +30,8 @@ enough What.Conditions g over few = let l = few.conditions in let m = over.2 in 
 one_hyperperiod : (parts : List Part) (n m : ℕ) → IsHyperperiod parts n → IsHyperperiod parts m → n ≡ m
 one_hyperperiod parts n m a b = dvd_antisymm (a.least m b.common) (b.least n a.common)
 
--- parts that have a common graph aren't rejected
+-- Parts that have a graph of all their instances aren't refused. By the fault: what it says is just what the graph
+-- excludes.
 pub not_both : (parts : List Part) (g : Graph) (fault : HyperFault) → ShowsUnrolled parts (Ok g) →
     ShowsUnrolled parts (Err fault) → fault ≢ OutOfMemory → ⊥
 not_both parts g (HyperFault.Range p) made refused other =

@@ -9,7 +9,7 @@ use Rattle.cpg_base.specs.Graph.{Graph, process_count, condition_count}
 use Rattle.cpg_base.specs.Scenario.{IsScenario}
 use Rattle.cpg_app.specs.Trial.{true_scenario}
 
--- one more value
+-- setting the first of the false values after c true ones gives one true value more; by induction on c
 one_true : (c n : ℕ) →
     slice_set (replicate c true ++ replicate (suc n) false) c true ≡ replicate (suc c) true ++ replicate n false
 one_true zero n = refl

@@ -32,12 +32,12 @@ pub if_ok : {T E : Type 0} {P Q : T → Type 0} (r : Result T E) → ((x : T) �
 if_ok (Ok x) f p = f x p
 if_ok (Err e) f p = p
 
--- the same holds for the error of a result
+-- if one fact of an error implies another, a result whose error has the first has the second
 pub if_err : {T E : Type 0} {P Q : E → Type 0} (r : Result T E) → ((e : E) → P e → Q e) → IfErr r P → IfErr r Q
 if_err (Ok x) f p = p
 if_err (Err e) f p = f e p
 
--- what follows from each text that is put out follows of the output
+-- if a fact of a text implies another, an output whose text has the first has the second; by the kind of output
 put_on : {P Q : Text → Type 0} (o : Output) → ((text : Text) → P text → Q text) → Puts o P → Puts o Q
 put_on (Lines text) f p = f (string_bytes text) p
 put_on (Shown made) f p = f (shown_by made.admitted.graph made.rows) p
@@ -45,16 +45,18 @@ put_on (OfNode tables node) f p = (p.0, f (node_text tables node) p.1)
 put_on (Pack made) f p = (p.0, f (packed_by made.admitted.graph made.rows) p.1)
 put_on (Stream follower path) f p = p
 
+-- given a command, the values of its files, and the result of the work
 module _ (c : Command) (vs : List Value) (r : Result Output Halt) where
-  -- of a command that is known
+  -- what answers a command that equals c answers c
   known : (d : Command) → c ≡ d → IfOk r (Answers d vs) → IfOk r (Answers c vs)
   known d e = subst (λ k. IfOk r (Answers k vs)) (sym e)
 
-  -- what follows from each text follows of an answer that puts it out
+  -- the same as `put_on`, for a result
   puts : {P Q : Text → Type 0} → ((text : Text) → P text → Q text) → IfOk r (λ o. Puts o P) → IfOk r (λ o. Puts o Q)
   puts f = if_ok r (λ o. put_on o f)
 
-  -- an answer to the inputs of `show` is an answer to the command
+  -- What is put out by the inputs of `show` answers the command, which is `show`, as the inputs say. So it is for each
+  -- command below.
   pub of_show : (a : Admission) → AreInputs c vs (Inputs.Graph a Purpose.Show) →
       IfOk r (λ o. Puts o (IsMadeOf a shown)) →
       IfOk r (Answers c vs)
@@ -117,14 +119,16 @@ module _ (c : Command) (vs : List Value) (r : Result Output Halt) where
 
   -- ---- halts
 
-  -- what stops a command stops the same command named otherwise
+  -- a halt of a command that equals c is one of c
   stop_as : (d : Command) → c ≡ d → IfErr r (OrMemory (StopsWork d vs)) → IfErr r (OrMemory (StopsWork c vs))
   stop_as d e = subst (λ k. IfErr r (OrMemory (StopsWork k vs))) (sym e)
 
-  -- what follows from each halt follows of an answer that stops for it
+  -- if a fact of a halt implies another, a result whose halt has the first, or is that memory ran out, has the second,
+  -- or so
   stops : {P Q : Halt → Type 0} → ((h : Halt) → P h → Q h) → IfErr r (OrMemory P) → IfErr r (OrMemory Q)
   stops {P = P} {Q = Q} f = if_err r (λ h so. go h so)
     where
+      -- by whether memory ran out
       go : (h : Halt) → OrMemory P h → OrMemory Q h
       go h (inl p) = inl (f h p)
       go h (inr memory) = inr memory
@@ -139,7 +143,7 @@ module _ (c : Command) (vs : List Value) (r : Result Output Halt) where
       IfErr r (OrMemory (StopsWork c vs))
   stops_compile a (graph, e, is) err = stop_as (Compile graph) e (if_err r (λ h wrong. inl (a, is, wrong)) err)
 
-  -- lack of memory may stop the work of any command
+  -- that memory ran out is a halt of the work of any command
   pub stops_memory : IfErr r (λ h. h ≡ Memory) → IfErr r (OrMemory (StopsWork c vs))
   stops_memory err = if_err r (λ h memory. inr memory) err
 
@@ -212,7 +216,7 @@ text_of (Hyper pairs) vs o is answers = answers
 text_of (Tune graph) vs o is answers = answers
 text_of (Audit graph pack log) vs o is answers = answers
 
--- a stream is of a command that follows one
+-- the command is `live`, on the stream with this path, and the follower is the node that it names in the tables
 pub record IsLive (c : Command) (vs : List Value) (f : Follower) (path : Text) : Type 0 where
   pub pack : Text
   pub name : Text
@@ -221,7 +225,7 @@ pub record IsLive (c : Command) (vs : List Value) (f : Follower) (path : Text) :
   pub said : vs ≡ tables_value tables ∷ []
   pub follower : IsFollower tables name f
 
--- a node that is to follow a stream is the answer of `live`, and it is the node of the given name
+-- if a node that is to follow a stream answers a command, the command is `live`, and this is its node; by the command
 pub live_of : (c : Command) (vs : List Value) (f : Follower) (path : Text) → Answers c vs (Stream f path) →
     IsLive c vs f path
 live_of (Show graph) vs f path answers = absurd answers

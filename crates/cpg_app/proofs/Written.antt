@@ -29,7 +29,8 @@ pub none_of : (sink : SinkSeen) (bytes : List ℕ) (fault : WriteFault) → faul
     IsWritten sink (Err fault) bytes → Untouched sink
 none_of sink bytes fault is written = subst (λ f. IsWritten sink (Err f) bytes) is written
 
--- what a write took, with its faults, is what was written of the bytes
+-- By its result, a write took the bytes whole without a fault, a proper part of them with one, or nothing, as memory
+-- ran out. So the bytes are written as its result says.
 pub packed : (old new : SinkState) (bytes : List ℕ) (result : Result Unit WriteFault) →
     OnOk result (Took old.taken new.taken bytes) →
     OnOk result (new.faults ≡ old.faults) →

@@ -21,8 +21,9 @@ use Rattle.cpg_app.specs.Lawful.{Asks, AsksVerdict, IsLawful}
 use Rattle.cpg_app.specs.Outputs.{IsMadeOf, shown, packed as packed_of}
 use Rattle.cpg_outputs.specs.Told.{Whole}
 
--- a command ran on a graph file that says this graph, and wrote these bytes, whole
+-- a run of a command on a graph file that says this graph wrote these bytes, whole
 pub record HasMade (asked : Text → Command) (r : Ran) (g : Graph) (made : Text) : Type 0 where
+  -- what the run's exit status says is so
   pub lawful : IsLawful r
   -- the graph's file, and the graph as it is admitted
   pub graph : Text
@@ -34,22 +35,24 @@ pub record HasMade (asked : Text → Command) (r : Ran) (g : Graph) (made : Text
   pub done : r.status ≡ 0
   pub wrote : Whole r.out made
 
--- `show` wrote the text of the graph's tables
+-- a run of `show` wrote this text for the graph
 abbrev pub HasShown : Ran → Graph → Text → Type 0
 HasShown r g text = HasMade Show r g text
 
--- `compile` wrote the pack of the graph's tables
+-- a run of `compile` wrote this pack for the graph
 abbrev pub HasPacked : Ran → Graph → Text → Type 0
 HasPacked r g pack = HasMade Compile r g pack
 
--- a run succeeds, or is out of memory
+-- a run succeeds (status 0), or memory runs out (8)
 abbrev pub EndsWell : Ran → Type 0
 EndsWell r = (r.status ≡ 0) ⊎ (r.status ≡ 8)
 
--- a fetch gave these bytes, which are the whole file
+-- a fetch gave these bytes, which are the whole file, and met no fault
 pub record GaveAll (fetch : Fetch) (bytes : Text) : Type 0 where
   pub given : fetch.given ≡ bytes
+  -- it came to the end of the file
   pub ended : fetch.ended ≡ true
+  -- the shelf met no fault
   pub sound : fetch.failed ≡ false
 
 -- commands that read packs accept this pack of a graph, if no sink meets a fault
@@ -89,20 +92,20 @@ abbrev pub FrontsAreRefused : Type 0
 FrontsAreRefused =
     (r : Ran) (g : Graph) (pack : Text) (n : ℕ) → HasPacked r g pack → n < length pack → IsCutShort (take n pack)
 
--- A text and a pack come from two compilations of one admitted graph. These ask the same in every scenario.
+-- A text and a pack are of two compilations of one admitted graph. The tables of both ask the same in every scenario.
 pub record AreOfOneGraph (g : Graph) (text pack : Text) : Type 0 where
-  -- the graph, as it is admitted
+  -- the graph with its order and guards, as it is admitted
   pub admission : Admission
   pub of : admission.graph ≡ g
   pub admitted : IsAdmitted admission.graph admission.order admission.guards
-  -- the text is made of one compilation
+  -- the text is that of one compilation's tables
   pub shows : IsMadeOf admission shown text
-  -- the pack is made of another
+  -- the pack is that of a compilation's tables, which may be another
   pub packs : IsMadeOf admission packed_of pack
-  -- in each scenario both have the same times
+  -- in each scenario the tables of both have each item at the same time
   pub same : AskTheSame admission.graph shows.compiled packs.compiled
 
--- what `show` printed and what `compile` wrote for a graph belong together
+-- what a run of `show` printed for a graph and what a run of `compile` wrote for it are of one graph
 abbrev pub ShowAndCompileAgree : Type 0
 ShowAndCompileAgree =
     (r q : Ran) (g : Graph) (text pack : Text) → HasShown r g text → HasPacked q g pack → AreOfOneGraph g text pack

@@ -41,7 +41,7 @@ pub record IsFaultless (r : Ran) : Type 0 where
   pub out : Rose r.out.before r.out.now → ⊥
   pub err : Rose r.err.before r.err.now → ⊥
 
--- the files of a command say these values, and no sink met a fault
+-- the run's words are this command, its files say these values, and no sink met a fault
 pub record Asks (r : Ran) (command : Command) (values : List Value) : Type 0 where
   pub has : Has r command values
   pub faultless : IsFaultless r
@@ -51,65 +51,76 @@ abbrev pub AsksForTables : Ran → Admission → Type 0
 AsksForTables r a =
     (graph : Text) × (Asks r (Show graph) (graph_value a ∷ []) ⊎ Asks r (Compile graph) (graph_value a ∷ []))
 
--- The runs that judge tables for a graph. They play the tables (`AsksPlay`), audit a log by them (`AsksAudit`), or do
--- either of these or check the tables (`AsksVerdict`).
+-- the words ask to play the tables for the graph, and no sink met a fault
 pub record AsksPlay (r : Ran) (graph pack : Text) (a : Admission) (t : Tables) : Type 0 where
+  -- the scenario file
   pub scenario : Text
+  -- the number that drives the play
   pub turns : ℕ
+  -- what the scenario file says
   pub played : Played
   pub asks : Asks r (Play graph pack scenario turns) (graph_value a ∷ tables_value t ∷ played_value played ∷ [])
 
 -- the words ask to audit a log of the graph by the tables, and no sink met a fault
 pub record AsksAudit (r : Ran) (graph pack : Text) (a : Admission) (t : Tables) : Type 0 where
+  -- the file of the log
   pub path : Text
   pub log : Log
   pub asks : Asks r (Audit graph pack path) (graph_value a ∷ tables_value t ∷ log_value log ∷ [])
 
--- the words ask to check the tables, to play them, or to audit a log by them
+-- the words ask to judge the tables for the graph: to check them, to play them, or to audit a log by them
 abbrev pub AsksVerdict : Ran → Admission → Tables → Type 0
 AsksVerdict r a t = (graph : Text) × (pack : Text) × (Asks r (Check graph pack) (graph_value a ∷ tables_value t ∷ []) ⊎
     (AsksPlay r graph pack a t ⊎ AsksAudit r graph pack a t))
 
--- the last fetch failed
+-- the run's last fetch failed
 pub record IsFailed (r : Ran) : Type 0 where
+  -- the last fetch, and the history before it
   pub fetch : Fetch
   pub past : List Fetch
   pub last : r.shelf.new.history ≡ fetch ∷ past
   pub failed : fetch.failed ≡ true
 
--- the status of a stream's end: 0 at its close, and 4 if the stream is rejected
+-- the status by a stream's end: 0 if it is its close, and 4 if the stream is rejected
 abbrev pub status_of_end : Result ℕ StreamFault → ℕ
 status_of_end (Ok time) = 0
 status_of_end (Err fault) = 4
 
--- a stream was followed to its close, and all its lines were written
+-- a stream was followed to its close, and the lines of all its records were written
 pub record IsClosedStream (r : Ran) : Type 0 where
   pub follows : Follows r
+  -- the lines of all its records, that of the close among them
   pub lines : Text
   pub closed : IsClosed follows.tables.head (table_of follows) follows.fetch lines
   pub out : Whole r.out lines
   pub err : Untouched r.err
 
--- the shelf met a fault in a stream; the lines of the records before it were written
+-- the shelf met a fault in a stream, and the lines of the records before it were written
 pub record IsUnreadStream (r : Ran) : Type 0 where
   pub follows : Follows r
+  -- the lines of the records before the fault, all of them lawful
   pub lines : Text
   pub lawful : IsLawfulSoFar follows.tables.head (table_of follows) follows.fetch lines
   pub out : Whole r.out lines
+  -- `err` took the line that says that a file couldn't be read
   pub err : Whole r.err (line_of Read)
 
--- a stream is rejected; the lines of the records before were written
+-- a stream was rejected, and the lines of the lawful records before the place of the fault were written
 pub record IsRefusedStream (r : Ran) : Type 0 where
   pub follows : Follows r
+  -- why it is rejected
   pub fault : StreamFault
+  -- the lines of the records before the fault
   pub lines : Text
   pub refused : IsRefused follows.tables.head (table_of follows) follows.fetch fault lines
   pub out : Whole r.out lines
+  -- `err` took the line that says the fault
   pub err : Whole r.err (fault_line fault)
 
 -- the status is 6, and some item is too wide by its views under the first order
 pub record IsRefusedAsWide (r : Ran) (a : Admission) : Type 0 where
   pub status : r.status ≡ 6
+  -- the item, which is too wide under the order that is tried first
   pub item : ℕ
   pub wide : IsWide a.graph (first_order a.graph a.order) item
 

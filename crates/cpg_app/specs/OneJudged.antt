@@ -1,4 +1,4 @@
--- A graph's compile has one answer.
+-- A graph has one answer.
 use Rattle.std.proofs.Common.{ℕ, ◌≡◌, ◌∙◌, List, sym, ap, subst, inl, inr}
 use Rattle.cpg_base.specs.Graph.{Graph}
 use Rattle.cpg_base.specs.WellFormed.{WellFormed}
@@ -18,12 +18,14 @@ use Rattle.cpg_app.specs.Tunes.{IsCompileAnswer, IsJudged}
 -- given a well-formed graph with its urgency order and its first order, both topological
 module _ (g : Graph) (w : WellFormed g) (urgency : List ℕ) (top : IsTopological g urgency)
     (first_top : IsTopological g (first_order g urgency)) where
+  -- The order of a compilation is topological: it is the track order or the first order.
   order_topological : (c : Compiled) → IsCompilation g urgency c → IsTopological g c.order
   order_topological c is = elim is.compiled.taken [
     | inl preferred ↦ order_of_tracks_topological g w c.order preferred.track
     | inr taken ↦ subst (IsTopological g) (sym taken.0) first_top
   ]
 
+  -- Two compilations have one greatest finish: they have one order, under which it is measured.
   one_worst : (c d : Compiled) → IsCompilation g urgency c → IsCompilation g urgency d → c.built.worst ≡ d.built.worst
   one_worst c d x y =
       let same : c.order ≡ d.order = one_compiled g w urgency top first_top c.order d.order x.compiled y.compiled in
@@ -33,7 +35,7 @@ module _ (g : Graph) (w : WellFormed g) (urgency : List ℕ) (top : IsTopologica
       (one_measure g w urgency c.order (order_topological c x) c.built.excess c.built.worst d.built.excess d.built.worst
       (measured g urgency c.order c.built x.built) other).1
 
-  -- by the two answers: equal kinds give equal values, and different kinds rule each other out
+  -- Two answers of a compile are equal. If their kinds are, so are their values; different kinds rule each other out.
   one_answer : (a b : Judged) → IsCompileAnswer g urgency a → IsCompileAnswer g urgency b → a ≡ b
   one_answer (Worst m) (Worst n) x y = ap Worst (sym x.3 ∙ (one_worst x.1 y.1 x.2 y.2 ∙ y.3))
   one_answer (Worst m) (Late n) x y =
@@ -47,7 +49,7 @@ module _ (g : Graph) (w : WellFormed g) (urgency : List ℕ) (top : IsTopologica
   one_answer (Wide i) (Late n) x y = absurd (y.0 i x.wide)
   one_answer (Wide i) (Wide j) x y = ap Wide (one_wide g w urgency top first_top i j x y)
 
--- a graph has one judgement
+-- two answers for a graph are equal, as its urgency order is one
 pub one_judged : (g : Graph) (a b : Judged) → IsJudged g a → IsJudged g b → a ≡ b
 one_judged g a b x y =
     let same : y.order ≡ x.order = one_urgency_order g y.order x.order y.admitted.urgency x.admitted.urgency in

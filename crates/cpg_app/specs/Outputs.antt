@@ -44,51 +44,60 @@ use Rattle.cpg_app.specs.Trial.{IsTrial}
 use Rattle.cpg_outputs.specs.Trials.{trial_text}
 use Rattle.cpg_app.specs.Tunes.{IsTuningText}
 
--- Tables that keep the ten rules, and what follows for the nodes that have them. It holds in every scenario, for all
--- lengths of executions and for every order of turns. Each node starts and sends just what is due, in order and in
--- time. It can always go on, and what it does doesn't depend on how early an execution ends.
+-- tables that keep the ten rules, and what follows in every scenario, for all lengths of executions and all orders of
+-- turns
 pub record AreSafe (g : Graph) (tables : List NodeTable) : Type 0 where
+  -- they keep the ten rules
   pub valid : IsValid g tables
+  -- each node starts and sends just what is due, in order and in time
   pub correct : IsCorrect g tables
+  -- a play can always go on
   pub lively : IsLively g tables
+  -- what nodes do doesn't depend on how early an execution ends
   pub steady : IsSteady g tables
+  -- nodes reach the planned ends
   pub planned : EndsAsPlanned g tables
 
--- Tables that are a pack of the graph. Their head allows each row: its cubes have lawful literals with rising
--- variables, none of them whole, and its times are below 2^60. The spelling of the tables is short enough to be read
--- again.
+-- tables that can be written as a pack of the graph and read again
 pub record ArePackOf (g : Graph) (t : Tables) : Type 0 where
+  -- their head is the graph's
   pub head : t.head ≡ head_of g
+  -- Their head allows each row: its cubes have lawful literals with rising variables, none of them whole, and its times
+  -- are below 2^60.
   pub lawful : AreLawful t
+  -- their spelling is no longer than a file of a pack may be
   pub short : length (spelling t) ≤ limit_of PackFile
 
--- The bytes spell the safe tables that a compile makes of an admitted graph. No node knows more than it has seen.
+-- the bytes are those that `spell` gives for a compilation of an admitted graph, whose tables are safe
 pub record IsMadeOf (a : Admission) (spell : Graph → Compiled → Text) (bytes : Text) : Type 0 where
   pub compiled : Compiled
+  -- it is a compilation of the graph
   pub compilation : IsCompilation a.graph a.order compiled
+  -- its tables can be written as a pack and read again
   pub pack : ArePackOf a.graph compiled.built.tables
   pub safe : AreSafe a.graph compiled.built.tables.nodes
   pub spelled : bytes ≡ spell a.graph compiled
 
--- the text of tables
+-- the text of a compilation's tables
 abbrev pub shown : Graph → Compiled → Text
 shown g c = table_text g c.order c.built.tables.nodes c.built.worst
 
--- the text of tables that have these rows
+-- the same text, by the rows of the tables
 abbrev pub shown_by : Graph → BuiltRows → Text
 shown_by g r = text_of_rows g r.order r.rows.items r.worst.time
 
--- the pack of tables that have these rows
+-- the pack of a compilation's tables, by their rows
 abbrev pub packed_by : Graph → BuiltRows → Text
 packed_by g r = pack_bytes g r.rows.items
 
--- the pack of tables
+-- the pack of a compilation's tables
 abbrev pub packed : Graph → Compiled → Text
 packed g c = spelling c.built.tables
 
--- the text is that of the table of the first node of that name
+-- the text is that of the table of the first node that has this name
 pub record IsNodeText (t : Tables) (name text : Text) : Type 0 where
   pub node : ℕ
+  -- the first node that has the name
   pub named : first_named t.head name ≡ Some node
   pub spelled : text ≡ node_text t node
 
@@ -104,6 +113,7 @@ IsSafeText a t text = AreJudgedSafe a t × (text ≡ codes "safe\n")
 -- the tables that were played have the graph's head and are safe, and the text is that of the play
 pub record IsPlayedText (a : Admission) (t : Tables) (played : Played) (turns : ℕ) (text : Text) : Type 0 where
   pub judged : AreJudgedSafe a t
+  -- the scenario is played with these lengths of executions, and the number drives the play
   pub play : IsPlayText a.graph t.nodes (world_of played) turns text
 
 -- the text of the scenario that gives a log or, if there is none, the text that says so
@@ -111,11 +121,15 @@ abbrev pub given_text : Graph → Option Scenario → Text
 given_text g None = codes "impossible\n"
 given_text g (Some s) = codes "scenario " ++ scenario_text g s ++ codes "\n"
 
--- the text of the least scenario that gives a log, or, if none gives it, the text that says so
+-- the text says the least scenario that gives a log or, if none gives it, that there is none
 pub record IsAuditText (g : Graph) (order : List ℕ) (tables : List NodeTable) (log : Log) (text : Text) : Type 0 where
+  -- the scenario that the text says, or `None` if it says that there is none
   pub found : Option Scenario
+  -- what is found is the least scenario, along the urgency order, that gives the log
   pub least : IfSome found (IsLeast g order (Gives g tables log))
+  -- if nothing is found, no scenario gives the log
   pub none : IfNone found ((s : Scenario) → IsScenario g s → ¬ Gives g tables log s)
+  -- the text says what is found
   pub spelled : text ≡ given_text g found
 
 -- the tables have the graph's head and are safe, and the text is that of the audit by them
@@ -127,20 +141,23 @@ pub record IsAuditedText (a : Admission) (t : Tables) (log : Log) (text : Text) 
 abbrev pub IsUnrolledText : List Part → Text → Type 0
 IsUnrolledText parts text = (g : Graph) × ShowsUnrolled parts (Ok g) × (problem_of text ≡ Ok g)
 
--- The text is that of the figures of a trial. The tables of its graph are safe.
+-- the text is that of the figures of the number's trial, and the tables of its graph are safe
 pub record IsTrialText (number : ℕ) (text : Text) : Type 0 where
+  -- the figures, which are those of the number's trial
   pub trial : Figures
   pub is : IsTrial number trial
   pub safe : AreSafe is.admission.graph is.compiled.built.tables.nodes
   pub spelled : text ≡ trial_text number trial
 
--- the follower is the first node of that name, before its stream
+-- the follower is the first node that has this name, before its stream
 pub record IsFollower (t : Tables) (name : Text) (f : Follower) : Type 0 where
   pub node : ℕ
+  -- the first node that has the name
   pub named : first_named t.head name ≡ Some node
+  -- the follower has its table, and has been fed nothing
   pub opened : f ≡ open_follower t.head (table_at t.nodes node)
 
--- what a command puts out, given what its files say; `live` writes as it goes, and so has no such text
+-- a command puts out this text, given what its files say; `live` writes as it goes, and so has no such text
 abbrev pub PutsOut : Command → List Value → Text → Type 0
 PutsOut (Show graph) values text = OnGraph values (λ a. IsMadeOf a shown text)
 PutsOut (Compile graph) values text = OnGraph values (λ a. IsMadeOf a packed text)
@@ -153,8 +170,8 @@ PutsOut (Hyper pairs) values text = OnParts pairs values (λ parts. IsUnrolledTe
 PutsOut (Tune graph) values text = OnGraph values (λ a. IsTuningText a.graph text)
 PutsOut (Audit graph pack log) values text = OnLogged values (λ a t l. IsAuditedText a t l text)
 
--- The text or the pack that is put out is as stated. If it is a node's table, the tables have that node, and if it is a
--- pack, there are tables of its rows.
+-- The fact holds for what is put out as a text or a pack. For a node's table, the tables have that node too; for a
+-- pack, its rows can be written. What a node does on a stream isn't such an output.
 abbrev pub Puts : Output → (Text → Type 0) → Type 0
 Puts (Lines text) Is = Is (string_bytes text)
 Puts (Shown made) Is = Is (shown_by made.admitted.graph made.rows)
@@ -163,12 +180,12 @@ Puts (Pack made) Is =
     AreWritable made.admitted.graph made.rows.rows.items × Is (packed_by made.admitted.graph made.rows)
 Puts (Stream follower path) Is = ⊥
 
--- the first node of that name is to follow a stream
+-- the output is that the first node that has this name is to follow the stream
 abbrev pub Opens : Tables → Text → Text → Output → Type 0
 Opens t name stream (Stream follower path) = IsFollower t name follower × (path ≡ stream)
 Opens t name stream output = ⊥
 
--- this is the answer of a command's work on what its files say
+-- this output answers the command, given what its files say
 abbrev pub Answers : Command → List Value → Output → Type 0
 Answers (Live pack name stream) values output = OnTables values (λ t. Opens t name stream output)
 Answers command values output = Puts output (PutsOut command values)

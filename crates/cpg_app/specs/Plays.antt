@@ -14,17 +14,20 @@ use Rattle.cpg_show.specs.TraceText.{IsTraceText}
 abbrev pub world_of : Played → World
 world_of p = record { scenario = p.scenario; lengths = p.lengths }
 
--- how often a node that was asked had to wait
+-- the line that says how often a node that was asked had to wait
 abbrev pub waits_line : ℕ → Text
 waits_line waits = codes "waits " ++ decimal waits ++ codes "\n"
 
--- the nodes' trace after a play that a number drives until each is done, and how often a node that was asked had to
--- wait
+-- the text is the trace of all nodes after a play that a number drives until each is done, and the line of its waits
 pub record IsPlayText (g : Graph) (tables : List NodeTable) (w : World) (number : ℕ) (text : Text) : Type 0 where
+  -- the nodes at the end, and how often a node that was asked had to wait
   pub cluster : Cluster
   pub waits : ℕ
+  -- the number drives the play until each node is done
   pub driven : IsDriven g w number (initial_cluster g tables) cluster waits
+  -- every node has done what is due on it
   pub whole : IsWholePlay g tables w cluster
+  -- the lines of what the nodes did
   pub trace : Text
   pub traced : IsTraceText g w.lengths cluster.acts cluster.ends trace
   pub spelled : text ≡ trace ++ waits_line waits

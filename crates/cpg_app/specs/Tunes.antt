@@ -15,8 +15,9 @@ use Rattle.cpg_tune.specs.declared.judge.Judged.TheVariants.{Worst, Late, Wide}
 use Rattle.cpg_tune.specs.Tuned.{Tuning, IsTuning}
 use Rattle.cpg_outputs.specs.Tunes.{tuning_text}
 
--- The answer for a graph: the first item that is too wide by its views under the first order. If there is none, it is
--- the compile's answer: the greatest finish of the tables, or the end of a process that is late.
+-- This is the answer for a graph with this urgency order: the least item that is too wide by its views under the first
+-- order. If there is none, the compile answers: with the greatest finish of the tables, or with the end of a process
+-- that is late.
 abbrev pub IsCompileAnswer : Graph → List ℕ → Judged → Type 0
 IsCompileAnswer g urgency (Worst finish) =
     IsNarrow g (first_order g urgency) × (c : Compiled) × IsCompilation g urgency c × (c.built.worst ≡ finish)
@@ -25,15 +26,16 @@ IsCompileAnswer g urgency (Late finish) =
     ShowsCompileFault g urgency (CompileFault.Late s p finish)
 IsCompileAnswer g urgency (Wide item) = IsLeastWide g (first_order g urgency) item
 
--- the graph is admitted, and this is its answer
+-- the graph is admitted, with these orders and guards, and this is its answer
 pub record IsJudged (g : Graph) (judged : Judged) : Type 0 where
   pub order : List ℕ
   pub guards : Guards
   pub admitted : IsAdmitted g order guards
   pub answer : IsCompileAnswer g order judged
 
--- the text is that of the graph's tuning
+-- the text is that of the graph's tuning, by the answers of its compiles
 pub record IsTuningText (g : Graph) (text : Text) : Type 0 where
+  -- the tuning that the text says
   pub tuning : Tuning
   pub is_tuning : IsTuning IsJudged g tuning
   pub spelled : text ≡ tuning_text g tuning

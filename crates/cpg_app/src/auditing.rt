@@ -1,4 +1,4 @@
-//! The audit of a log.
+//! The text of an audit of a log.
 ghost use Rattle.std.specs.Prelude.{◌≡◌, IfOk, None, Some, string_bytes};
 ghost use Rattle.cpg_table.specs.Valid.{IsValid};
 ghost use Rattle.cpg_violation.specs.Heads.{IsHeadFor};
@@ -14,7 +14,7 @@ use cpg_scenario::scenario_text;
 use cpg_table::Tables;
 use std::alloc::Global;
 
-/// The line of a scenario that gives a log.
+/// Returns the line that shows a scenario that gives a log. The one error is that memory runs out.
 fn scenario_line(
     alloc: Global,
     problem: &Problem,
@@ -29,7 +29,8 @@ fn scenario_line(
     Ok(text)
 }
 
-/// The text if no scenario gives a log. The contract alone names `problem`.
+/// Returns the line that says that no scenario gives a log. Only the contract needs `problem`. The one error is that
+/// memory runs out.
 fn impossible(alloc: Global, problem: &Problem) -> Result<String, OutOfMemory>
     ensures { IfOk result (λ text. string_bytes text ≡ given_text problem.now None) }
 {
@@ -37,7 +38,8 @@ fn impossible(alloc: Global, problem: &Problem) -> Result<String, OutOfMemory>
     Ok(text)
 }
 
-/// The text of an audit: the least scenario that gives the log, or that there is none.
+/// Returns the text of an audit: the least scenario that gives the log, or that there is none. The one error is that
+/// memory runs out.
 pub fn audit_text(
     alloc: Global,
     admitted: &Admitted,

@@ -1,4 +1,4 @@
-//! How many columns tables have.
+//! Counting the columns of tables.
 ghost use Rattle.std.specs.Prelude.{◌≡◌, ◌+◌, ◌≤◌};
 ghost use Rattle.cpg_base.specs.declared.limits.TheConstants.{MOST_LOAD};
 ghost use Rattle.cpg_table.specs.Lawful.{column_count, rows_of};
@@ -6,7 +6,7 @@ ghost use Rattle.cpg_app.specs.Trial.{columns_in};
 
 use cpg_table::{NodeTable, Row, Tables};
 
-/// Adds the columns of rows.
+/// Returns the count with that of the columns of these rows added.
 fn add_columns(before: u64, rows: &[Row]) -> u64
     requires { before + column_count rows.now ≤ MOST_LOAD }
     ensures { result ≡ before + column_count rows.now }
@@ -18,7 +18,7 @@ fn add_columns(before: u64, rows: &[Row]) -> u64
     count
 }
 
-/// Adds the columns of a node's table.
+/// Returns the count with that of the columns of a node's table added.
 fn add_table(before: u64, table: &NodeTable) -> u64
     requires { before + column_count (rows_of table.now) ≤ MOST_LOAD }
     ensures { result ≡ before + column_count (rows_of table.now) }
@@ -28,7 +28,7 @@ fn add_table(before: u64, table: &NodeTable) -> u64
     add_columns(count, table.hears())
 }
 
-/// How many columns all tables have.
+/// Returns how many columns all tables have, those of hear rows too.
 pub(crate) fn column_total(tables: &Tables) -> u64
     ensures { result ≡ columns_in tables.now.nodes }
 {

@@ -6,7 +6,7 @@ use cpg_core::CompileFault;
 use cpg_refusal::Halt;
 use cpg_rules::Admitted;
 
-/// The halt of a run whose graph isn't compiled.
+/// Returns the halt of a run whose compile fails, with the graph, which the line of the halt needs for its names.
 pub fn halt_of_compile(graph: Admitted, fault: CompileFault) -> Halt
     ensures { result ≡ halt_of_compile graph fault }
 {

@@ -1,4 +1,4 @@
-//! The head of a graph's tables, without the tables.
+//! Facts about the head of a graph's tables, for callers' contracts. The functions change and return nothing.
 ghost use Rattle.std.specs.Prelude.{All};
 ghost use Rattle.cpg_base.specs.Name.{IsName};
 ghost use Rattle.cpg_codec.specs.Packs.{IsPackHead};
@@ -6,7 +6,7 @@ ghost use Rattle.cpg_head.specs.GraphHead.{head_of};
 
 use cpg_base::{Name, Problem, Process};
 
-/// For its contract alone: these names are lawful.
+/// Says in its contract that these names are lawful.
 fn nodes_are_named(names: &[Name])
     ensures { All IsName names.now }
 {
@@ -16,7 +16,7 @@ fn nodes_are_named(names: &[Name])
     }
 }
 
-/// Processes have names.
+/// Says in its contract that the names of these processes are lawful.
 fn processes_are_named(processes: &[Process])
     ensures { All (λ p. IsName p.name) processes.now }
 {
@@ -26,7 +26,8 @@ fn processes_are_named(processes: &[Process])
     }
 }
 
-/// The head of a graph's tables is one that a pack may have: it is within its limits, and so are its names, which are gone over.
+/// Says in its contract that the head of a graph's tables is one that a pack may have: it is within the limits of a
+/// pack, and all its names are lawful.
 pub fn head_is_lawful(graph: &Problem)
     ensures { IsPackHead (head_of graph.now) }
 {

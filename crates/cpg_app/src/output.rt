@@ -1,4 +1,4 @@
-//! What a command puts out.
+//! What a command puts out, and writing it.
 ghost use Rattle.std.specs.Prelude.{◌<◌, length};
 ghost use Rattle.cpg_show.specs.NodeText.{node_text};
 ghost use Rattle.cpg_app.specs.Outputs.{packed_by, shown_by};
@@ -17,44 +17,44 @@ use cpg_words::Word;
 use std::alloc::Global;
 use std::mem::forget;
 
-/// An admitted graph, and the rows of its compile.
+/// A compiled graph. Its tables aren't assembled: they are written from their rows.
 #[derive(Drop)]
 pub struct Made {
-    /// The graph.
+    /// The graph, as it is admitted.
     pub admitted: Admitted,
-    /// The rows of its tables.
+    /// The rows of its tables, with the order and the greatest finish of the compile.
     pub rows: BuiltRows,
 }
 
 /// What a command puts out.
 #[derive(Drop)]
 pub enum Output {
-    /// A text.
+    /// A text that is ready.
     Lines(String),
-    /// The tables of a graph, as a text that is written by their rows.
+    /// The tables of a compiled graph, to be written as a text.
     Table(Made),
-    /// The table of a node, as a text.
+    /// The table of a node, to be written as a text.
     NodeTable {
-        /// The tables.
+        /// The tables of all nodes.
         tables: Tables,
         /// The node's number.
         node: u32,
     },
-    /// The tables of a graph, as a pack that is written by their rows.
+    /// The tables of a compiled graph, to be written as a pack.
     Pack(Made),
-    /// What a node does on a stream, as it goes.
+    /// A node that is to follow a stream; its lines are written as it goes.
     Stream {
         /// The node, before its stream.
         follower: Follower,
-        /// The file of its records.
+        /// The name of the stream's file.
         stream: Word,
     },
 }
 
-// The run ends when it has written its output, and the system then takes back its memory at once. Tables and rows are therefore
-// forgotten: dropping them would visit every column.
+// The run ends when it has written its output, and the system then takes back its memory at once. So tables and rows
+// are forgotten rather than dropped, which would go over all they hold.
 
-/// Writes the tables of a graph as a text.
+/// Writes the tables of a compiled graph as a text. An error is a fault of the sink, or that memory runs out.
 pub fn put_tables<O: Sink>(alloc: Global, made: Made, out: &mut O) -> Result<(), WriteFault>
     ensures { IsWritten (sent (O.state out.old) (O.state out.new)) result (shown_by made.admitted.graph made.rows) }
 {
@@ -70,7 +70,7 @@ pub fn put_tables<O: Sink>(alloc: Global, made: Made, out: &mut O) -> Result<(),
     written
 }
 
-/// Writes the table of a node as a text.
+/// Writes the table of a node as a text. An error is a fault of the sink, or that memory runs out.
 pub fn put_node_table<O: Sink>(
     alloc: Global,
     tables: Tables,
@@ -85,7 +85,7 @@ pub fn put_node_table<O: Sink>(
     written
 }
 
-/// Writes the tables of a graph as a pack.
+/// Writes the tables of a compiled graph as a pack. An error is a fault of the sink, or that memory runs out.
 pub fn put_pack<O: Sink>(alloc: Global, made: Made, out: &mut O) -> Result<(), WriteFault>
     requires { AreWritable made.admitted.graph made.rows.rows.items }
     ensures { IsWritten (sent (O.state out.old) (O.state out.new)) result (packed_by made.admitted.graph made.rows) }

@@ -1,4 +1,4 @@
-//! The play of checked tables.
+//! The text of a play of valid tables.
 ghost use Rattle.std.specs.Prelude.{◌≡◌, IfOk, string_bytes};
 ghost use Rattle.cpg_scenario.specs.File.{IsPlayed};
 ghost use Rattle.cpg_head.specs.GraphHead.{head_of};
@@ -14,8 +14,8 @@ use cpg_show::trace_text;
 use cpg_table::Tables;
 use std::alloc::Global;
 
-/// The text of a play of valid tables, driven by a number: the trace of all nodes until each is done, and how often a node that
-/// was asked had to wait.
+/// Plays valid tables, driven by a number, until each node is done. Returns the trace of all nodes and a line that says
+/// how often a node that was asked had to wait. The one error is that memory runs out.
 pub fn play_text(
     alloc: Global,
     admitted: &Admitted,

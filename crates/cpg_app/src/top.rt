@@ -1,4 +1,4 @@
-//! The top call.
+//! A run: from the words to the exit status.
 ghost use Rattle.std.specs.Prelude.{◌≡◌, All, List, map, string_bytes};
 ghost use Rattle.cpg_io.specs.Shelf.{KeepsShelf, SameAccess};
 ghost use Rattle.cpg_io.specs.State.{ShelfState};
@@ -20,7 +20,8 @@ use cpg_refusal::Halt;
 use cpg_words::{WordsFault, read_words};
 use std::alloc::Global;
 
-/// Does the work of a command on what its files say, and ends the run by it.
+/// Does the work of a command on what its files say, and writes its output to `out`, or the line of the halt to `err`.
+/// Returns the exit status.
 fn finish<S: Shelf, O: Sink, E: Sink>(
     alloc: Global,
     inputs: Inputs,
@@ -59,9 +60,9 @@ fn finish<S: Shelf, O: Sink, E: Sink>(
     }
 }
 
-/// All that the program does, by the words after its name: it reads the files that they name from the shelf, one after the
-/// other, does the work on what they say, writes the command's output to `out` or one line to `err`, and answers the exit
-/// status. What each status says is in `specs/Lawful.antt`.
+/// Does all that the program does, by the words after its name: reads the files that they name from the shelf, one
+/// after the other, does the work on what they say, and writes the command's output to `out` or one line to `err`.
+/// Returns the exit status; `specs/Lawful.antt` says what each status means.
 pub fn run<S: Shelf, O: Sink, E: Sink>(
     alloc: Global,
     words: &[String],
@@ -90,10 +91,11 @@ pub fn run<S: Shelf, O: Sink, E: Sink>(
     }
 }
 
-/// Ends a run whose words can't be had: one of them is no text, or memory ran out. Writes the line that says so to `err`, which
-/// needs no memory, and answers the exit status.
+/// Ends a run that has no command: its words form none or aren't text, or memory ran out. Writes the line that says so
+/// to `err`, which needs no memory, and returns the exit status.
 pub fn run_without_words<E: Sink>(alloc: Global, fault: WordsFault, err: &mut E) -> u8
-    // the line of the fault has been sent to `err`, as far as it takes it, and the result is the status of the fault
+    // the line of the fault was written to `err`, and the result is the fault's status; or `err` met a fault, and it is
+    // 3
     ensures { Sent (sent (E.state err.old) (E.state err.new)) result (status_of (halt_of_words fault)) (line_of (halt_of_words fault)) }
 {
     match fault {

@@ -1,4 +1,4 @@
-//! From a number to the figures of its trial.
+//! The trial of a number: generating, compiling, checking and playing its graph.
 ghost use Rattle.std.specs.Prelude.{◌≡◌, ◌↔◌, IfOk, IsTrue};
 ghost use Rattle.cpg_table.specs.Valid.{IsValid};
 ghost use Rattle.cpg_rules.specs.Admission.{IsAdmitted};
@@ -20,7 +20,7 @@ use cpg_rules::{Admitted, Refused, RuleFault, admit};
 use cpg_table::Tables;
 use std::alloc::Global;
 
-/// The only fault of this admission: out of memory.
+/// Returns the fault of an admission that can only fail as memory runs out.
 fn unadmitted(fault: RuleFault) -> OutOfMemory
     requires { fault ≡ RuleFault.OutOfMemory }
 {
@@ -30,7 +30,7 @@ fn unadmitted(fault: RuleFault) -> OutOfMemory
     }
 }
 
-/// The only fault of this compile: out of memory.
+/// Returns the fault of a compile that can only fail as memory runs out.
 fn uncompiled(fault: CompileFault) -> OutOfMemory
     requires { fault ≡ CompileFault.OutOfMemory }
 {
@@ -40,7 +40,8 @@ fn uncompiled(fault: CompileFault) -> OutOfMemory
     }
 }
 
-/// The graph of a number, admitted.
+/// Returns the graph that a number generates, as it is admitted. No such graph is rejected, so the one error is that
+/// memory runs out.
 fn admitted_of(alloc: Global, number: u64) -> Result<Admitted, OutOfMemory>
     ensures graph { IfOk result (λ a. a.graph ≡ generated number) }
     ensures admitted { IfOk result (λ a. IsAdmitted a.graph a.order a.guards) }
@@ -49,18 +50,20 @@ fn admitted_of(alloc: Global, number: u64) -> Result<Admitted, OutOfMemory>
     match admit(alloc, problem) {
         Ok(admitted) => Ok(admitted),
         Err(refused) => {
+            // the refused graph isn't needed
             let Refused { fault, .. } = refused;
             Err(unadmitted(fault))
         }
     }
 }
 
-/// The tables of a generated graph.
+/// Returns the tables of a generated graph. No such graph is too wide or late, so the one error is that memory runs
+/// out.
 fn compiled_of(alloc: Global, admitted: &Admitted) -> Result<Compiled, OutOfMemory>
     requires { IsGenerated admitted.now.graph }
     ensures { IfOk result (IsCompilation admitted.now.graph admitted.now.order) }
 {
-    // its contract says that the graph is admitted
+    // called for its contract: the graph is admitted
     let _graph = admitted.problem();
     match compile(alloc, admitted) {
         Ok(compiled) => Ok(compiled),
@@ -68,12 +71,11 @@ fn compiled_of(alloc: Global, admitted: &Admitted) -> Result<Compiled, OutOfMemo
     }
 }
 
-/// Whether tables are valid for a graph.
+/// Whether tables have the head of a graph and keep the ten rules. The one error is that memory runs out.
 fn are_valid(alloc: Global, admitted: &Admitted, tables: &Tables) -> Result<bool, OutOfMemory>
-    // the answer is yes exactly if the head is that of the graph and the tables are valid
     ensures { IfOk result (λ found. IsTrue found ↔ (IsHeadFor admitted.now.graph tables.now.head × IsValid admitted.now.graph tables.now.nodes)) }
 {
-    // its contract says that the tables are lawful under their head
+    // called for its contract: the tables are lawful under their head
     let _head = tables.head();
     match check(alloc, admitted, tables)? {
         Verdict::Yes => Ok(true),
@@ -82,7 +84,7 @@ fn are_valid(alloc: Global, admitted: &Admitted, tables: &Tables) -> Result<bool
     }
 }
 
-/// The figures of a generated graph and of its tables, which the check finds valid.
+/// Checks the tables of a generated graph, plays them, and returns the figures. The one error is that memory runs out.
 fn figures_of(
     alloc: Global,
     admitted: &Admitted,
@@ -94,6 +96,7 @@ fn figures_of(
     ensures { IfOk result (AreFiguresOf admitted.now.graph compiled.now number) }
 {
     let built = &compiled.built;
+    // compiled tables are valid, so this check of the compile and of the checker never fails
     if !are_valid(alloc, admitted, &built.tables)? {
         unreachable!();
     }
@@ -109,8 +112,9 @@ fn figures_of(
     })
 }
 
-/// Generates the graph of a number, admits and compiles it, and plays its tables in three scenarios, driven by the number. No
-/// such graph is rejected, too wide or late, so the only error is to be out of memory.
+/// Generates the graph of a number, admits and compiles it, checks its tables, and plays them in three scenarios,
+/// driven by the number. Returns the figures. No such graph is rejected, too wide or late, so the one error is that
+/// memory runs out.
 pub fn run_trial(alloc: Global, number: u64) -> Result<Trial, OutOfMemory>
     ensures { IfOk result (IsTrial number) }
 {

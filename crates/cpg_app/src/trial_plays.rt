@@ -1,4 +1,4 @@
-//! The plays of a trial.
+//! The three plays of a trial.
 ghost use Rattle.std.specs.Prelude.{◌≡◌, ◌<◌, ◌≤◌, IfOk, replicate, true, false};
 ghost use Rattle.cpg_base.specs.Graph.{process_count, condition_count};
 ghost use Rattle.cpg_base.specs.Scenario.{IsScenario, zero_scenario};
@@ -16,7 +16,8 @@ use cpg_show::finish;
 use cpg_table::Tables;
 use std::alloc::Global;
 
-/// Plays valid tables in a scenario to the end, driven by a number. Each execution lasts as long as planned.
+/// Plays valid tables in a scenario, driven by a number, until each node is done. Each execution lasts as long as
+/// planned. Returns the greatest end and how often a node waited. The one error is that memory runs out.
 fn ending_of(
     alloc: Global,
     admitted: &Admitted,
@@ -29,7 +30,7 @@ fn ending_of(
     requires scenario { IsScenario admitted.now.graph scenario.now }
     ensures { IfOk result (IsEnding admitted.now.graph tables.now.nodes scenario.now number) }
 {
-    // its contract says that the tables are lawful under their head
+    // called for its contract: the tables are lawful under their head
     let _head = tables.head();
     let mut cluster = Cluster::new(alloc, admitted, tables.copy()?, scenario)?;
     let waits = cluster.drive(number);
@@ -39,7 +40,7 @@ fn ending_of(
     })
 }
 
-/// Sets every value to true.
+/// Sets the values of all `count` conditions to true.
 fn set_values(scenario: &mut Scenario, count: u32)
     requires { scenario.old.values ≡ replicate count false }
     ensures values { scenario.new.values ≡ replicate count true }
@@ -50,7 +51,8 @@ fn set_values(scenario: &mut Scenario, count: u32)
     }
 }
 
-/// The scenario in which every value is true and the first process has two faults.
+/// Returns the scenario in which every value is true, the first process has two faults and no other has any. The one
+/// error is that memory runs out.
 fn true_scenario(alloc: Global, problem: &Problem) -> Result<Scenario, OutOfMemory>
     requires { 0 < process_count problem.now }
     ensures { IfOk result (λ s. s ≡ true_scenario problem.now) }
@@ -61,7 +63,7 @@ fn true_scenario(alloc: Global, problem: &Problem) -> Result<Scenario, OutOfMemo
     Ok(scenario)
 }
 
-/// The play without faults in which every value is false.
+/// Returns the end of the play without faults in which every value is false. The one error is that memory runs out.
 fn fault_free(
     alloc: Global,
     admitted: &Admitted,
@@ -76,7 +78,8 @@ fn fault_free(
     ending_of(alloc, admitted, tables, &scenario, number)
 }
 
-/// The play in which every value is true and the first process has two faults.
+/// Returns the end of the play in which every value is true and the first process has two faults. The one error is that
+/// memory runs out.
 fn all_true(
     alloc: Global,
     admitted: &Admitted,
@@ -93,7 +96,8 @@ fn all_true(
     ending_of(alloc, admitted, tables, &scenario, number)
 }
 
-/// The three plays of compiled tables.
+/// Returns the ends of the three plays of compiled tables: without faults, in the worst case, and with every value
+/// true. The one error is that memory runs out.
 pub(crate) fn endings_of(
     alloc: Global,
     admitted: &Admitted,

@@ -1,4 +1,4 @@
-//! The trial that a command asks for.
+//! The output of `trial`.
 ghost use Rattle.std.specs.Prelude.{◌≡◌, IfOk, IfErr};
 ghost use Rattle.cpg_refusal.specs.declared.halt.Halt.TheVariants.{Memory};
 ghost use Rattle.cpg_app.specs.Outputs.{IsTrialText, Puts};
@@ -9,7 +9,7 @@ use cpg_outputs::trial_text;
 use cpg_refusal::Halt;
 use std::alloc::Global;
 
-/// Writes the figures of the trial of a number. Nothing stops it but being out of memory.
+/// Returns the text of the figures of a number's trial. The one halt is that memory ran out.
 pub fn trial(alloc: Global, number: u64) -> Result<Output, Halt>
     ensures text { IfOk result (λ o. Puts o (IsTrialText number)) }
     ensures halt { IfErr result (λ halt. halt ≡ Memory) }

@@ -1,4 +1,7 @@
--- A scenario gives a log exactly if no cube that the log excludes matches.
+-- A scenario gives a log exactly if it matches none of the excluded cubes, of columns at times that the log excludes, and
+-- none of the idle ones, of scenarios in which a logged item is inactive. The step between is `Fits`: a scenario gives
+-- the log just if no column that matches has an excluded time and each logged item is active. The last part turns to
+-- the least scenario.
 use Rattle.std.proofs.Common.{ℕ, suc, ◌≤◌, ◌≡◌, ◌≢◌, ◌==◌, Bool, true, false, not, List, [], ◌∷◌, ◌++◌, map, filter}
 use Rattle.std.proofs.Common.{Option, Some, None, IfSome, IfNone, All, AllPairs, Contains, arith, refl, sym, ap}
 use Rattle.std.proofs.Common.{◌∙◌, subst, inl, inr, eq-eqb, eqb-true, ne_eqb, true≢false}
@@ -37,11 +40,11 @@ use Rattle.cpg_log.proofs.TextLaws.{act_within}
 
 -- ---- when an item is logged
 
--- an act that is logged is determined by its time and its item
+-- a logged act is its time and its item
 same_logged : (l : Logged) (time item : ℕ) → l.time ≡ time → l.item ≡ item → l ≡ record { time = time; item = item }
 same_logged l time item p q = λ i. record { time = p i; item = q i }
 
--- in a log that names each item once, the time of a logged item is the one it is logged with
+-- in a log that names each item once, the time found for a logged act's item is the act's; by induction on `ls`
 pub logged_at : (ls : List Logged) → AllPairs (λ (a b : Logged). a.item ≢ b.item) ls → (l : Logged) → Contains ls l →
     logged_time ls l.item ≡ Some l.time
 logged_at [] pairs l c = absurd (Contains-nil l c)
@@ -54,7 +57,7 @@ logged_at (m ∷ ls) pairs l c = elim (Contains-cases m ls l c) [
       ∙ logged_at ls (λ i j d a b. pairs (suc i) (suc j) d (omega arith) (omega arith)) l r
 ]
 
--- an item with a logged time is logged with that time
+-- if a time is found for an item, the log names the item with that time; by induction on `ls`
 pub logged_in : (ls : List Logged) (x time : ℕ) → logged_time ls x ≡ Some time →
     Contains ls (record { time = time; item = x })
 logged_in [] x time e = absurd (none-some time e)
@@ -68,15 +71,16 @@ logged_in (m ∷ ls) x time e = elim (cases_eq m.item x) [
 
 -- ---- the acts that are due, and the columns that match
 
--- no column that matches has an excluded time, and each logged item is active
+-- in scenario `s` no column that matches has a time that the log excludes, and each logged item is active
 pub record Fits (g : Graph) (tables : List NodeTable) (log : Log) (s : Scenario) : Type 0 where
   pub times : (x : ℕ) (c : Column) → Match tables s x c → is_excluded log.until (logged_time log.acts x) c.time ≡ false
   pub active : (l : Logged) → Contains log.acts l → item_active g s.values (item_at g l.item) ≡ true
 
--- a scenario of tables whose columns match once and for active items, and a log
+-- a scenario in which at most one column of each item of the tables matches, and one exactly if the item is active; and
+-- a log
 module _ {g : Graph} {tables : List NodeTable} {s : Scenario} (k : Setting g tables s) (log : Log)
     (is : IsLog g log) where
-  -- the act of a column that matches
+  -- for a column that matches, an act of its item is due at its time
   act_of : (x : ℕ) (c : Column) → Match tables s x c →
       (a : Act) × Contains (all_asked g tables s) a × (a.time ≡ c.time) × (a.item ≡ x)
   act_of x c m =
@@ -89,11 +93,11 @@ module _ {g : Graph} {tables : List NodeTable} {s : Scenario} (k : Setting g tab
         refl,
       )
 
-  -- an act that is due is of a column that matches, at the column's time
+  -- for an act that is due, a column of its item matches, with its time
   match_of : (a : Act) → Contains (all_asked g tables s) a → (c : Column) × Match tables s a.item c × (c.time ≡ a.time)
   match_of a h = let q = all_asked_parts k a h in (q.column, asked_match q, q.time)
 
-  -- the column of a logged act that is due
+  -- if the scenario gives the log, a column matches for each logged act, with its item and time
   match_due : Gives g tables log s → (l : Logged) → Contains log.acts l →
       (c : Column) × Match tables s l.item c × (c.time ≡ l.time)
   match_due gives l c =
@@ -104,15 +108,16 @@ module _ {g : Graph} {tables : List NodeTable} {s : Scenario} (k : Setting g tab
         m.2 ∙ ap (λ (z : Logged). z.time) due.2,
       )
 
-  -- in a scenario that gives the log, no column that matches has an excluded time, and logged items are active
+  -- a scenario that gives the log fits it
   pub gives_fits : Gives g tables log s → Fits g tables log s
   gives_fits gives = record {
     times = λ x c m. times x c m (logged_time log.acts x) refl;
     active = λ l c. let m = match_due gives l c in match_active k l.item m.0 m.1;
   }
     where
-      -- by whether x is logged: its column's time is no other than the logged one, and a column that isn't logged is
-      -- late
+      -- the time of a column that matches isn't excluded. If the item isn't logged, the time is after the log's end,
+      -- since the log names each act that is due by then. If it is logged, the logged act is of this column, as no
+      -- other of the item matches, so the time is the logged one
       times : (x : ℕ) (c : Column) → Match tables s x c → (o : Option ℕ) → logged_time log.acts x ≡ o →
           is_excluded log.until o c.time ≡ false
       times x c m None e = false_from_ne_true (nat_le c.time log.until) (λ early.
@@ -125,7 +130,8 @@ module _ {g : Graph} {tables : List NodeTable} {s : Scenario} (k : Setting g tab
           let d = match_due gives (record { time = time; item = x }) l in
           ap not (eq-eqb c.time time (ap (λ (z : Column). z.time) (match_once k x c d.0 m d.1) ∙ d.2))
 
-  -- a scenario in which that is so gives the log
+  -- a scenario that fits the log gives it. `due`: a logged item is active, so a column of it matches, and the time of
+  -- that one isn't excluded, so it is the logged one
   pub fits_gives : Fits g tables log s → Gives g tables log s
   fits_gives fits = record {
     named = λ a h early.
@@ -142,7 +148,8 @@ module _ {g : Graph} {tables : List NodeTable} {s : Scenario} (k : Setting g tab
         (a.0, a.1, same_logged (logged a.0) l.time l.item (a.2 ∙ same) a.3);
   }
     where
-      -- an act by the end of the log, whose column's time isn't excluded, is logged
+      -- an act that is due by the log's end, at the time of a column that isn't excluded, is logged: were its item not,
+      -- the log would exclude the time; so it is logged, at just this time
       named : (a : Act) (c : Column) (o : Option ℕ) → logged_time log.acts a.item ≡ o →
           is_excluded log.until (logged_time log.acts a.item) c.time ≡ false → c.time ≡ a.time →
           a.time ≤ log.until →
@@ -157,10 +164,10 @@ module _ {g : Graph} {tables : List NodeTable} {s : Scenario} (k : Setting g tab
 
   -- ---- the cubes
 
-  -- columns that match just where a logged item is idle
+  -- columns one of which matches just if some logged item is inactive
   module _ (idle : List Column)
       (told : list_any (λ (c : Column). matches c.cube s) idle ≡ is_some_idle g log.acts s) where
-    -- then no excluded cube matches, nor one of the scenarios in which a logged item is idle
+    -- a scenario that fits the log matches no excluded cube, and none of the idle columns' cubes
     pub fits_left : Fits g tables log s →
         list_any (λ b. matches b s)
         (flat_map (excluded_of tables log) (numbers_below (item_count g)) ++ map (λ (c : Column). c.cube) idle) ≡ false
@@ -172,7 +179,7 @@ module _ {g : Graph} {tables : List NodeTable} {s : Scenario} (k : Setting g tab
           | inr h ↦ of_idle b h
         ])
       where
-        -- no excluded cube of an item matches
+        -- no excluded cube matches: it is that of a column whose time the log excludes
         of_column : (b : List Literal) → Contains (flat_map (excluded_of tables log) (numbers_below (item_count g))) b →
             matches b s ≡ false
         of_column b h = false_from_ne_true (matches b s) (λ m.
@@ -185,17 +192,17 @@ module _ {g : Graph} {tables : List NodeTable} {s : Scenario} (k : Setting g tab
             true≢false (sym r.1 ∙ fits.times p.0 q.0
             (record { there = r.0; holds = subst (λ (ls : List Literal). matches ls s ≡ true) (sym q.2) m })))
 
-        -- no logged item is idle
+        -- no logged item is inactive
         none_idle : is_some_idle g log.acts s ≡ false
         none_idle = list_any_false (λ (l : Logged). not (item_active g s.values (item_at g l.item))) log.acts
             (λ l c. ap not (fits.active l c))
 
-        -- so no cube of an idle scenario matches
+        -- so no idle column's cube matches
         of_idle : (b : List Literal) → Contains (map (λ (c : Column). c.cube) idle) b → matches b s ≡ false
         of_idle b h = from_any_false (λ b. matches b s) (map (λ (c : Column). c.cube) idle) b
             (any_map (λ b. matches b s) (λ (c : Column). c.cube) idle ∙ told ∙ none_idle) h
 
-    -- if none of these cubes matches, no column that matches has an excluded time, and logged items are active
+    -- a scenario that matches none of these cubes fits the log
     pub left_fits : list_any (λ b. matches b s) (flat_map (excluded_of tables log) (numbers_below (item_count g))
         ++ map (λ (c : Column). c.cube) idle) ≡ false →
         Fits g tables log s
@@ -212,12 +219,12 @@ module _ {g : Graph} {tables : List NodeTable} {s : Scenario} (k : Setting g tab
           (filter (λ (c : Column). is_excluded log.until (logged_time log.acts x) c.time) (columns_of tables x)) c
           (Contains-filter (λ (c : Column). is_excluded log.until (logged_time log.acts x) c.time)
           (columns_of tables x) c e m.there))))));
-      -- none of the idle cubes matches, so every logged item is active
+      -- none of the idle columns matches, so each logged item is active
       active = λ l c. not-false (item_active g s.values (item_at g l.item)) (from_any_false
           (λ (l : Logged). not (item_active g s.values (item_at g l.item))) log.acts l (sym told ∙ none_idle) c);
     }
       where
-        -- no column of an idle scenario matches
+        -- no idle column matches
         none_idle : list_any (λ (c : Column). matches c.cube s) idle ≡ false
         none_idle = sym (any_map (λ b. matches b s) (λ (c : Column). c.cube) idle)
             ∙ list_any_false (λ b. matches b s) (map (λ (c : Column). c.cube) idle) (λ b h.
@@ -228,15 +235,15 @@ module _ {g : Graph} {tables : List NodeTable} {s : Scenario} (k : Setting g tab
 
 -- ---- the least scenario that is left
 
--- what isn't matched by any cube, by the negation
+-- a truth value whose negation is true is false
 left_is : (b : Bool) → not b ≡ true → b ≡ false
 left_is false e = refl
 left_is true e = absurd (true≢false (sym e))
 
--- the excluded cubes of all items, and those of the scenarios in which a logged item is idle
+-- The cubes that an audit goes over:
 -- `setting`: in each scenario, the tables are valid ones of a lawful graph; `log`, `is`: the log
--- `idle`, `told`: columns that match exactly where one of the log's acts is idle
--- `by`, `are`: the cubes: the excluded ones of all items, then those of `idle`
+-- `idle`, `told`: columns one of which matches just where a logged item is inactive
+-- `by`, `are`: the cubes, the excluded ones of all items, then those of `idle`
 module _ (g : Graph) (order : List ℕ) (tables : List NodeTable)
     (setting : (s : Scenario) → IsScenario g s → Setting g tables s) (log : Log) (is : IsLog g log)
     (idle : List Column) (told : (s : Scenario) → IsScenario g s →
@@ -248,12 +255,12 @@ module _ (g : Graph) (order : List ℕ) (tables : List NodeTable)
   left_gives s law e = fits_gives (setting s law) log is (left_fits (setting s law) log is idle (told s law)
       (ap (list_any (λ b. matches b s)) (sym are) ∙ left_is (list_any (λ b. matches b s) by) e))
 
-  -- a scenario that gives the log is left by the cubes
+  -- the cubes leave a scenario that gives the log
   gives_left : (s : Scenario) → IsScenario g s → Gives g tables log s → is_left by [] s ≡ true
   gives_left s law gives = ap not (ap (list_any (λ b. matches b s)) are
       ∙ fits_left (setting s law) log is idle (told s law) (gives_fits (setting s law) log is gives))
 
-  -- the first scenario that the cubes leave is the least that gives the log
+  -- the least scenario that the cubes leave is the least that gives the log
   pub least_gives : (r : Option Scenario) → IsFirst g order (is_left by []) r →
       IfSome r (IsLeast g order (Gives g tables log))
   least_gives None first = tt
@@ -269,7 +276,7 @@ module _ (g : Graph) (order : List ℕ) (tables : List NodeTable)
   none_gives None first = λ s law gives. true≢false (sym (gives_left s law gives) ∙ first s law)
   none_gives (Some s) first = tt
 
--- the variables of excluded cubes are the graph's
+-- if an item's columns are on variables of the graph, so are its excluded cubes
 pub excluded_known : (g : Graph) (tables : List NodeTable) (log : Log) (x : ℕ) →
     All (λ (c : Column). IsKnown g c.cube) (columns_of tables x) →
     All (IsKnown g) (excluded_of tables log x)
@@ -278,7 +285,7 @@ excluded_known g tables log x known =
     All-map (IsKnown g) (λ (c : Column). c.cube) (filter excluded (columns_of tables x))
     (All-filter excluded (λ (c : Column). IsKnown g c.cube) (columns_of tables x) known)
 
--- the kept cubes and the idle ones are on variables of the graph
+-- if kept cubes and idle columns are on variables of the graph, so are the kept cubes followed by those of the columns
 pub idle_known : (g : Graph) (kept : List (List Literal)) (idle : List Column) → All (IsKnown g) kept →
     All (λ (c : Column). IsKnown g c.cube) idle →
     All (IsKnown g) (kept ++ map (λ (c : Column). c.cube) idle)

@@ -1,4 +1,6 @@
--- The columns of the tree of an item's idle scenarios match in just the scenarios in which it isn't active.
+-- One of the columns made of an item's idle times matches just in the scenarios in which the item isn't active. An idle
+-- time is some time where the item is inactive and none where it is active, so a path of their tree has a column just
+-- if the item is inactive in its scenarios.
 use Rattle.std.proofs.Common.{ℕ, ◌+◌, ◌<◌, ◌≡◌, ◌||◌, Bool, true, false, not, List, [], ◌++◌, length, take, get_or}
 use Rattle.std.proofs.Common.{Option, Some, None, Contains, IsPermutation, refl, sym, ap, ap₂, ◌∙◌, subst, inl}
 use Rattle.std.proofs.Common.{inr}
@@ -23,7 +25,7 @@ use Rattle.cpg_tree.proofs.OnePath.{scenario_few, the_path}
 use Rattle.cpg_audit.specs.Excluded.{idle_time, is_some_idle}
 use Rattle.cpg_log.specs.declared.log.Logged.{Logged}
 
--- a column comes of a path
+-- a column of a path has the path's value for its time, and its cube
 column_parts : (cube : List Literal) (time : Option ℕ) (c : Column) → Contains (column_of cube time) c →
     (time ≡ Some c.time) × (cube ≡ c.cube)
 column_parts cube None c j = absurd (Contains-nil c j)
@@ -37,18 +39,19 @@ idle_from : (active : Bool) (n : ℕ) → idle_time active ≡ Some n → not ac
 idle_from true n e = absurd (none-some n e)
 idle_from false n e = refl
 
--- an inactive item has one, which is 0
+-- an inactive item has idle time 0
 idle_at : (active : Bool) → not active ≡ true → idle_time active ≡ Some 0
 idle_at true e = absurd (true_false (sym e))
   where
-    -- what is excluded: an active item that isn't
+    -- `true` isn't `false`: an active item isn't inactive
     true_false : true ≡ false → ⊥
     true_false e = cc
 idle_at false e = refl
 
--- a tree that says where an item is active, mapped to a time where it isn't, and the columns of that tree
--- `a`, `tree`, `active`: the tree of where item x is active; `t`, `is`, `each`: that with a time where x isn't active
--- `columns`, `all`: the columns of t, in some order; `s`, `law`: a scenario
+-- an item's idle times as a tree, and the tree's columns, in a scenario
+-- `a`, `tree`, `active`: the tree that says where item `x` is active; `t`, `is`, `each`: its image, the tree of idle
+-- times
+-- `columns`, `all`: the columns of `t`, in some order; `s`, `law`: a scenario
 module _ (g : Graph) (x : ℕ) (a : TreeState Bool) (tree : IsTree g a) (active : IsActivityOf g x a)
     (t : TreeState (Option ℕ)) (is : IsMap (λ b z. z ≡ idle_time b) a t)
     (each : HasOnePathEach t.faults t.paths) (columns : List Column)
@@ -57,14 +60,15 @@ module _ (g : Graph) (x : ℕ) (a : TreeState Bool) (tree : IsTree g a) (active 
   few : HasAtMostFaults g.faults s
   few = scenario_few g s law
 
-  -- the path of the scenario
+  -- the value of a path that the scenario is on is the idle time of whether the item is active
   value : (z : Path (Option ℕ)) → IsOnPath t.paths s z → z.1 ≡ idle_time (item_active g s.values (item_at g x))
   value z on =
       let y = the_path g.faults a.paths tree.each s few in
       is.value s y.0 z (subst (λ k. HasAtMostFaults k s) (sym tree.faults) few) y.1 on
       ∙ ap idle_time (active s y.0 law y.1)
 
-  -- if a column matches, the item isn't active
+  -- if a column matches, the item isn't active: the column is of a path that the scenario is on, whose value is some
+  -- time
   from_column : list_any (λ (c : Column). matches c.cube s) columns ≡ true →
       not (item_active g s.values (item_at g x)) ≡ true
   from_column e =
@@ -77,7 +81,7 @@ module _ (g : Graph) (x : ℕ) (a : TreeState Bool) (tree : IsTree g a) (active 
       (record { stands = p.1; matched = subst (λ (ls : List Literal). matches ls s ≡ true) (sym parts.1) r.2 }))
       ∙ parts.0)
 
-  -- if the item isn't active, the column of the scenario's path matches
+  -- if the item isn't active, the path that the scenario is on has time 0, so a column, and this matches
   to_column : not (item_active g s.values (item_at g x)) ≡ true →
       list_any (λ (c : Column). matches c.cube s) columns ≡ true
   to_column e =
@@ -89,12 +93,13 @@ module _ (g : Graph) (x : ℕ) (a : TreeState Bool) (tree : IsTree g a) (active 
       (Contains-flat_map (λ (p : Path (Option ℕ)). column_of p.0 p.1) t.paths z.0 idle z.1.stands
       (subst (λ o. Contains (column_of z.0.0 o) idle) (sym here) (Contains-first idle [])))) z.1.matched
 
-  -- some of the columns matches exactly if the item isn't active
+  -- one of the columns matches exactly if the item isn't active
   pub idle_columns : list_any (λ (c : Column). matches c.cube s) columns ≡ not (item_active g s.values (item_at g x))
   idle_columns = same_truth (list_any (λ (c : Column). matches c.cube s) columns)
       (not (item_active g s.values (item_at g x))) from_column to_column
 
--- with the columns of the next act added, some column matches exactly if some of one act more is idle
+-- the next act: if one of the old columns matches just if some of the first `i` logged items is inactive, and one of
+-- its own just if its item is, one of both matches just if some of the first `i + 1` is
 pub idle_more : (g : Graph) (s : Scenario) (acts : List Logged) (i : ℕ) (d : Logged) → i < length acts →
     (old columns : List Column) →
     list_any (λ (c : Column). matches c.cube s) old ≡ is_some_idle g (take i acts) s

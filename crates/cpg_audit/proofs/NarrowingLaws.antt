@@ -1,4 +1,5 @@
--- Spaces narrowed by cubes, and the ranges that are left.
+-- A space narrowed by cubes: the range that a literal leaves of a variable, the loops that take cubes off the space one
+-- by one, and the cube of all ranges that are left.
 use Rattle.std.proofs.Common.{ℕ, zero, suc, refl, ◌||◌, ◌∷◌, ◌++◌, ◌+◌, ◌-◌, ◌<◌, ◌≤◌, ◌≡◌, true, false, not, ◌&&◌}
 use Rattle.std.proofs.Common.{List, [], length, get_or, take, drop, map, All, Bor, Bool, arith, sym, ap, ◌∙◌}
 use Rattle.std.proofs.Common.{subst, inl, inr, Option, Some, None}
@@ -26,8 +27,9 @@ use Rattle.cpg_audit.specs.Narrowing.{IsRange}
 
 -- ---- where a literal doesn't hold
 
+-- a scenario in which a literal doesn't hold
 module _ (s : Scenario) (l : Literal) (off : holds s l ≡ false) where
-  -- a number that is not below the low and not in the literal's range is above its high
+  -- if the number of the literal's variable isn't below its range, it is above it
   pub above_range : (most : ℕ) → l.low ≤ number_of s l.variable → number_of s l.variable ≤ most →
       holds s (record { variable = l.variable; low = l.high + 1; high = most }) ≡ true
   above_range most h k = elim (cases_lt l.high (number_of s l.variable)) [
@@ -36,7 +38,7 @@ module _ (s : Scenario) (l : Literal) (off : holds s l ≡ false) where
     | inr within ↦ absurd (both_ways (holds s l) off (holds-from s l h within))
   ]
 
-  -- a number that is not above the high and not in the literal's range is below its low
+  -- if the number isn't above its range, it is below it
   pub below_range : (least : ℕ) → least ≤ number_of s l.variable → number_of s l.variable ≤ l.high →
       holds s (record { variable = l.variable; low = least; high = l.low - 1 }) ≡ true
   below_range least h k = elim (cases_lt (number_of s l.variable) l.low) [
@@ -47,7 +49,8 @@ module _ (s : Scenario) (l : Literal) (off : holds s l ≡ false) where
 
 -- ---- one cube more, from the last
 
--- a list from a place on, with the element before it, is the list from the place before on
+-- something of a list passes from a place on, or the element before it does, just if something passes from the place
+-- before on; `held` is whether something passed already
 pub before_place : {X : Type 0} (f : X → Bool) (xs : List X) (place : ℕ) (x : X) (held : Bool) → 0 < place →
     place ≤ length xs →
     x ≡ get_or xs (place - 1) x →
@@ -67,7 +70,7 @@ before_place f xs place x held some within is =
     turn false false true = refl
     turn false false false = refl
 
--- if nothing passes from the place before on, neither the rest nor the element passes
+-- if nothing passes from the place before on, nothing passes from the place on, nor does the element before it
 pub one_before : {X : Type 0} (f : X → Bool) (xs : List X) (place : ℕ) (x : X) → 0 < place → place ≤ length xs →
     x ≡ get_or xs (place - 1) x →
     list_any f (drop (place - 1) xs) ≡ false →
@@ -80,37 +83,38 @@ one_before f xs place x some within is off =
 
 -- ---- the cubes of one place on
 
--- if no element passes, none of the first n does
+-- if no element passes, none of the first `n` does
 any_taken : {X : Type 0} (f : X → Bool) (n : ℕ) (xs : List X) → list_any f xs ≡ false → list_any f (take n xs) ≡ false
 any_taken f zero xs off = refl
 any_taken f (suc n) [] off = off
 any_taken f (suc n) (x ∷ xs) off = let parts = or_parts (f x) (list_any f xs) off in
     ap (λ b. b || list_any f (take n xs)) parts.0 ∙ any_taken f n xs parts.1
 
--- nor does one of the others
+-- if no element passes, none from place `n` on does
 any_dropped : {X : Type 0} (f : X → Bool) (n : ℕ) (xs : List X) → list_any f xs ≡ false → list_any f (drop n xs) ≡ false
 any_dropped f zero xs off = off
 any_dropped f (suc n) [] off = off
 any_dropped f (suc n) (x ∷ xs) off = any_dropped f n xs (or_parts (f x) (list_any f xs) off).1
 
--- if nothing in a list passes, nothing in a part of it does
+-- if no element passes, none of `m` from place `n` on does
 pub any_within : {X : Type 0} (f : X → Bool) (n m : ℕ) (xs : List X) → list_any f xs ≡ false →
     list_any f (take m (drop n xs)) ≡ false
 any_within f n m xs off = any_taken f m (drop n xs) (any_dropped f n xs off)
 
 -- ---- a list of cubes that one more is added to, or isn't
 
+-- cubes that are kept, the next one, and a scenario
 module _ (kept : List (Bor (List Literal))) (cube : Bor (List Literal)) (s : Scenario) where
-  -- a scenario matches one of these cubes
+  -- one of these cubes matches the scenario
   abbrev matched : List (Bor (List Literal)) → Bool
   matched bs = list_any (λ (b : Bor (List Literal)). matches b.now s) bs
 
-  -- with a cube added, a scenario matches some cube if it did or matches the new one
+  -- with the cube added, one of the kept matches just if one did or the new one does
   pub pushed : matched (kept ++ cube ∷ []) ≡ (matched kept || matches cube.now s)
   pushed = list_any-append (λ (b : Bor (List Literal)). matches b.now s) kept (cube ∷ [])
       ∙ ap (λ b. matched kept || b) (or-false (matches cube.now s))
 
-  -- without it, too, if the new one matches only where some cube does
+  -- the same without it, if it matches only where one of the kept does
   pub passed : (matched kept ≡ false → matches cube.now s ≡ false) → matched kept ≡ (matched kept || matches cube.now s)
   passed h = elim (cases_Bool (matched kept)) [
     | inl on ↦ on ∙ sym (ap (λ b. b || matches cube.now s) on)
@@ -119,20 +123,20 @@ module _ (kept : List (Bor (List Literal))) (cube : Bor (List Literal)) (s : Sce
 
 -- ---- the cubes of all items, one by one and in another order
 
--- some result of a flat map passes exactly if some result of some element does
+-- something in a flat map passes just if something in the list of some element does; by induction on `xs`
 any_flat : {X Y : Type 0} (p : Y → Bool) (f : X → List Y) (xs : List X) →
     list_any p (flat_map f xs) ≡ list_any (λ x. list_any p (f x)) xs
 any_flat p f [] = refl
 any_flat p f (x ∷ xs) = ap (list_any p) (flat_map-cons f x xs) ∙ list_any-append p (f x) (flat_map f xs)
     ∙ ap (λ b. list_any p (f x) || b) (any_flat p f xs)
 
--- in another order, the same test holds for some element
+-- something in a flat map of a list passes just if something does in that of the list in another order
 pub any_in_order : {X Y : Type 0} (p : Y → Bool) (f : X → List Y) (xs ys : List X) → IsPermutation xs ys →
     list_any p (flat_map f ys) ≡ list_any p (flat_map f xs)
 any_in_order p f xs ys perm =
     any_flat p f ys ∙ sym (list_any-IsPermutation (λ x. list_any p (f x)) xs ys perm) ∙ sym (any_flat p f xs)
 
--- a mapped front of one element more has that element's list at its end
+-- the flat map of one element more of a mapped list has that element's list at its end
 pub flat_more : {X Y Z : Type 0} (f : Y → List Z) (g : X → Y) (xs : List X) (i : ℕ) (d : X) → i < length xs →
     flat_map f (map g (take (i + 1) xs)) ≡ flat_map f (map g (take i xs)) ++ f (g (get_or xs i d))
 flat_more f g xs i d within =
@@ -143,29 +147,31 @@ flat_more f g xs i d within =
 
 -- ---- one literal more
 
+-- the literal at place `i` of a cube, and a space; `o` is the one of the first `i` that may not hold in the whole
+-- space, if there is one
 module _ (space : Space) (ls : List Literal) (i : ℕ) (d : Literal) (within : i < length ls) where
-  -- that holds in the whole space
+  -- a literal that holds in the whole space
   module _ (told : (s : Scenario) → IsInSpace space s → holds s (get_or ls i d) ≡ true) where
-    -- a literal that holds in the whole space changes nothing for a scenario in it
+    -- in the space, the first `i + 1` match just where the first `i` do
     same_with_told : (s : Scenario) → IsInSpace space s → matches (take (i + 1) ls) s ≡ matches (take i ls) s
     same_with_told s lies = list_all_more (holds s) ls i d within ∙ ap (λ b. matches (take i ls) s && b) (told s lies)
         ∙ and-true (matches (take i ls) s)
 
-    -- a literal that holds in the whole space leaves the extent of those before as it is
+    -- if there was none, so that the first `i` match everywhere in the space, the first `i + 1` do
     pub none_with_told : (o : Option Literal) →
         IfNone o ((s : Scenario) → IsInSpace space s → matches (take i ls) s ≡ true)
         → IfNone o ((s : Scenario) → IsInSpace space s → matches (take (i + 1) ls) s ≡ true)
     none_with_told None h = λ s lies. same_with_told s lies ∙ h s lies
     none_with_told (Some l) h = tt
 
-    -- and so does it if a literal before decides the extent
+    -- if there was one, so that the first `i` match in the space just where it holds, the first `i + 1` do
     pub some_with_told : (o : Option Literal) →
         IfSome o (λ l. (s : Scenario) → IsInSpace space s → matches (take i ls) s ≡ holds s l) →
         IfSome o (λ l. (s : Scenario) → IsInSpace space s → matches (take (i + 1) ls) s ≡ holds s l)
     some_with_told None h = tt
     some_with_told (Some l) h = λ s lies. same_with_told s lies ∙ h s lies
 
-  -- the first that may not hold
+  -- if there was none, the first `i + 1` match in the space just where the next one holds
   pub first_open : (o : Option Literal) → o ≡ None →
       IfNone o ((s : Scenario) → IsInSpace space s → matches (take i ls) s ≡ true) → (s : Scenario) →
       IsInSpace space s →
@@ -177,8 +183,9 @@ module _ (space : Space) (ls : List Literal) (i : ℕ) (d : Literal) (within : i
 
 -- ---- the cube of a space
 
+-- a space of the graph's scenarios
 module _ (g : Graph) (space : Space) where
-  -- ranges on variables below a bound are below any greater bound
+  -- ranges of the space on variables below a bound are such below a greater one
   pub ranges_weaker : (m n : ℕ) → m ≤ n → (cube : List Literal) → All (IsRange g space m) cube →
       All (IsRange g space n) cube
   ranges_weaker m n h cube all = All-weaker (IsRange g space m) (IsRange g space n)
@@ -196,18 +203,21 @@ module _ (g : Graph) (space : Space) where
   known_ranges n cube all =
       All-weaker (IsRange g space n) (λ (l : Literal). IsVariable g l.variable) (λ l r. r.known) cube all
 
--- a scenario that no cube matches is left of a cube that matches it, and cubes that match alike leave the same
+-- kept cubes of all cubes; `by`, the cubes that are taken off: the kept ones, then the idle ones; the cube of what the
+-- kept ones leave of all scenarios; and a scenario
 module _ (kept by : List (Bor (List Literal))) (idle all : List (List Literal)) (cube : List Literal)
     (s : Scenario) where
-  -- the cube that is lent
+  -- the cube that a reference is to
   abbrev seen : Bor (List Literal) → List Literal
   seen b = b.now
 
-  -- the scenario matches the cube
+  -- whether a cube matches the scenario
   abbrev test : List Literal → Bool
   test b = matches b s
 
-  -- the kept cubes leave the same scenarios of the space's cube as all cubes leave of everything
+  -- `by` leaves the scenario of the cube just if all cubes and the idle ones leave it of all scenarios, if the kept
+  -- ones match it just if one of all does, and the cube matches it unless a kept one does. If something in `by` matches
+  -- it, both sides are false; otherwise no kept one does, so the cube matches it, and both sides are true
   pub left_of_whole : map seen by ≡ map seen kept ++ idle →
       list_any (λ (b : Bor (List Literal)). matches b.now s) kept ≡ list_any test all
       → (list_any (λ (b : Bor (List Literal)). matches b.now s) kept ≡ false → matches cube s ≡ true) →

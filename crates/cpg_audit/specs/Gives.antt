@@ -1,4 +1,4 @@
--- Which scenarios give a log: those in which what the nodes have to do up to the log's time is just what the log names.
+-- Which scenarios give a log: those in which what is due on the nodes up to the log's time is just what the log names.
 use Rattle.std.specs.Prelude.{◌≡◌, ◌≤◌, List, Contains}
 use Rattle.cpg_base.specs.Graph.{Graph}
 use Rattle.cpg_base.specs.Scenario.{Scenario}
@@ -8,11 +8,13 @@ use Rattle.cpg_cluster.specs.Correct.{all_asked}
 use Rattle.cpg_log.specs.Log.{Log}
 use Rattle.cpg_log.specs.declared.log.Logged.{Logged}
 
--- an act, as a log names it
+-- an act as a log names it, by its time and item
 abbrev pub logged : Act → Logged
 logged a = record { time = a.time; item = a.item }
 
--- up to the log's time, the items and times of what is due on all nodes are those of the log
+-- scenario `s` gives the log
 pub record Gives (g : Graph) (tables : List NodeTable) (log : Log) (s : Scenario) : Type 0 where
+  -- the log names each act that is due on some node up to the log's time
   pub named : (a : Act) → Contains (all_asked g tables s) a → a.time ≤ log.until → Contains log.acts (logged a)
+  -- and each act that it names is due
   pub due : (l : Logged) → Contains log.acts l → (a : Act) × Contains (all_asked g tables s) a × (logged a ≡ l)

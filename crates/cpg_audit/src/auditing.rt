@@ -27,19 +27,20 @@ use cpg_table::Tables;
 use cpg_tree::Space;
 use std::alloc::Global;
 
-/// Whether a log excludes a time of an item, by when the item is logged.
+/// Whether a log until `until` excludes that an item is due at `time`. `logged` is when the log names the item, if it
+/// does.
 fn is_excluded(until: u64, logged: Option<u64>, time: u64) -> bool
     ensures { result ≡ is_excluded until logged time }
 {
     match logged {
-        // an item that isn't logged has no time up to the log's end
+        // what isn't logged isn't due up to the log's end
         None => time <= until,
-        // an item that is logged has that time
+        // what is logged is due at that time
         Some(logged) => time != logged,
     }
 }
 
-/// The cubes of an item's columns with times that a log excludes.
+/// The cubes of those of an item's columns whose times a log excludes.
 fn excluded_cubes<'a>(
     alloc: Global,
     until: u64,
@@ -57,8 +58,9 @@ fn excluded_cubes<'a>(
     Ok(by)
 }
 
-/// The cubes of all columns with times that a log excludes, but for some that match nothing in the rest of a space, which is
-/// narrowed by them item by item.
+/// The cubes of those columns of all items whose times a log excludes. A scenario that one of them matches doesn't give
+/// the log. `space` is narrowed, item by item, to what they leave of it, as far as ranges can say; cubes that are found
+/// to match nothing of the rest are left out.
 fn excluded<'a>(
     alloc: Global,
     problem: &Problem,
@@ -78,14 +80,14 @@ fn excluded<'a>(
         let columns = tables.columns_of(timed.item);
         let by = excluded_cubes(alloc, log.until(), log.time_of(timed.item), columns)?;
         let first = kept.len();
-        // first from the last cube on, then from the first: each pass takes numbers off one end
+        // the two passes go over the item's cubes in opposite directions, and take numbers off the two ends of ranges
         take_off_all(space, by.as_slice(), &mut kept)?;
         narrow(space, &kept[first..]);
     }
     Ok(kept)
 }
 
-/// Adds the cubes of columns.
+/// Adds the cubes of these columns to `by`.
 fn push_cubes<'a>(columns: &'a [Column], by: &mut Vec<&'a Cube>) -> Result<(), OutOfMemory>
     ensures { IfOk result (λ _. map (λ b. b.now) by.new.items ≡ map (λ b. b.now) by.old.items ++ map (λ c. c.cube) columns.now) }
 {
@@ -95,8 +97,9 @@ fn push_cubes<'a>(columns: &'a [Column], by: &mut Vec<&'a Cube>) -> Result<(), O
     Ok(())
 }
 
-/// The least scenario along the urgency order, of at most the graph's faults, in which the items and times of what is due
-/// on all nodes up to a log's time are those of the log; `None` exactly if no scenario gives it. No scenario is listed.
+/// The least scenario in the urgency order that gives a log: what is due on all nodes up to the log's time is just what
+/// the log names, each at its time. `None` exactly if no scenario of at most the graph's faults gives it. Scenarios
+/// aren't gone over one by one. The one error is `OutOfMemory`.
 pub fn audit(
     alloc: Global,
     admitted: &Admitted,
@@ -111,13 +114,13 @@ pub fn audit(
 {
     let problem = admitted.problem();
     let order = admitted.order();
-    // called for its contract: the tables are lawful under their head
+    // called for its clause alone that the tables are lawful under their head
     let _head = tables.head();
     let idle = all_idle(alloc, admitted, log.acts())?;
     let mut space = Space::whole(problem.faults());
     let mut by = excluded(alloc, problem, tables, log, &mut space)?;
     push_cubes(idle.as_slice(), &mut by)?;
-    // the least scenario of the space that no cube matches
+    // what is left is the least scenario of the space that none of the cubes matches
     let cube = cube_of(alloc, problem, &space)?;
     let found = uncovered(alloc, problem, order, &cube, by.as_slice())?;
     Ok(found)

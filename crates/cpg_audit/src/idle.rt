@@ -1,4 +1,4 @@
-//! The scenarios in which logged items aren't active.
+//! The scenarios in which some logged item isn't active: they don't give the log.
 ghost use Rattle.std.specs.Prelude.{◌≡◌, ℕ, All, Bool, IfOk, not, true};
 ghost use Rattle.std.specs.List.{list_any};
 ghost use Rattle.cpg_base.specs.Activity.{item_active};
@@ -19,14 +19,14 @@ use cpg_tree::Tree;
 use cpg_tree_columns::columns;
 use std::alloc::Global;
 
-/// A time if something isn't active.
+/// Some time, 0, if an item isn't active, and `None` if it is.
 fn idle_time(active: bool) -> Option<u64>
     ensures { result ≡ idle_time active }
 {
     if active { None } else { Some(0) }
 }
 
-/// A time in each scenario in which a tree isn't true.
+/// The tree that has a time just where `active` is false, so that its columns match just there.
 fn idle(active: &Tree<bool>) -> Result<Tree<Option<u64>>, OutOfMemory>
     ensures is { IfOk result (IsMap (λ x z. z ≡ idle_time x) active.now) }
     ensures each { IfOk result (λ t. HasOnePathEach t.faults t.paths) }
@@ -35,7 +35,7 @@ fn idle(active: &Tree<bool>) -> Result<Tree<Option<u64>>, OutOfMemory>
     active.map(&|active: bool| idle_time(active))
 }
 
-/// The cubes of the scenarios in which an item isn't active.
+/// Columns that match just in the scenarios in which an item isn't active.
 fn idle_columns(alloc: Global, admitted: &Admitted, item: u32) -> Result<Vec<Column>, OutOfMemory>
     requires { is_act admitted.now.graph item ≡ true }
     ensures known { IfOk result (λ columns. All (λ c. IsKnown admitted.now.graph c.cube) columns.items) }
@@ -48,7 +48,8 @@ fn idle_columns(alloc: Global, admitted: &Admitted, item: u32) -> Result<Vec<Col
     Ok(columns)
 }
 
-/// The cubes of the scenarios in which an item of these acts isn't active.
+/// Columns that match just in the scenarios in which some item of these acts isn't active. The one error is
+/// `OutOfMemory`.
 pub fn all_idle(
     alloc: Global,
     admitted: &Admitted,

@@ -1,4 +1,4 @@
-//! Which scenario gives a log: the least one of at most the graph's faults in which the nodes do exactly what is logged.
+//! Which scenario gives a log: the least one, of at most the graph's faults, in which just what is logged is due.
 #![tactic(auto)]
 
 mod auditing;

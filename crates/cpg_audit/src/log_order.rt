@@ -7,16 +7,17 @@ use cpg_base::{OutOfMemory, Problem};
 use cpg_log::Log;
 use std::alloc::Global;
 
-/// An item, at the time at which a log names it or, if it doesn't, at the greatest.
+/// An item, with when a log names it.
 #[derive(Drop)]
 pub struct TimedItem {
+    /// The time at which the log names the item; the greatest of 64 bits if it doesn't.
     time: u64,
     /// The number of the item.
     pub item: u32,
 }
 
-/// All items, those that a log names first, by time: a column depends on what was before its item, which the items before it have
-/// shown by then.
+/// All items, those that a log names first, by time, and then the others. A column's literals are about what was before
+/// it, which the items before it have shown by then. The one error is `OutOfMemory`.
 pub fn in_log_order(
     alloc: Global,
     problem: &Problem,
@@ -26,6 +27,7 @@ pub fn in_log_order(
 {
     let mut ordered = Vec::new(alloc);
     for item in 0..problem.item_count() {
+        // what isn't named comes last
         let time = log.time_of(item).unwrap_or(u64::MAX);
         ordered.push(TimedItem { time, item })?;
     }

@@ -1,4 +1,4 @@
-//! What is left of all scenarios once single cubes are taken off, as ranges.
+//! What is left of all scenarios once cubes are taken off one by one, as far as ranges of the variables can say.
 ghost use Rattle.std.specs.Prelude.{◌≡◌, ◌≤◌, ◌<◌, ◌||◌, ℕ, All, IfOk, IfSome, false, length, true};
 ghost use Rattle.std.specs.Bool.{OnTrue};
 ghost use Rattle.std.specs.List.{list_any};
@@ -14,36 +14,36 @@ use cpg_cube::{Cube, Literal};
 use cpg_tree::Space;
 use std::alloc::Global;
 
-/// Which scenarios of a space a cube matches, as far as single literals show it.
+/// Which scenarios of a space a cube matches, as far as it depends on one variable.
 #[derive(Drop)]
 enum Extent {
-    /// No scenario.
+    /// It matches none.
     Nowhere,
-    /// The scenarios in which a literal holds.
+    /// It matches just those in which this literal holds.
     Where(Literal),
-    /// It isn't known.
+    /// It may match any.
     Unknown,
 }
 
-/// Whether a literal holds nowhere in a space.
+/// Whether a literal holds in no scenario of a space: its range has no number that the space leaves the variable.
 fn is_apart(space: &Space, literal: &Literal) -> bool
     ensures { OnTrue result ((s : Scenario) → IsInSpace space.now s → holds s literal.now ≡ false) }
 {
     space.most(literal.variable) < literal.low || literal.high < space.least(literal.variable)
 }
 
-/// Which scenarios of a space literals match.
+/// Which scenarios of a space a cube with these literals matches.
 fn extent_of(space: &Space, literals: &[Literal]) -> Extent
     ensures { IsExtent space.now literals.now result }
 {
+    // the literal so far that doesn't hold in the whole space
     let mut open = None;
     for literal in literals {
-        // a literal that the space implies cuts nothing off
         if !space.implies(literal) {
             if is_apart(space, literal) {
                 return Extent::Nowhere;
             }
-            // two literals are open, so the extent depends on more than one variable
+            // it depends on two variables
             if open.is_some() {
                 return Extent::Unknown;
             }
@@ -52,19 +52,20 @@ fn extent_of(space: &Space, literals: &[Literal]) -> Extent
     }
     match open {
         Some(literal) => Extent::Where(literal),
-        // all of the space is matched, which is left as it is
+        // the cube matches all of the space, and taking it off would leave nothing: no range says that
         None => Extent::Unknown,
     }
 }
 
-/// The range that a variable is in if a literal on it doesn't hold; `None` if that isn't one range of the space.
+/// The range that a variable is in wherever in a space a literal on it doesn't hold. `None` if what the literal leaves
+/// of the space's range isn't one range, or is nothing or all of it.
 fn range_outside(space: &Space, literal: Literal) -> Option<Literal>
     ensures { IfSome result (λ l. (s : Scenario) → IsInSpace space.now s → holds s literal ≡ false → holds s l ≡ true) }
 {
     let variable = literal.variable;
     let least = space.least(variable);
     let most = space.most(variable);
-    // the part above the literal is left
+    // only what is above the literal is left
     if literal.low <= least && literal.high < most {
         return Some(Literal {
             variable,
@@ -72,7 +73,7 @@ fn range_outside(space: &Space, literal: Literal) -> Option<Literal>
             high: most,
         });
     }
-    // the part below the literal is left
+    // only what is below the literal is left
     if least < literal.low && most <= literal.high {
         return Some(Literal {
             variable,
@@ -80,24 +81,26 @@ fn range_outside(space: &Space, literal: Literal) -> Option<Literal>
             high: literal.low - 1,
         });
     }
-    // the literal cuts out the middle, or all
+    // the literal leaves numbers on both sides, or none
     None
 }
 
-/// Leaves the scenarios in which a literal doesn't hold, if they have one range of its variable.
+/// Narrows a space to the scenarios in which a literal doesn't hold, if these have one range of its variable. Otherwise
+/// the space stays as it is.
 fn exclude(space: &mut Space, literal: Literal)
     ensures { (s : Scenario) → IsInSpace space.old s → holds s literal ≡ false → IsInSpace space.new s }
 {
     let Some(range) = range_outside(space, literal) else {
         return;
     };
+    // the range is within the space's, so there is a rest
     if let Some(rest) = space.within(&[range]) {
         *space = rest;
     }
 }
 
-/// Leaves the scenarios that a cube doesn't match, if that depends on one variable, and keeps the cube unless it is known to
-/// match none of the space.
+/// Narrows a space to the scenarios that a cube doesn't match, if that depends on one variable, and adds the cube to
+/// `kept`, unless it matches nothing of the space.
 fn take_off<'a>(
     space: &mut Space,
     cube: &'a Cube,
@@ -111,7 +114,6 @@ fn take_off<'a>(
         All (λ b. IsKnown g b.now) kept.new.items) }
 {
     match extent_of(space, cube.literals()) {
-        // the cube matches nothing of the space, so it isn't kept
         Extent::Nowhere => return Ok(()),
         Extent::Where(literal) => exclude(space, literal),
         Extent::Unknown => {}
@@ -120,9 +122,10 @@ fn take_off<'a>(
     Ok(())
 }
 
-/// Leaves the scenarios that no cube matches, as far as each cube depends on one variable, and keeps the cubes except those
-/// that are known to match nothing of what is left at their turn. It goes from the last on: if an item's cubes rise by the
-/// number of faults, each then takes off the greatest number that is left, down to the one that the log gives.
+/// Narrows a space to the scenarios that none of these cubes matches, as far as each depends on one variable, and adds
+/// to `kept` those that match something of what is left at their turn. It goes from the last cube back: if an item's
+/// cubes rise by the number of faults, each then takes off the greatest number that is left, down to the one that the
+/// log gives.
 pub fn take_off_all<'a>(
     space: &mut Space,
     by: &[&'a Cube],
@@ -143,8 +146,9 @@ pub fn take_off_all<'a>(
     Ok(())
 }
 
-/// Leaves the scenarios that no cube matches, as far as each cube depends on one variable. It goes from the last on: of cubes
-/// that were kept from the last on, each then takes off the least number that is left.
+/// Narrows a space to the scenarios that none of these cubes matches, as far as each depends on one variable. It goes
+/// from the last cube back: of cubes that `take_off_all` has kept, which are in reverse, each then takes off the least
+/// number that is left.
 pub fn narrow(space: &mut Space, by: &[&Cube])
     ensures { (s : Scenario) → list_any (λ b. matches b.now s) by.now ≡ false → IsInSpace space.old s → IsInSpace space.new s }
 {
@@ -157,7 +161,8 @@ pub fn narrow(space: &mut Space, by: &[&Cube])
     }
 }
 
-/// Adds the ranges of the variables from one up to the one before another, except ranges that all scenarios are in.
+/// Adds to a cube the space's ranges of the variables from `first` up to `end`, this one left out, except those that
+/// leave out no number of the variable.
 fn push_ranges(
     problem: &Problem,
     space: &Space,
@@ -185,12 +190,13 @@ fn push_ranges(
     Ok(())
 }
 
-/// The cube of a space's ranges.
+/// A cube that matches all scenarios of a space: it has the space's ranges of all variables.
 pub fn cube_of(alloc: Global, problem: &Problem, space: &Space) -> Result<Cube, OutOfMemory>
     ensures matches { IfOk result (λ cube. (s : Scenario) → IsInSpace space.now s → matches cube s ≡ true) }
     ensures known { IfOk result (IsKnown problem.now) }
 {
     let mut cube = Cube::whole(alloc);
+    // the fault counts are numbered from 0 on, the values from `FIRST_VALUE` on
     let processes = problem.processes().len() as u8;
     let end = FIRST_VALUE + problem.conditions() as u8;
     push_ranges(problem, space, 0, processes, &mut cube)?;

@@ -35,7 +35,7 @@ module _ {X : Type 0} (same : X → X → Bool) (R : X → X → Type 0) (to : (
   apart_iff true xs e = (λ _. pairs_from_apart xs e, λ _. refl)
   apart_iff false xs e = (λ h. absurd (true≢false (sym h)), λ h. absurd (true≢false (sym (apart_from_pairs xs h) ∙ e)))
 
--- names are compared byte by byte
+-- names that the comparison of bytes tells apart differ
 names_differ : (x y : List ℕ) → bytes_eq x y ≡ false → x ≢ y
 names_differ x y e is = true≢false (sym ((bytes_eq-Decides x y).1 is) ∙ e)
 

@@ -27,7 +27,8 @@ slot_length-le g node = elim (cases_lt (slot_place g node) (length g.slots)) [
       omega arith
 ]
 
--- an execution of a process within the limits takes at most 600000000000
+-- An execution of a process within the limits takes at most 600000000000: work of at most 10^9, at most 255 parts of
+-- 2 * 10^9 and 8 faults of 3 * 10^9 make 535 * 10^9.
 pub duration_of-le : (nodes : ℕ) (p : Process) (f : ℕ) → IsProcessWithin nodes p → f ≤ 8 →
     duration_of p f ≤ 600000000000
 duration_of-le nodes p f within few =
@@ -38,6 +39,6 @@ duration_of-le nodes p f within few =
     (omega (arith, within.mu, within.alpha, within.wcet)) in
     omega (arith, within.wcet)
 
--- so does an execution of a process of a graph within the limits
+-- an execution of a process of a graph within the limits takes at most as long
 pub duration-le : (g : Graph) (p f : ℕ) → IsWithinLimits g → p < process_count g → f ≤ 8 → duration g p f ≤ 600000000000
 duration-le g p f within l few = duration_of-le (length g.nodes) (process_at g p) f (within.processes p _ l) few

@@ -8,11 +8,12 @@ use Rattle.cpg_base.specs.Graph.{Graph, process_count, process_at}
 use Rattle.cpg_base.specs.Duration.{duration}
 use Rattle.cpg_base.specs.Limits.{IsProcessWithin, IsWithinLimits}
 
--- a product grows with its factors
+-- the product of two numbers is at most that of their bounds
 pub product_within : (a b m n : ℕ) → a ≤ m → b ≤ n → a * b ≤ m * n
 product_within a b m n h k = mul-le-mul h k
 
--- a part of a work is no longer than the work
+-- A part of a work is no longer than the work.
+-- Were it longer, all parts together would be longer than the work and one part less a unit.
 pub part_within : (work parts : ℕ) → 1 ≤ parts → div_ceil work parts ≤ work
 part_within work parts h = elim (cases_lt work (div_ceil work parts)) [
   | inl l ↦
@@ -24,7 +25,8 @@ part_within work parts h = elim (cases_lt work (div_ceil work parts)) [
   | inr l ↦ l
 ]
 
--- an execution in a graph within the limits takes less than 2 ^ 40
+-- An execution in a graph within the limits takes less than 2 ^ 40.
+-- Work of at most 10^9, at most 255 parts of 2 * 10^9, and 8 faults of 3 * 10^9.
 pub duration_short : (g : Graph) → IsWithinLimits g → (p f : ℕ) → p < process_count g → f ≤ g.faults →
     duration g p f < 2 ^ 40
 duration_short g within p f l few =

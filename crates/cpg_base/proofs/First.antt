@@ -73,7 +73,7 @@ module _ (g : Graph) (order : List ℕ) where
       (h c (Contains-first c cs))
       (first_of_all test answer cs (λ d k. h d (Contains-rest c cs d k)))
 
-  -- along an order of all processes there is one answer
+  -- along an order of all processes a test has one answer: two that are the first are equal
   pub one_first : IsPermutation (numbers_below (process_count g)) order →
       (p : Scenario → Bool) (a b : Option Scenario) → IsFirst g order p a → IsFirst g order p b → a ≡ b
   one_first all p None None f h = refl

@@ -25,7 +25,7 @@ module _ (g : Graph) where
       list_any_true (is_conditional_output p) g.edges (edge_at g a.0) (Contains-get_or g.edges a.0 _ o.0)
       (and_from (source g a.0 == p) (is_some (edge_at g a.0).when) (eq-eqb (source g a.0) p o.1) a.2)
 
-  -- and the other way
+  -- a process with a conditional output among the edges is a disjunction: that edge is among its outputs
   to_output : (p : ℕ) → has_conditional_output g.edges p ≡ true → is_disjunction g p ≡ true
   to_output p h =
       let a = list_any_parts (is_conditional_output p) g.edges h in
@@ -41,7 +41,8 @@ module _ (g : Graph) where
   conditions_found = same_filter (has_conditional_output g.edges) (is_disjunction g) (numbers_below (process_count g))
       (λ p c. same_truth (has_conditional_output g.edges p) (is_disjunction g p) (to_output p) (from_output p))
 
-  -- each condition is that of its process
+  -- Each condition is that of its process.
+  -- The list of disjunctions rises, so the first place at which the process stands is this one.
   pub condition_back : (c : ℕ) → c < condition_count g → condition_of g (process_of g c) ≡ Some c
   condition_back c h =
       let passes : ℕ → Bool = λ q. q == process_of g c in

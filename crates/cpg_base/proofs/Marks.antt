@@ -11,7 +11,7 @@ use Rattle.cpg_base.specs.Graph.{Edge}
 use Rattle.cpg_base.specs.Conditions.{is_conditional_output, has_conditional_output}
 use Rattle.cpg_base.proofs.Lists.{same_filter, numbers-Contains, filter_below_push}
 
--- the marks after some edges
+-- the marks are those of these edges: a process below 128 is marked exactly if it has a conditional output among them
 abbrev pub AreMarks : List Bool → List Edge → Type 0
 AreMarks marks edges = (p : ℕ) → p < 128 → get_or marks p false ≡ has_conditional_output edges p
 
@@ -28,14 +28,15 @@ module _ (edges : List Edge) (i : ℕ) (d : Edge) (within : i < length edges) wh
       ≡ (has_conditional_output (take i edges) p || is_conditional_output p (get_or edges i d))
   more p = list_any_more (is_conditional_output p) edges i d within
 
-  -- a simple edge marks nothing
+  -- after an edge without a `when` the marks are still right
   pub marks_keep : (marks : List Bool) → AreMarks marks (take i edges) → is_some (get_or edges i d).when ≡ false →
       AreMarks marks (take (i + 1) edges)
   marks_keep marks h simple p l = h p l ∙ sym
       (more p ∙ or_false (has_conditional_output (take i edges) p) (is_conditional_output p (get_or edges i d))
       (and_right ((get_or edges i d).from == p) (is_some (get_or edges i d).when) simple))
 
-  -- another edge marks its source
+  -- After an edge with a `when` they are right once its source is marked.
+  -- p is the source of the edge, which is marked now, or another process, of which the edge says nothing.
   pub marks_set : (marks : List Bool) → AreMarks marks (take i edges) → is_some (get_or edges i d).when ≡ true →
       (get_or edges i d).from < length marks →
       AreMarks (set marks (get_or edges i d).from true) (take (i + 1) edges)
@@ -53,7 +54,8 @@ module _ (edges : List Edge) (i : ℕ) (d : Edge) (within : i < length edges) wh
 pub no_marks : (p : ℕ) → p < 128 → get_or (replicate 128 false) p false ≡ false
 no_marks p l = get_or-replicate 128 p false false l
 
--- with more numbers no fewer pass a test
+-- With more numbers no fewer pass a test.
+-- By induction on how many more: the next number passes, or it doesn't.
 filter_grows_by : (p : ℕ → Bool) (n m : ℕ) →
     length (filter p (numbers_below n)) ≤ length (filter p (numbers_below (m + n)))
 filter_grows_by p n zero = subst (λ k. length (filter p (numbers_below n)) ≤ length (filter p (numbers_below k)))
@@ -80,7 +82,7 @@ many_pass p n i most l t e =
     length-append (filter p (numbers_below i)) (i ∷ []) in
     omega (arith, q, e, filter_grows p (i + 1) n (omega arith))
 
--- the same numbers pass if the marks agree with a test
+-- if the marks agree with a test, the same numbers are marked and pass it
 pub same_marked : (marks : List Bool) (p : ℕ → Bool) (n : ℕ) → n ≤ 128 →
     ((q : ℕ) → q < 128 → get_or marks q false ≡ p q) →
     filter (λ q. get_or marks q false) (numbers_below n) ≡ filter p (numbers_below n)

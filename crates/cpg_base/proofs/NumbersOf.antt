@@ -42,7 +42,8 @@ pub variable_cases : (g : Graph) (v : ℕ) → IsVariable g v →
 variable_cases g v (inl h) = inl h
 variable_cases g v (inr h) = inr (v - 128, omega arith, omega arith)
 
--- a number is a variable of the graph or is not
+-- A number is a variable of the graph or is not.
+-- By the ranges: fault counts are below the number of processes, values from 128 on.
 pub variable_or_not : (g : Graph) (v : ℕ) → IsVariable g v ⊎ (IsVariable g v → ⊥)
 variable_or_not g v = ⊎_elim
     (λ (a : v < process_count g). inl (inl a))
@@ -57,7 +58,8 @@ variable_or_not g v = ⊎_elim
     (cases_lt v 128))
     (cases_lt v (process_count g))
 
--- what is no variable of the graph has the number 0 in its scenarios
+-- What is no variable of the graph has the number 0 in its scenarios.
+-- Below 128 it is past the end of the fault counts, and from 128 on past the end of the values.
 pub unknown-zero : (g : Graph) (s : Scenario) → IsScenario g s → (v : ℕ) → (IsVariable g v → ⊥) → number_of s v ≡ 0
 unknown-zero g s i v n = ⊎_elim
     (λ (a : v < 128). let f = i.faults in

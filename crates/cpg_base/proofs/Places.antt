@@ -66,7 +66,8 @@ place-below xs x h = ⊎_elim
     (λ b. unwrap_or (cond b (Some (position_or_len (λ q. q == x) xs)) None) 0 < length xs) (sym (le-ltb _ _ l)) h)
     (cases_lt (position_or_len (λ q. q == x) xs) (length xs))
 
--- what stands before a number is in the list, at a lower place
+-- What stands before a number is in the list, at a lower place.
+-- It is at some place of the front, and its first place is no later.
 pub from_before : (xs : List ℕ) (x y : ℕ) → Contains (before xs y) x → (Contains xs x) × (place xs x < place xs y)
 from_before xs x y c =
     let n = length-take (place xs y) xs in
@@ -113,7 +114,8 @@ apart xs x y c d ne = elim (cases_order (place xs x) (place xs y)) [
   | inr (inr l) ↦ inr (Contains-before xs y x d l)
 ]
 
--- the places in a list without repeats rise
+-- The places in a list without repeats rise.
+-- The place of each element is where it stands, since it stands nowhere before.
 pub places_rise : (xs : List ℕ) → AllPairs (λ x y. x ≢ y) xs → AllPairs (λ x y. place xs x < place xs y) xs
 places_rise xs apart i j d h l =
     let a = place-le xs (get_or xs i d) i (omega arith) (get_or_default xs i (get_or xs i d) d (omega arith)) in

@@ -18,7 +18,8 @@ use Rattle.cpg_base.proofs.Places.{Contains-order}
 use Rattle.cpg_base.proofs.ConditionProcesses.{condition_of_process_of, condition_of_below}
 use Rattle.cpg_base.proofs.NumbersOf.{number_of-fault, number_of-value, one_value}
 
--- two lists that are equal, with fronts of one length, have equal fronts and rests
+-- Two lists that are equal, with fronts of one length, have equal fronts and rests.
+-- By induction on the fronts.
 same_parts : {X : Type 0} (us vs xs ys : List X) → length us ≡ length vs → us ++ xs ≡ vs ++ ys → (us ≡ vs) × (xs ≡ ys)
 same_parts [] [] xs ys l e = (refl, e)
 same_parts [] (v ∷ vs) xs ys l e = absurd (omega arith)
@@ -29,7 +30,8 @@ same_parts (u ∷ us) (v ∷ vs) xs ys l e =
     let r = same_parts us vs xs ys (omega arith) t in
     (ap₂ ◌∷◌ h r.0, r.1)
 
--- if two flat maps are equal, and each element gives lists of one length, the lists are equal
+-- If two flat maps are equal, and each element gives lists of one length, the lists are equal.
+-- By induction on the list: what the first gives is the front of both.
 same_pieces : {X Y : Type 0} (f h : X → List Y) (xs : List X) → ((x : X) → length (f x) ≡ length (h x)) →
     flat_map f xs ≡ flat_map h xs → (x : X) → Contains xs x → f x ≡ h x
 same_pieces f h [] l e x c = absurd (Contains-nil x c)
@@ -66,7 +68,7 @@ module _ (g : Graph) (order : List ℕ) where
 
 -- ---- what is nowhere more is not after
 
--- what a process gives to the key
+-- what a process gives to the key of a scenario: its fault count, and the value of its condition, if it has one
 piece : Graph → Scenario → ℕ → List ℕ
 piece g s p = fault_of s p ∷ value_in_key s.values (condition_of g p)
 
@@ -90,7 +92,8 @@ module _ (g : Graph) (s t : Scenario) where
       (f p)
       (not_below_value (condition_of g p) (key g ps t) (key g ps s) (v p) (not_before_by_parts ps f v))
 
-  -- a scenario with no variable's number lower than another's is not before that one
+  -- A scenario with no variable's number lower than another's is not before that one.
+  -- Number by number of the keys: a fault count, and then the value of the process's condition.
   pub not_before : (order : List ℕ) → process_count g ≤ 128 → IsScenario g s →
       ((v : ℕ) → IsVariable g v → number_of s v ≤ number_of t v) →
       is_before g order t s ≡ false
@@ -125,14 +128,14 @@ module _ (g : Graph) (order : List ℕ) (all : IsPermutation (numbers_below (pro
       of_one_length a b None = refl
       of_one_length a b (Some c) = refl
 
-  -- so each process has the same count
+  -- both scenarios have the same fault counts
   same_faults : s.faults ≡ t.faults
   unfolding piece
   same_faults = ext_get_or 0 s.faults t.faults (i.faults ∙ sym j.faults) (λ p l.
       let n = i.faults in
       let e = same_piece p (omega arith) in cc)
 
-  -- and each condition the same value
+  -- and the same values
   same_values : s.values ≡ t.values
   unfolding piece
   same_values = ext_get_or false s.values t.values (i.values ∙ sym j.values) (λ c l.
@@ -155,7 +158,7 @@ module _ (g : Graph) (order : List ℕ) (all : IsPermutation (numbers_below (pro
           (subst (λ o. fault_of s (process_of g c) ∷ value_in_key s.values o
           ≡ fault_of t (process_of g c) ∷ value_in_key t.values o) is e)
 
-  -- the two scenarios are the same
+  -- so they are one scenario
   pub same_scenario : s ≡ t
   same_scenario = ap₂ (λ vs fs. let r : Scenario = record { values = vs; faults = fs } in r) same_values same_faults
 

@@ -12,7 +12,9 @@ use Rattle.cpg_base.proofs.Places.{get_or-place, place-lt, length_order, Contain
 
 -- the places of the processes before the place k are written down
 pub record AreWritten (order places : List ℕ) (k : ℕ) : Type 0 where
+  -- there is a place for each process
   pub long : length places ≡ length order
+  -- the places of the first k processes are right
   pub there : (j : ℕ) → j < k → get_or places (get_or order j 0) 0 ≡ j
 
 -- given an order of processes
@@ -38,7 +40,8 @@ module _ (order : List ℕ) (lawful : IsOrder order) where
 
   -- ---- writing down the places of one process after another
 
-  -- the place of the next process is written down
+  -- The place of the next process is written down.
+  -- A process of the order is the next one, or one before it, whose place stays.
   pub written_more : (places : List ℕ) (k : ℕ) → k < length order → AreWritten order places k →
       AreWritten order (set places (get_or order k 0) k) (k + 1)
   written_more places k h w = record {

@@ -3,7 +3,8 @@ use Rattle.cpg_base.specs.Graph.{Graph}
 use Rattle.cpg_base.specs.Limits.{IsWithinLimits}
 use Rattle.cpg_base.specs.WellFormed.{WellFormed, HasSenderSlots}
 
--- a graph within the limits is well formed if its senders have slots
+-- A graph within the limits is well formed if its senders have slots.
+-- Each field is one of the limits.
 pub well_formed : (g : Graph) → IsWithinLimits g → HasSenderSlots g → WellFormed g
 well_formed g w senders = record {
   sources = λ e l. (w.edges e _ l).from;

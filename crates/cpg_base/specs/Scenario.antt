@@ -6,39 +6,45 @@ use Rattle.cpg_base.specs.Graph.{Graph, process_count, condition_count, conditio
 use Rattle.cpg_base.specs.Duration.{duration}
 use Rattle.std.specs.List.{flat_map}
 
--- values by condition, and faults by process
+-- a scenario, of whatever graph
 pub record Scenario : Type 0 where
+  -- the value of each condition, by its number
   pub values : List Bool
+  -- the fault count of each process, by its number
   pub faults : List ℕ
 
--- there is a value for each condition and a count for each process, with no more faults in all than the graph allows
+-- the scenario is one of the graph
 pub record IsScenario (g : Graph) (s : Scenario) : Type 0 where
+  -- there is a value for each condition
   pub values : length s.values ≡ condition_count g
+  -- there is a fault count for each process
   pub faults : length s.faults ≡ process_count g
+  -- there are no more faults in all than the graph allows
   pub budget : sum s.faults ≤ g.faults
 
 -- no faults, and every value false
 abbrev pub zero_scenario : Graph → Scenario
 zero_scenario g = record { values = replicate (condition_count g) false; faults = replicate (process_count g) 0 }
 
--- a value as a number
+-- a condition's value as the number of its variable
 abbrev pub number_of_value : Bool → ℕ
 number_of_value false = 0
 number_of_value true = 1
 
--- how many faults a process has
+-- how many faults a process has in a scenario, and 0 if there is no such process
 abbrev pub fault_of : Scenario → ℕ → ℕ
 fault_of s p = get_or s.faults p 0
 
--- the number that a variable has in a scenario
+-- The number that a variable has in a scenario: below 128 a fault count, from 128 on a value as 0 or 1. It is 0 if the
+-- scenario has no such variable.
 abbrev pub number_of : Scenario → ℕ → ℕ
 number_of s v = if nat_lt v 128 then fault_of s v else number_of_value (get_or s.values (v - 128) false)
 
--- how long each execution lasts at most in a scenario
+-- how long the execution of each process lasts at most in a scenario, by the process's number
 abbrev pub full_lengths : Graph → Scenario → List ℕ
 full_lengths g s = map (λ p. duration g p (fault_of s p)) (numbers_below (process_count g))
 
--- the value of a process's condition, if it has one
+-- what a process's condition, if it has one, adds to the key: its value as a number
 abbrev pub value_in_key : List Bool → Option ℕ → List ℕ
 value_in_key values None = []
 value_in_key values (Some c) = number_of_value (get_or values c false) ∷ []
@@ -47,12 +53,13 @@ value_in_key values (Some c) = number_of_value (get_or values c false) ∷ []
 abbrev pub key : Graph → List ℕ → Scenario → List ℕ
 key g order s = flat_map (λ p. fault_of s p ∷ value_in_key s.values (condition_of g p)) order
 
--- whether the first scenario comes before the second
+-- whether scenario s comes before scenario t: its key has the lesser number at the first place at which they differ
 abbrev pub is_before : Graph → List ℕ → Scenario → Scenario → Bool
 is_before g order s t = is_below (key g order s) (key g order t)
 
--- the fact holds in this scenario, and in none that comes before it
+-- s is the first scenario of the graph, along the order, in which the fact holds
 pub record IsLeast (g : Graph) (order : List ℕ) (fact : Scenario → Type 0) (s : Scenario) : Type 0 where
+  -- it is a scenario of the graph, and the fact holds in it
   pub lawful : IsScenario g s
   pub holds : fact s
   -- no scenario with the fact comes before it

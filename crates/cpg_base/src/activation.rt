@@ -9,7 +9,7 @@ pub enum Activation {
     Inactive,
     /// It has no inputs, or it is no join and all its inputs are live.
     Plain,
-    /// It is a join, and the input of this edge number is live.
+    /// It is a join, and the edge of this number is the first of its inputs that is live.
     By(u32),
 }
 

@@ -1,17 +1,20 @@
-//! The order of scenarios.
+//! Which of two scenarios comes before the other.
 ghost use Rattle.std.specs.Prelude.{◌≡◌, ◌<◌, ◌∷◌, ℕ, List, IfNone, IfSome, length};
 ghost use Rattle.cpg_base.specs.Graph.{process_count};
 ghost use Rattle.cpg_base.specs.Scenario.{IsScenario, is_before};
 
 use crate::{Order, Problem, Scenario};
 
-/// Whether the first scenario has fewer faults of a process than the second, or as many and its condition is false there
-/// but true in the second. `None` if the two are alike at this process.
+/// Compares two scenarios at one process. Returns whether the first has fewer faults of it, or as many and a false
+/// condition where the second has a true one; `None` exactly if both have the same faults of it and the same value of
+/// its condition, if it has one.
 fn at_process(problem: &Problem, process: u32, first: &Scenario, second: &Scenario) -> Option<bool>
     requires process { process < process_count problem.now }
     requires first { IsScenario problem.now first.now }
     requires second { IsScenario problem.now second.now }
+    // whatever processes follow in the order, the answer is that of the whole comparison
     ensures differ { IfSome result (λ before. (rest : List ℕ) → is_before problem.now (process ∷ rest) first.now second.now ≡ before) }
+    // if there is none, the processes that follow decide
     ensures same { IfNone result ((rest : List ℕ) →
         is_before problem.now (process ∷ rest) first.now second.now ≡ is_before problem.now rest first.now second.now) }
 {
@@ -21,6 +24,7 @@ fn at_process(problem: &Problem, process: u32, first: &Scenario, second: &Scenar
     if faults != others {
         return Some(faults < others);
     }
+    // without a condition there is nothing else to compare
     let Some(condition) = problem.condition_of(process) else {
         return None;
     };
@@ -32,8 +36,8 @@ fn at_process(problem: &Problem, process: u32, first: &Scenario, second: &Scenar
     None
 }
 
-/// Whether the first scenario comes before the second: at the first process in the order at which they differ it has
-/// fewer faults, or as many and its condition is false.
+/// Returns whether the first scenario comes before the second: at the first process in the order at which they differ it
+/// has fewer faults, or as many and its condition is false. If they don't differ, it doesn't.
 pub fn is_before(problem: &Problem, order: &Order, first: &Scenario, second: &Scenario) -> bool
     requires order { length order.now ≡ process_count problem.now }
     requires first { IsScenario problem.now first.now }
@@ -41,9 +45,11 @@ pub fn is_before(problem: &Problem, order: &Order, first: &Scenario, second: &Sc
     ensures { result ≡ is_before problem.now order.now first.now second.now }
 {
     for process in order.processes() {
+        // the first process at which they differ decides
         if let Some(before) = at_process(problem, *process, first, second) {
             return before;
         }
     }
+    // they are alike at all processes, so neither comes before the other
     false
 }

@@ -1,4 +1,4 @@
-//! The numbers of conditions.
+//! Conditions: which processes have one, and how they are numbered.
 ghost use Rattle.std.specs.Prelude.{◌≡◌, ◌<◌, ◌≤◌, ◌++◌, ◌∷◌, [], All, IfSome, IfNone, ◌==◌, false, filter, get_or, length, position, ℕ};
 ghost use Rattle.cpg_base.specs.Conditions.{has_conditional_output};
 ghost use Rattle.cpg_base.specs.Numbers.{numbers_below};
@@ -7,10 +7,13 @@ use crate::Edge;
 use crate::limits::{MOST_CONDITIONS, MOST_PROCESSES};
 use std::marker::Model;
 
-/// The processes that have a condition, by number, seen as a list.
+/// The processes that have a condition, in numerical order, seen as the list of them. The condition of number c is that
+/// of the process at place c.
 #[derive(Drop)]
 pub struct Conditions {
+    /// The first `count` of these are the processes; those behind are 0 and mean nothing.
     processes: [u32; MOST_CONDITIONS],
+    /// How many processes have a condition.
     count: usize,
 }
 
@@ -21,10 +24,11 @@ impl Model for Conditions {
 
     ghost view = { λ c. take c.count c.processes };
 
+    // no more than there is room for
     ghost invariant = { λ c. c.count ≤ 32 };
 }
 
-/// For each process number, whether the process has a conditional output.
+/// Returns for each process number below 128 whether a process of this number has a conditional output.
 fn disjunctions(edges: &[Edge]) -> [bool; MOST_PROCESSES]
     requires { All (λ e. e.from < 128) edges.now }
     ensures { (p : ℕ) → p < 128 → get_or result p false ≡ has_conditional_output edges.now p }
@@ -32,13 +36,14 @@ fn disjunctions(edges: &[Edge]) -> [bool; MOST_PROCESSES]
     let mut found = [false; MOST_PROCESSES];
     for edge in edges {
         if edge.when.is_some() {
+            // an edge with a `when` gives its source a condition
             found[edge.from as usize] = true;
         }
     }
     found
 }
 
-/// The place of a process in a list, if it is there.
+/// Returns the place of a process in a list, and `None` exactly if it isn't there.
 fn process_index(processes: &[u32], process: u32) -> Option<usize>
     ensures place { result ≡ position (λ other. other == process) processes.now }
     ensures within { IfSome result (λ place. place < length processes.now) }
@@ -47,7 +52,7 @@ fn process_index(processes: &[u32], process: u32) -> Option<usize>
 }
 
 impl Conditions {
-    /// No conditions.
+    /// Returns an empty list of conditions.
     fn none() -> Conditions
         ensures { result ≡ [] }
     {
@@ -57,7 +62,7 @@ impl Conditions {
         }
     }
 
-    /// Adds a process that has a condition.
+    /// Adds a process that has a condition, with the next number.
     fn push(&mut self, process: u32)
         requires { length self.old < 32 }
         ensures { self.new ≡ self.old ++ process ∷ [] }
@@ -66,7 +71,7 @@ impl Conditions {
         self.count += 1;
     }
 
-    /// The conditions of this many processes, by number; `None` exactly if there are more than 32.
+    /// Returns the conditions of this many processes with these edges, and `None` exactly if there are more than 32.
     pub fn of(processes: usize, edges: &[Edge]) -> Option<Conditions>
         requires few { processes ≤ 128 }
         requires sources { All (λ e. e.from < 128) edges.now }
@@ -77,7 +82,9 @@ impl Conditions {
         let found = disjunctions(edges);
         let mut conditions = Conditions::none();
         for process in 0..processes {
+            // it has a conditional output
             if found[process] {
+                // there is no room for one more
                 if conditions.count() == MOST_CONDITIONS {
                     return None;
                 }
@@ -87,7 +94,7 @@ impl Conditions {
         Some(conditions)
     }
 
-    /// How many conditions there are.
+    /// Returns how many conditions there are.
     pub fn count(&self) -> usize
         ensures count { result ≡ length self.now }
         ensures few { result ≤ 32 }
@@ -95,7 +102,7 @@ impl Conditions {
         self.count
     }
 
-    /// The processes that have a condition.
+    /// Returns the processes that have a condition, in numerical order.
     pub fn processes(&self) -> &[u32]
         ensures processes { result.now ≡ self.now }
         ensures few { length result.now ≤ 32 }
@@ -103,7 +110,7 @@ impl Conditions {
         &self.processes[..self.count]
     }
 
-    /// The condition of a process, if it has one.
+    /// Returns the number of a process's condition, and `None` exactly if it has none.
     pub fn of_process(&self, process: u32) -> Option<u32>
         ensures { result ≡ position (λ other. other == process) self.now }
     {
@@ -113,7 +120,7 @@ impl Conditions {
         }
     }
 
-    /// A copy of the conditions.
+    /// Returns a copy of the conditions.
     pub fn copy(&self) -> Conditions
         ensures { result ≡ self.now }
     {

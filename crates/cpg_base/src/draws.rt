@@ -2,7 +2,7 @@
 ghost use Rattle.std.specs.Prelude.{◌≡◌};
 ghost use Rattle.cpg_base.specs.Draws.{next_number};
 
-/// The number that follows one. Callers draw its upper 31 bits, since the lower ones have short periods.
+/// Returns the number that follows this one. Callers draw its upper 31 bits, since the lower ones have short periods.
 pub fn next_number(number: u64) -> u64
     ensures { result ≡ next_number number }
 {

@@ -9,6 +9,7 @@ use std::marker::Model;
 /// The length of the execution of each process, in time units, seen as a list.
 #[derive(Drop)]
 pub struct Lengths {
+    /// By process number, how long its execution lasts.
     lengths: Vec<u64>,
 }
 
@@ -21,7 +22,7 @@ impl Model for Lengths {
 }
 
 impl Lengths {
-    /// The longest executions of a scenario: for each process, its duration with its fault count in the scenario.
+    /// Returns the longest executions of a scenario: for each process, its duration with its fault count in the scenario.
     pub fn full(
         alloc: Global,
         problem: &Problem,
@@ -39,7 +40,7 @@ impl Lengths {
         Ok(Lengths { lengths })
     }
 
-    /// The length of the execution of a process.
+    /// Returns the length of the execution of a process, in time units.
     pub fn length_of(&self, process: u32) -> u64
         requires { process < length self.now }
         ensures { result ≡ get_or self.now process 0 }
@@ -55,7 +56,7 @@ impl Lengths {
         self.lengths[process as usize] = time;
     }
 
-    /// A copy of the lengths.
+    /// Returns a copy of the lengths.
     pub fn copy(&self) -> Result<Lengths, OutOfMemory>
         ensures { IfOk result (λ lengths. lengths ≡ self.now) }
     {

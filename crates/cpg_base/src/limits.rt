@@ -17,10 +17,9 @@ pub const MOST_PROCESSES: usize = 128;
 pub const MOST_EDGES: usize = 256;
 /// The most conditions that a graph may have.
 pub const MOST_CONDITIONS: usize = 32;
-/// The most parts that an execution may be divided into.
+/// The most parts that an execution may be cut into.
 pub const MOST_PARTS: u32 = 255;
-/// The most tracks that a graph may have. A track gives values to the conditions that come to be decided, and to no
-/// others.
+/// The most tracks that a graph may have. A track is an outcome without the conditions of inactive processes.
 pub const MOST_TRACKS: u64 = 16_384;
 /// The most columns that a row may have.
 pub const MOST_COLUMNS: u64 = 16_384;
@@ -31,17 +30,18 @@ pub const LONGEST: u64 = 1_000_000_000;
 /// The greatest size of a message or a slot, in bytes.
 pub const LARGEST: u32 = 65_535;
 
-/// Whether the costs of a fault and of a checkpoint are in range.
+/// Whether the costs of a detection, a checkpoint and a recovery are in range.
 fn are_costs_within(process: &Process) -> bool
     ensures { IsTrue result ↔ ((process.now.alpha ≤ LONGEST) × (process.now.chi ≤ LONGEST) × (process.now.mu ≤ LONGEST)) }
 {
     process.alpha <= LONGEST && process.chi <= LONGEST && process.mu <= LONGEST
 }
 
-/// Whether the release and the deadline of a process, if it has one, are in range.
+/// Whether the release of a process is in range, and its own deadline too, if it has one.
 fn is_window_within(process: &Process) -> bool
     ensures { IsTrue result ↔ ((process.now.release ≤ LONGEST) × IfSome process.now.deadline (λ d. d ≤ LONGEST)) }
 {
+    // without a deadline of its own there is nothing to test
     let due = match process.deadline {
         Some(deadline) => deadline <= LONGEST,
         None => true,
@@ -53,9 +53,11 @@ fn is_window_within(process: &Process) -> bool
 fn is_process_within(process: &Process, nodes: usize) -> bool
     ensures { IsTrue result ↔ IsProcessWithin nodes process.now }
 {
+    // the node has to be there, and the work to take some time
     if process.node as usize >= nodes || process.wcet == 0 || process.wcet > LONGEST {
         return false;
     }
+    // the work is cut into at least one part
     if process.parts == 0 || process.parts > MOST_PARTS {
         return false;
     }
@@ -66,23 +68,25 @@ fn is_process_within(process: &Process, nodes: usize) -> bool
 fn is_slot_within(slot: &Slot, nodes: usize) -> bool
     ensures { IsTrue result ↔ IsSlotWithin nodes slot.now }
 {
+    // the node has to be there, and the slot to take some time
     if slot.node as usize >= nodes || slot.length == 0 || slot.length > LONGEST {
         return false;
     }
     1 <= slot.bytes && slot.bytes <= LARGEST
 }
 
-/// Whether an edge is between two of this many processes, and its size is in range.
+/// Whether an edge leads from one of this many processes to one of them, and its size is in range.
 fn is_edge_within(edge: &Edge, processes: usize) -> bool
     ensures { IsTrue result ↔ IsEdgeWithin processes edge.now }
 {
+    // both ends have to be there
     if edge.from as usize >= processes || edge.to as usize >= processes {
         return false;
     }
     1 <= edge.size && edge.size <= LARGEST
 }
 
-/// Whether all processes are within the limits.
+/// Whether all these processes are within the limits, in a graph of this many nodes.
 pub fn are_processes_within(processes: &[Process], nodes: usize) -> bool
     ensures { IsTrue result ↔ All (IsProcessWithin nodes) processes.now }
 {
@@ -91,14 +95,14 @@ pub fn are_processes_within(processes: &[Process], nodes: usize) -> bool
         .all(|process| is_process_within(process, nodes))
 }
 
-/// Whether all slots are within the limits.
+/// Whether all these slots are within the limits, in a graph of this many nodes.
 pub fn are_slots_within(slots: &[Slot], nodes: usize) -> bool
     ensures { IsTrue result ↔ All (IsSlotWithin nodes) slots.now }
 {
     slots.iter().all(|slot| is_slot_within(slot, nodes))
 }
 
-/// Whether all edges are within the limits.
+/// Whether all these edges are within the limits, in a graph of this many processes.
 pub fn are_edges_within(edges: &[Edge], processes: usize) -> bool
     ensures { IsTrue result ↔ All (IsEdgeWithin processes) edges.now }
 {
@@ -116,9 +120,11 @@ fn has_name(names: &[Name], name: &Name) -> bool
 fn names_differ(names: &[Name]) -> bool
     ensures { result ≡ are_apart bytes_eq names.now }
 {
+    // no name is left to compare
     let Some((first, rest)) = names.split_first() else {
         return true;
     };
+    // a later name is the same as the first
     if has_name(rest, first) {
         return false;
     }
@@ -138,9 +144,11 @@ fn has_process(processes: &[Process], name: &Name) -> bool
 fn processes_differ(processes: &[Process]) -> bool
     ensures { result ≡ are_apart (λ p q. bytes_eq p.name q.name) processes.now }
 {
+    // no process is left to compare
     let Some((first, rest)) = processes.split_first() else {
         return true;
     };
+    // a later process has the name of the first
     if has_process(rest, &first.name) {
         return false;
     }
@@ -158,9 +166,11 @@ fn has_slot(slots: &[Slot], node: u32) -> bool
 fn slots_differ(slots: &[Slot]) -> bool
     ensures { result ≡ are_apart (λ s t. s.node == t.node) slots.now }
 {
+    // no slot is left to compare
     let Some((first, rest)) = slots.split_first() else {
         return true;
     };
+    // a later slot belongs to the node of the first
     if has_slot(rest, first.node) {
         return false;
     }

@@ -1,24 +1,26 @@
-//! Out of memory.
+//! The error of a function that runs out of memory.
 
 use std::alloc::{AllocError, AllocFailed};
 
-/// Out of memory: the one answer that no contract ties to a cause.
+/// Memory ran out. No contract says when: any call that takes memory may return it.
 #[derive(Clone, Copy, Debug, PartialEq, Eq)]
 pub struct OutOfMemory;
 
+/// An allocation that fails becomes `OutOfMemory`, so `?` passes it on.
 impl From<AllocError> for OutOfMemory {
     fn from(_: AllocError) -> Self {
         OutOfMemory
     }
 }
 
-/// What `Clone` answers.
+/// `OutOfMemory` becomes the error that std's `Clone` asks of an implementation.
 impl From<OutOfMemory> for AllocError {
     fn from(_: OutOfMemory) -> Self {
         AllocError
     }
 }
 
+/// A `push` that fails becomes `OutOfMemory`. Its error gives back the value that it couldn't add, which is dropped.
 impl<T: Drop> From<AllocFailed<T>> for OutOfMemory {
     fn from(_: AllocFailed<T>) -> Self {
         OutOfMemory

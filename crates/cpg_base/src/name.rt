@@ -9,6 +9,7 @@ use std::marker::Model;
 /// A name of a node or a process, seen as its bytes: 1 to 32 of them, each a letter, a digit, `_`, `-` or `.`.
 #[derive(Drop)]
 pub struct Name {
+    /// The bytes of the name.
     text: String,
 }
 
@@ -31,7 +32,7 @@ fn is_name_byte(byte: u8) -> bool
     matches!(byte, b'A'..=b'Z' | b'a'..=b'z' | b'0'..=b'9' | b'_' | b'-' | b'.')
 }
 
-/// Whether a text is a name.
+/// Whether a text is a name: 1 to 32 bytes, each of which a name may have.
 fn is_name(text: &[u8]) -> bool
     ensures { IsTrue result ↔ IsName text.now }
 {
@@ -39,9 +40,11 @@ fn is_name(text: &[u8]) -> bool
 }
 
 impl Name {
-    /// The name that a text spells, and `None` exactly if the text is no name.
+    /// Returns the name with this text, and `None` exactly if the text is no name: if it is empty, has more than 32 bytes, or
+    /// has a byte other than a letter, a digit, `_`, `-` or `.`.
     pub fn new(alloc: Global, text: &str) -> Result<Option<Name>, OutOfMemory>
         ensures name { IfOk result (λ r. IfSome r (λ name. name ≡ text.now)) }
+        // a text that is taken is a name, and one that isn't is none
         ensures taken { IfOk result (λ r. IfSome r (λ _. IsName text.now)) }
         ensures refused { IfOk result (λ r. IfNone r (¬ IsName text.now)) }
     {
@@ -52,7 +55,7 @@ impl Name {
         Ok(Some(Name { text }))
     }
 
-    /// The text of the name.
+    /// Returns the text of the name.
     pub fn as_str(&self) -> &str
         ensures text { result.now ≡ self.now }
         ensures name { IsName self.now }
@@ -60,7 +63,7 @@ impl Name {
         self.text.as_str()
     }
 
-    /// A copy of the name.
+    /// Returns a copy of the name.
     pub fn copy(&self) -> Result<Name, OutOfMemory>
         ensures { IfOk result (λ name. name ≡ self.now) }
     {

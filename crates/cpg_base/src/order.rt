@@ -8,7 +8,9 @@ use std::marker::Model;
 /// All processes of a graph in some order, seen as the list of their numbers.
 #[derive(Drop)]
 pub struct Order {
+    /// The numbers of the processes, in this order.
     processes: Vec<u32>,
+    /// Under each process number the place of the process, from 0, so that no call has to look for it.
     places: Vec<u32>,
 }
 
@@ -23,20 +25,21 @@ impl Model for Order {
     ghost invariant = { λ o. ArePlaces o.processes.items o.places.items };
 }
 
-/// For each process number, the place of the process.
+/// Returns for each process number the place at which the process stands.
 fn places_of(processes: &Vec<u32>) -> Result<Vec<u32>, OutOfMemory>
     requires { IsOrder processes.now.items }
     ensures { IfOk result (λ places. ArePlaces processes.now.items places.items) }
 {
     let mut places = vec![in *processes.allocator(); 0u32; processes.len()]?;
     for (i, process) in processes.as_slice().iter().enumerate() {
+        // there are at most 128 places
         places[*process as usize] = i as u32;
     }
     Ok(places)
 }
 
 impl Order {
-    /// The order of this list, which has each of the numbers below its length once.
+    /// Returns the order of this list. The list has to have each of the numbers below its length once, and at most 128.
     pub fn new(processes: Vec<u32>) -> Result<Order, OutOfMemory>
         requires { IsOrder processes.items }
         ensures { IfOk result (λ order. order ≡ processes.items) }
@@ -45,7 +48,7 @@ impl Order {
         Ok(Order { processes, places })
     }
 
-    /// How many processes there are.
+    /// Returns how many processes there are.
     pub fn len(&self) -> usize
         ensures length { result ≡ length self.now }
         ensures order { IsOrder self.now }
@@ -53,7 +56,7 @@ impl Order {
         self.processes.len()
     }
 
-    /// The numbers of the processes, in this order.
+    /// Returns the numbers of the processes, in this order.
     pub fn processes(&self) -> &[u32]
         ensures processes { result.now ≡ self.now }
         ensures order { IsOrder self.now }
@@ -61,7 +64,7 @@ impl Order {
         self.processes.as_slice()
     }
 
-    /// The place of a process, counted from 0.
+    /// Returns the place of a process, counted from 0.
     pub fn place(&self, process: u32) -> u32
         requires { process < length self.now }
         ensures place { result ≡ place self.now process }
@@ -72,7 +75,7 @@ impl Order {
         self.places[process as usize]
     }
 
-    /// The process at a place, counted from 0.
+    /// Returns the process at a place, counted from 0.
     pub fn at(&self, at: u32) -> u32
         requires { at < length self.now }
         ensures process { result ≡ get_or self.now at 0 }
@@ -83,7 +86,7 @@ impl Order {
         self.processes[at as usize]
     }
 
-    /// A copy of the order.
+    /// Returns a copy of the order.
     pub fn copy(&self) -> Result<Order, OutOfMemory>
         ensures { IfOk result (λ order. order ≡ self.now) }
     {

@@ -15,18 +15,25 @@ use crate::limits::{
 use crate::{Edge, Name, OutOfMemory, Process, Slot};
 use std::marker::Model;
 
-/// A conditional process graph within the limits of a graph file (docs/FORMATS.md), seen as its fault number, its
-/// deadline, its nodes' names, its slots in the order of the round, its processes, its edges, and the order to compile
-/// under, if it gives one.
+/// A conditional process graph within the limits of a graph file (docs/FORMATS.md), seen as what the file says: all
+/// fields but `conditions`.
 #[derive(Drop)]
 pub struct Problem {
+    /// The most faults in one cycle.
     faults: u8,
+    /// The time by which all executions have to have ended.
     deadline: u64,
+    /// The names of the nodes, by number.
     nodes: Vec<Name>,
+    /// The slots of the bus, in the order of the round.
     slots: Vec<Slot>,
+    /// The processes, by number.
     processes: Vec<Process>,
+    /// The edges, by number.
     edges: Vec<Edge>,
+    /// The numbers of the processes in the order to compile under, if the file gives one.
     order: Option<Vec<u32>>,
+    /// The conditions that the edges give to processes, kept so that they are found once.
     conditions: Conditions,
 }
 
@@ -48,6 +55,7 @@ impl Model for Problem {
       order = option_map (λ v. v.items) p.order;
     } };
 
+    // the graph is within the limits, and the conditions are its own
     ghost invariant = { λ p. let g : Graph = record {
       faults = p.faults;
       deadline = p.deadline;
@@ -133,7 +141,7 @@ fn round_of(slots: &[Slot]) -> u64
 }
 
 impl Problem {
-    /// The graph of these parts, which gives no order, and `None` exactly if one of the limits is broken.
+    /// Returns the graph of these parts, without an order to compile under, and `None` exactly if it breaks a limit.
     pub fn new(
         faults: u8,
         deadline: u64,
@@ -187,7 +195,7 @@ impl Problem {
         })
     }
 
-    /// The graph of these parts, which are known to be within the limits. It gives no order.
+    /// Returns the graph of these parts, without an order to compile under. They have to be within the limits.
     pub fn of(
         faults: u8,
         deadline: u64,
@@ -215,6 +223,7 @@ impl Problem {
           order = None;
         } }
     {
+        // within the limits the conditions are few enough
         let Some(conditions) = Conditions::of(processes.len(), edges.as_slice()) else {
             unreachable!()
         };
@@ -230,7 +239,7 @@ impl Problem {
         }
     }
 
-    /// The same graph with this order to compile under, in place of the one that it gives.
+    /// Returns the same graph with this order to compile under in place of its own; with `None` it has no order.
     pub fn with_order(self, order: Option<Vec<u32>>) -> Problem
         requires { IfSome order (λ list. IsOrderWithin (process_count self) list.items) }
         ensures { result ≡ record self { order = option_map (λ list. list.items) order } }
@@ -238,7 +247,7 @@ impl Problem {
         Problem { order, ..self }
     }
 
-    /// The greatest number of faults in a cycle.
+    /// Returns the most faults in one cycle.
     pub fn faults(&self) -> u8
         ensures faults { result ≡ self.now.faults }
         ensures within { IsWithinLimits self.now }
@@ -246,7 +255,7 @@ impl Problem {
         self.faults
     }
 
-    /// The deadline of the whole graph, in time units.
+    /// Returns the deadline of the whole graph, in time units.
     pub fn deadline(&self) -> u64
         ensures deadline { result ≡ self.now.deadline }
         ensures within { IsWithinLimits self.now }
@@ -254,7 +263,7 @@ impl Problem {
         self.deadline
     }
 
-    /// The names of the nodes.
+    /// Returns the names of the nodes, by number.
     pub fn nodes(&self) -> &[Name]
         ensures nodes { result.now ≡ self.now.nodes }
         ensures within { IsWithinLimits self.now }
@@ -262,7 +271,7 @@ impl Problem {
         self.nodes.as_slice()
     }
 
-    /// The slots, in their order in the round.
+    /// Returns the slots, in their order in the round.
     pub fn slots(&self) -> &[Slot]
         ensures slots { result.now ≡ self.now.slots }
         ensures within { IsWithinLimits self.now }
@@ -270,7 +279,7 @@ impl Problem {
         self.slots.as_slice()
     }
 
-    /// The processes.
+    /// Returns the processes, by number.
     pub fn processes(&self) -> &[Process]
         ensures processes { result.now ≡ self.now.processes }
         ensures within { IsWithinLimits self.now }
@@ -278,7 +287,7 @@ impl Problem {
         self.processes.as_slice()
     }
 
-    /// The edges.
+    /// Returns the edges, by number.
     pub fn edges(&self) -> &[Edge]
         ensures edges { result.now ≡ self.now.edges }
         ensures within { IsWithinLimits self.now }
@@ -286,7 +295,7 @@ impl Problem {
         self.edges.as_slice()
     }
 
-    /// The order to compile under, as numbers of processes, and `None` if the graph gives none.
+    /// Returns the numbers of the processes in the order to compile under, and `None` exactly if the graph gives no order.
     pub fn given_order(&self) -> Option<&[u32]>
         ensures order { option_map (λ list. list.now) result ≡ self.now.order }
         ensures within { IsWithinLimits self.now }
@@ -294,14 +303,14 @@ impl Problem {
         self.order.as_ref().map(|order| order.as_slice())
     }
 
-    /// The length of a round of the bus, in time units.
+    /// Returns the length of a round of the bus, in time units: of all slots together.
     pub fn round(&self) -> u64
         ensures { result ≡ round self.now }
     {
         round_of(self.slots.as_slice())
     }
 
-    /// How many conditions there are.
+    /// Returns how many conditions there are.
     pub fn conditions(&self) -> u32
         ensures count { result ≡ condition_count self.now }
         ensures few { result ≤ 32 }
@@ -309,7 +318,7 @@ impl Problem {
         self.conditions.count() as u32
     }
 
-    /// The condition of a process, and `None` exactly if it has none.
+    /// Returns the number of a process's condition, and `None` exactly if it has none.
     pub fn condition_of(&self, process: u32) -> Option<u32>
         requires { process < process_count self.now }
         ensures { result ≡ condition_of self.now process }
@@ -317,7 +326,7 @@ impl Problem {
         self.conditions.of_process(process)
     }
 
-    /// The process of a condition.
+    /// Returns the process of a condition.
     pub fn process_of(&self, condition: u32) -> u32
         requires { condition < condition_count self.now }
         ensures process { result ≡ process_of self.now condition }
@@ -327,8 +336,8 @@ impl Problem {
         self.conditions.processes()[condition as usize]
     }
 
-    /// The longest time of an execution with this many faults: its work, then for each part a detection and a checkpoint,
-    /// and for each fault a recovery and one part with its detection once more.
+    /// Returns how long an execution of a process with this many faults lasts at most: the work, for each part a detection
+    /// and a checkpoint, and for each fault a recovery and one part, rounded up, with its detection once more.
     pub fn duration(&self, process: u32, faults: u8) -> u64
         requires process { process < process_count self.now }
         requires faults { faults ≤ self.now.faults }
@@ -338,7 +347,7 @@ impl Problem {
         self.processes[process as usize].duration(faults)
     }
 
-    /// The time before which a process doesn't start.
+    /// Returns the time before which a process doesn't start.
     pub fn release(&self, process: u32) -> u64
         requires { process < process_count self.now }
         ensures { result ≡ (process_at self.now process).release }
@@ -346,7 +355,7 @@ impl Problem {
         self.processes[process as usize].release
     }
 
-    /// When a process has to have ended: the lesser of the graph's deadline and its own, if it has one.
+    /// Returns when a process has to have ended: the lesser of the graph's deadline and its own, if it has one.
     pub fn due(&self, process: u32) -> u64
         requires { process < process_count self.now }
         ensures { result ≡ due self.now process }
@@ -357,7 +366,7 @@ impl Problem {
         }
     }
 
-    /// A copy of the order to compile under.
+    /// Returns a copy of the order to compile under; `None` if the graph gives none.
     pub fn order_copy(&self) -> Result<Option<Vec<u32>>, OutOfMemory>
         ensures { IfOk result (λ copy. option_map (λ list. list.items) copy ≡ self.now.order) }
     {
@@ -367,7 +376,7 @@ impl Problem {
         }
     }
 
-    /// A copy of the graph.
+    /// Returns a copy of the graph.
     pub fn copy(&self) -> Result<Problem, OutOfMemory>
         ensures { IfOk result (λ problem. problem ≡ self.now) }
     {

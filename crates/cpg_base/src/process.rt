@@ -14,9 +14,9 @@ pub struct Process {
     pub name: Name,
     /// The number of its node.
     pub node: u32,
-    /// The worst-case time of an execution without checks and faults, at least 1.
+    /// The longest time of its work alone, without detections, checkpoints and faults; at least 1.
     pub wcet: u64,
-    /// The number of parts of an execution, with a checkpoint after each, at least 1.
+    /// Into how many parts an execution is cut, at least 1. Each has a detection and a checkpoint.
     pub parts: u32,
     /// The time to detect a fault, in each part.
     pub alpha: u64,
@@ -24,13 +24,13 @@ pub struct Process {
     pub chi: u64,
     /// The time to recover from a fault.
     pub mu: u64,
-    /// Whether it is a conjunction process, which starts with one live input.
+    /// Whether it is a join (conjunction process): it takes one live input instead of all.
     pub join: bool,
     /// Whether it starts at one time in all scenarios in which it is active.
     pub frozen: bool,
     /// The time before which it doesn't start.
     pub release: u64,
-    /// Its own deadline, if it has one beside the graph's.
+    /// The time by which it has to have ended, if it has a deadline of its own; the graph's holds too.
     pub deadline: Option<u64>,
 }
 
@@ -43,9 +43,9 @@ pub struct Edge {
     pub to: u32,
     /// The size of its message in bytes, at least 1.
     pub size: u32,
-    /// The value of the source's condition with which it is taken; `None` if it always is.
+    /// The value of the source's condition for which it is live; `None` if it is live whenever its source is active.
     pub when: Option<bool>,
-    /// Whether its message is sent at one time in all scenarios in which it is sent.
+    /// Whether its message is sent at one time in all scenarios in which it is live. Without effect within a node.
     pub frozen: bool,
 }
 
@@ -61,19 +61,21 @@ pub struct Slot {
 }
 
 impl Process {
-    /// The longest time of an execution with this many faults.
+    /// Returns how long an execution with this many faults lasts at most, in time units.
     pub fn duration(&self, faults: u8) -> u64
         requires within { (nodes : ℕ) × IsProcessWithin nodes self.now }
         requires faults { faults ≤ 8 }
         ensures duration { result ≡ duration_of self.now faults }
         ensures short { result < 2 ^ 40 }
     {
+        // the detections and checkpoints of all parts
         let checked = u64::from(self.parts) * (self.alpha + self.chi);
+        // what one fault costs: a recovery, and one part, rounded up, with its detection once more
         let again = self.mu + self.wcet.div_ceil(u64::from(self.parts)) + self.alpha;
         self.wcet + checked + u64::from(faults) * again
     }
 
-    /// A copy of the process.
+    /// Returns a copy of the process.
     pub fn copy(&self) -> Result<Process, OutOfMemory>
         ensures { IfOk result (λ process. process ≡ self.now) }
     {

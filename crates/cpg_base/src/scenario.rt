@@ -7,10 +7,12 @@ use crate::{OutOfMemory, Problem};
 use std::alloc::Global;
 use std::marker::Model;
 
-/// A value for each condition and a fault count for each process, seen as both lists.
+/// A value for each condition and a fault count for each process, seen as these two lists.
 #[derive(Drop)]
 pub struct Scenario {
+    /// The value of each condition, by its number.
     values: Vec<bool>,
+    /// The fault count of each process, by its number.
     faults: Vec<u8>,
 }
 
@@ -22,10 +24,11 @@ impl Model for Scenario {
 
     ghost view = { λ s. record { values = s.values.items; faults = s.faults.items } };
 
+    // a graph has at most 32 conditions and 128 processes
     ghost invariant = { λ s. (length s.values.items ≤ 32) × (length s.faults.items ≤ 128) };
 }
 
-/// The sum of these fault counts.
+/// Returns the sum of these fault counts.
 fn total_of(faults: &[u8]) -> u32
     requires { length faults.now ≤ 128 }
     ensures { result ≡ sum faults.now }
@@ -34,7 +37,7 @@ fn total_of(faults: &[u8]) -> u32
 }
 
 impl Scenario {
-    /// The scenario without faults, in which every value is false.
+    /// Returns the scenario without faults, in which every value is false.
     pub fn zero(alloc: Global, problem: &Problem) -> Result<Scenario, OutOfMemory>
         ensures { IfOk result (λ s. s ≡ zero_scenario problem.now) }
     {
@@ -43,7 +46,7 @@ impl Scenario {
         Ok(Scenario { values, faults })
     }
 
-    /// The value of a condition.
+    /// Returns the value of a condition.
     pub fn value(&self, condition: u32) -> bool
         requires { condition < length self.now.values }
         ensures { result ≡ get_or self.now.values condition false }
@@ -51,7 +54,7 @@ impl Scenario {
         self.values[condition as usize]
     }
 
-    /// The fault count of a process.
+    /// Returns the fault count of a process.
     pub fn fault(&self, process: u32) -> u8
         requires { process < length self.now.faults }
         ensures { result ≡ fault_of self.now process }
@@ -59,14 +62,15 @@ impl Scenario {
         self.faults[process as usize]
     }
 
-    /// The number of a variable: the fault count of the process of that number, or from 128 on the value of a
-    /// condition, 0 or 1. It is 0 if the scenario has no such variable.
+    /// Returns the number that a variable has: below 128 it is the fault count of the process of that number, and from 128
+    /// on the value of a condition, 0 or 1. A variable that the scenario doesn't have is 0.
     pub fn number(&self, variable: u8) -> u8
         ensures { result ≡ number_of self.now variable }
     {
         if variable < 128 {
             return self.faults.get(variable as usize).copied().unwrap_or(0);
         }
+        // 128 is the number of the first condition's variable
         let condition = (variable - 128) as usize;
         u8::from(self.values.get(condition).copied().unwrap_or(false))
     }
@@ -87,14 +91,14 @@ impl Scenario {
         self.faults[process as usize] = faults;
     }
 
-    /// The sum of all fault counts.
+    /// Returns the sum of all fault counts.
     pub fn total(&self) -> u32
         ensures { result ≡ sum self.now.faults }
     {
         total_of(self.faults.as_slice())
     }
 
-    /// A copy of the scenario.
+    /// Returns a copy of the scenario.
     pub fn copy(&self) -> Result<Scenario, OutOfMemory>
         ensures { IfOk result (λ s. s ≡ self.now) }
     {

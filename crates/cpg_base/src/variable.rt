@@ -15,7 +15,7 @@ pub enum Variable {
 }
 
 impl Variable {
-    /// The variable of a number.
+    /// Returns the variable with this number: below 128 the fault count of the process of that number, from 128 on a value.
     pub fn of(number: u8) -> Variable
         ensures variable { result ≡ variable_at number }
         ensures number { number ≡ number_of_variable result }
@@ -26,7 +26,7 @@ impl Variable {
         Variable::Value(u32::from(number - FIRST_VALUE))
     }
 
-    /// The greatest number that the variable has in scenarios of at most `k` faults.
+    /// Returns the greatest number that the variable has in scenarios of at most `k` faults: `k` for a fault count, 1 for a value.
     pub fn top(self, k: u8) -> u8
         ensures { result ≡ top_of k self }
     {
@@ -37,7 +37,7 @@ impl Variable {
     }
 }
 
-/// The greatest number that the variable of a number has in scenarios of at most `k` faults.
+/// Returns the greatest number that the variable with this number has in scenarios of at most `k` faults.
 pub fn top(k: u8, variable: u8) -> u8
     ensures { result ≡ top k variable }
 {

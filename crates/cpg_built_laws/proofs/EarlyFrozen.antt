@@ -1,4 +1,5 @@
--- Frozen times are early: each is a time of a run under the frozen times before it.
+-- The frozen times of an order are early: each is at most a bound that grows with the moment of its item. A frozen
+-- time is a time of some run under the frozen times of earlier moments.
 use Rattle.std.proofs.Common.{◌≡◌, ◌∙◌, ℕ, zero, suc, ◌+◌, ◌<◌, ◌≤◌, ltb, true, List, map, get_or, Option, Some, None}
 use Rattle.std.proofs.Common.{arith, sym, inl, inr, cond, lt-ltb, le-ltb}
 use Rattle.std.proofs.lemmas.Bool.{cases_Bool, cases_lt, cond-true, cond-false}
@@ -17,9 +18,7 @@ use Rattle.cpg_run.proofs.Rising.{bound, AreLow, unfrozen_low}
 use Rattle.cpg_run.proofs.RunExists.{a_run}
 use Rattle.cpg_run.proofs.RunUnique.{agree_before, unfrozen_same}
 
--- given: the frozen times of an order
--- `within`: the graph is within the limits; `order`, `topological`: its order; `frozen`, `are`: that order's frozen
--- times
+-- given: a topological order of a graph within its limits, and the frozen times of that order
 module _ (g : Graph) (within : IsWithinLimits g) (order : List ℕ) (topological : IsTopological g order)
     (frozen : List (Option ℕ)) (are : AreFrozenTimes g order frozen) where
   -- the frozen time of an item, if that is before a moment
@@ -30,7 +29,7 @@ module _ (g : Graph) (within : IsWithinLimits g) (order : List ℕ) (topological
   abbrev cut : ℕ → List (Option ℕ)
   cut m = map (cut_at m) (numbers_below (item_count g))
 
-  -- the cut list has what is cut at each item
+  -- the list has for each item its frozen time if that is before the moment, as `cut_at` says
   cut_is : (m x : ℕ) → x < item_count g → get_or (cut m) x None ≡ cut_at m x
   cut_is m x l = get_or-map-below (cut_at m) (item_count g) x None l
 
@@ -38,7 +37,7 @@ module _ (g : Graph) (within : IsWithinLimits g) (order : List ℕ) (topological
   cut_before : (m x : ℕ) → x < item_count g → moment g order x < m → get_or (cut m) x None ≡ get_or frozen x None
   cut_before m x l h = cut_is m x l ∙ cond-true (ltb (moment g order x) m) _ _ (lt-ltb (moment g order x) m h)
 
-  -- an item from the moment on has none
+  -- an item at the moment or later has no frozen time in the list
   cut_after : (m x : ℕ) → x < item_count g → m ≤ moment g order x → get_or (cut m) x None ≡ None
   cut_after m x l h = cut_is m x l ∙ cond-false (ltb (moment g order x) m) _ _ (le-ltb (moment g order x) m h)
 
@@ -47,10 +46,12 @@ module _ (g : Graph) (within : IsWithinLimits g) (order : List ℕ) (topological
   frozen_if x time e =
       elim (cases_Bool (is_frozen g x)) [ inl f ↦ f | inr f ↦ absurd (none-some time (sym (are.others x f) ∙ e)) ]
 
-  -- a frozen time is low if the frozen times before it are
+  -- if the frozen times before an item's moment are low, so is its own
   low_by : (m x time : ℕ) → AreLow 0 g order (cut m) → x < item_count g → moment g order x ≤ m →
       get_or frozen x None ≡ Some time →
       time ≤ bound 0 (moment g order x) + 32000000000
+  -- Some scenario would have that time (`w`). A run under the earlier frozen times alone (`r`) has the same unfrozen
+  -- time there, as the two agree before the item, and times of such a run are low.
   low_by m x time low l h e =
       let w : WouldHave g order frozen x time = (are.each x l (frozen_if x time e)).reached time e in
       let r = a_run g order (cut m) w.scenario topological in
@@ -64,8 +65,9 @@ module _ (g : Graph) (within : IsWithinLimits g) (order : List ℕ) (topological
         unfrozen_low 0 g order (cut m) w.scenario r.0 within topological w.lawful low r.1 x l,
       )
 
-  -- the frozen times before each moment are low: moment by moment
+  -- the frozen times before each moment are low
   low_cut : (m : ℕ) → AreLow 0 g order (cut m)
+  -- by induction on the moment: before 0 there is none, and one at the moment is low by those before it
   low_cut zero = record { low = λ x time l e. absurd (none-some time (sym (cut_after 0 x l (omega arith)) ∙ e)) }
   low_cut (suc m) = record {
     low = λ x time l e. elim (cases_lt (moment g order x) (suc m)) [
@@ -74,7 +76,7 @@ module _ (g : Graph) (within : IsWithinLimits g) (order : List ℕ) (topological
     ];
   }
 
-  -- they are early
+  -- all frozen times are early, as each is low by those before it
   pub frozen_early : AreEarly frozen
   frozen_early = early_from_low g order frozen within topological are.count
       (record { low = λ x time l e. low_by (moment g order x) x time (low_cut (moment g order x)) l (omega arith) e })

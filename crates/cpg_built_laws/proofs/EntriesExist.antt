@@ -1,4 +1,4 @@
--- An item has entries: one for each group of scenarios in which the same is carried beside its time.
+-- An item has entries: one for each group of scenarios in which the same literals are carried beside its time.
 use Rattle.std.proofs.Common.{◌≡◌, ◌≢◌, ◌∙◌, ℕ, ◌<◌, ◌⊎◌, true, false, List, [], ◌∷◌, map, get_or, AllPairs, Contains}
 use Rattle.std.proofs.Common.{Option, Some, None, refl, sym, ap, subst, inl, inr}
 use Rattle.std.proofs.lemmas.Bool.{cases_Bool, both_ways}
@@ -25,7 +25,7 @@ use Rattle.cpg_run.proofs.Runs.{has_time}
 
 -- given: an admitted graph, and the frozen times of an order
 module _ (g : Graph) (urgency order : List ℕ) (frozen : List (Option ℕ)) (timed : IsTimed g urgency order frozen) where
-  -- two scenarios are the same or not
+  -- two scenarios are the same or differ: neither is before the other along the order just if they are the same
   one_or_two : (s t : Scenario) → IsScenario g s → IsScenario g t → (s ≡ t) ⊎ (s ≢ t)
   one_or_two s t a b = elim (cases_Bool (is_before g urgency s t)) [
     | inl before ↦ inr (λ e. both_ways (is_before g urgency s t)
@@ -39,7 +39,7 @@ module _ (g : Graph) (urgency order : List ℕ) (frozen : List (Option ℕ)) (ti
 
   -- given: the rows of the items before this one
   module _ (rows : List (List Column)) (x : ℕ) (l : x < item_count g) (earlier : AreRowsFor g order frozen x rows) where
-    -- an entry is that of the least scenario of its cube
+    -- e is the entry of the least scenario of its cube
     abbrev pub IsOwn : Column → Type 0
     IsOwn e = IsEntryIn g order frozen rows x (lows g e.cube) e
 
@@ -47,13 +47,14 @@ module _ (g : Graph) (urgency order : List ℕ) (frozen : List (Option ℕ)) (ti
     abbrev pub IsApart : Column → Column → Type 0
     IsApart d e = lows g d.cube ≢ lows g e.cube
 
-    -- the cube of what is carried in a scenario
+    -- the cube with the ranges that the literals carried in a scenario leave together
     abbrev pub own_cube : Scenario → List Literal
     own_cube s = cube_of g.faults (carried g order rows s x)
 
-    -- an entry for the scenarios that carry the same as this one
+    -- for each scenario in which the item is active there is an entry, of the least scenario that carries the same
     own_entry : (s : Scenario) → IsScenario g s → item_active g s.values (item_at g x) ≡ true →
         (e : Column) × IsOwn e × (lows g e.cube ≡ lows g (own_cube s))
+    -- the entry has the item's time in the one run, and the cube of what is carried
     own_entry s law on =
         let r = a_run g order frozen s timed.admitted.topological in (
           record { time = time_in r.0 x; cube = own_cube s },
@@ -65,9 +66,10 @@ module _ (g : Graph) (urgency order : List ℕ) (frozen : List (Option ℕ)) (ti
           refl,
         )
 
-    -- a scenario is the least of one of the entries, or of none
+    -- a scenario is the least of one of these entries, or of none
     there_or_not : (es : List Column) → ((e : Column) → Contains es e → IsOwn e) → (s : Scenario) → IsScenario g s →
         Contains (map (λ (d : Column). lows g d.cube) es) s ⊎ ((e : Column) → Contains es e → s ≢ lows g e.cube)
+    -- by induction on the entries: s is the least scenario of the first, or it is compared with the others
     there_or_not [] own s law = inr (λ e c. absurd (Contains-nil e c))
     there_or_not (e ∷ es) own s law = elim (one_or_two (lows g e.cube) s (own e (Contains-first e es)).lawful law) [
       | inl same ↦ inl (subst (Contains (map (λ (d : Column). lows g d.cube) (e ∷ es))) same
@@ -81,11 +83,13 @@ module _ (g : Graph) (urgency order : List ℕ) (frozen : List (Option ℕ)) (ti
       ]
     ]
 
-    -- entries for a list of scenarios: for each one in which the item is active, some entry has the lows of its own
-    -- cube
+    -- entries for a list of scenarios
     pub record AreOver (ss : List Scenario) (es : List Column) : Type 0 where
+      -- each is the entry of its own least scenario
       pub own : (e : Column) → Contains es e → IsOwn e
+      -- no two have the same least scenario
       pub apart : AllPairs IsApart es
+      -- for each scenario in which the item is active, some entry has the least scenario that carries the same
       pub all : (s : Scenario) → Contains ss s → item_active g s.values (item_at g x) ≡ true →
           Contains (map (λ (d : Column). lows g d.cube) es) (lows g (own_cube s))
 
@@ -156,8 +160,9 @@ module _ (g : Graph) (urgency order : List ℕ) (frozen : List (Option ℕ)) (ti
               ]
         ]
 
-    -- the item has entries
+    -- the item has entries: those over all scenarios of the graph
     pub entries_exist : (entries : List Column) × AreEntriesOf g order frozen rows x entries
+    -- a scenario in which the item is active carries the same as its least one, which is among those gone over
     entries_exist =
         let r = entries_over (scenarios g) (scenario_lawful g) in (
           r.0,

@@ -1,4 +1,5 @@
--- Columns that can be merged have a merge: they are sorted and joined until none is joined any more.
+-- Columns that may be merged have a merge: they are sorted and joined, variable by variable, until none is joined, and
+-- then put in the order of their least scenarios.
 use Rattle.std.proofs.Common.{◌≡◌, ◌≢◌, ◌∙◌, ℕ, zero, suc, ◌+◌, ◌<◌, ◌≤◌, ◌⊎◌, Bool, true, false, List, length, get_or}
 use Rattle.std.proofs.Common.{AllPairs, IsPermutation, Ordering, Less, Equal, Greater}
 use Rattle.std.proofs.Common.{arith, refl, sym, ap, subst, inl, inr}
@@ -24,11 +25,12 @@ use Rattle.cpg_merging.proofs.MergingSteps.{shorn_columns}
 
 -- ---- a sort by a test whether one element is after another
 
--- given: a test that is not true both ways and, where it is false, goes through
+-- given: a test whether x has to go behind y, which is never true both ways, and, where it is false, is so along a
+-- chain
 module _ {X : Type 0} (is_after : X → X → Bool)
     (one_way : (x y : X) → is_after x y ≡ true → is_after y x ≡ false)
     (chain : (x y z : X) → is_after x y ≡ false → is_after y z ≡ false → is_after x z ≡ false) where
-  -- the first doesn't have to go behind the second
+  -- x needn't go behind y
   abbrev keeps : X → X → Bool
   keeps x y = not (is_after x y)
 
@@ -41,7 +43,7 @@ module _ {X : Type 0} (is_after : X → X → Bool)
   not_true : (b : Bool) → b ≡ false → not b ≡ true
   not_true b e = ap not e
 
-  -- the elements in an order in which none is after a later one
+  -- the elements, sorted so that none has to go behind a later one
   abbrev pub in_order : List X → List X
   in_order xs = sorted keeps xs
 
@@ -49,8 +51,9 @@ module _ {X : Type 0} (is_after : X → X → Bool)
   pub permutation_in_order : (xs : List X) → IsPermutation xs (in_order xs)
   permutation_in_order xs = permutation_sorted keeps xs
 
-  -- in the sorted list no element is after a later one
+  -- in the sorted list no element has to go behind a later one; the elements differ
   pub rises_in_order : (xs : List X) → AllPairs ◌≢◌ xs → AllPairs (λ x y. is_after x y ≡ false) (in_order xs)
+  -- the order between elements is one-way and a chain, as the sort asks
   rises_in_order xs apart i j d l k = not_false (is_after (get_or (in_order xs) i d) (get_or (in_order xs) j d))
       (rises_sorted keeps (λ (x : X). Unit {0})
       (λ x y a b c. elim (cases_Bool (is_after x y)) [
@@ -78,7 +81,7 @@ module _ (v : ℕ) where
   column_one_way : (c d : Column) → column_after c d ≡ true → column_after d c ≡ false
   column_one_way c d h = ap is_lt ((column_total v).antisymm c d) ∙ lt_one_way (column_cmp v d c) h
 
-  -- columns that aren't after one another, one by one, aren't so at the ends of the chain
+  -- the test is false along a chain: if c isn't after d, nor d after e, then c isn't after e
   column_chain : (c d e : Column) → column_after c d ≡ false → column_after d e ≡ false → column_after c e ≡ false
   column_chain c d e h k = go (column_cmp v e c) refl
     where
@@ -96,6 +99,7 @@ module _ (v : ℕ) where
       go Greater i = refl
       go Less i = absurd (not_less i (column_cmp v e d) refl)
 
+-- given: a graph of at most 128 processes
 module _ (g : Graph) (few : process_count g ≤ 128) where
   -- no two columns are the same, since each matches a scenario and no two match one
   columns_differ : (xs : List Column) → IsShorn g xs → AllPairs ◌≢◌ xs
@@ -105,9 +109,10 @@ module _ (g : Graph) (few : process_count g ≤ 128) where
 
   -- ---- joined at one variable, then at some, then at all
 
-  -- columns can be sorted and joined at one variable
+  -- columns may be sorted and joined at one variable
   pass_on : (v : ℕ) → IsVariable g v → (xs : List Column) → IsShorn g xs →
       (ys : List Column) × IsPassed g (λ u. u ≡ v) xs ys
+  -- sorted columns that are walked over are a step at the variable (`passed_on`)
   pass_on v known xs h =
       let ys = in_order (column_after v) (column_one_way v) (column_chain v) xs in
       let up : AllPairs (λ c d. column_after v c d ≡ false) ys =
@@ -118,10 +123,11 @@ module _ (g : Graph) (few : process_count g ≤ 128) where
             (permutation_in_order (column_after v) (column_one_way v) (column_chain v) xs) is,
       )
 
-  -- going over some variables one after another gives columns that have passed all of them
+  -- columns may be joined at n variables from `first` on, one after another
   pass_over : (first n : ℕ) → ((v : ℕ) → first ≤ v → v < first + n → IsVariable g v) → (xs : List Column) →
       IsShorn g xs →
       (ys : List Column) × IsPassed g (IsBetween first (first + n)) xs ys
+  -- by induction on n: the last variable comes after the others
   pass_over first zero known xs h =
       (xs, passed_none g (IsBetween first (first + 0)) (λ v m. omega (arith, m.0, m.1)) xs h)
   pass_over first (suc n) known xs h =
@@ -136,7 +142,7 @@ module _ (g : Graph) (few : process_count g ≤ 128) where
       at_end : (v : ℕ) → first ≤ v → v < first + suc n → IsBetween first (first + n) v ⊎ (v ≡ first + n)
       at_end v l k = elim (cases_eq v (first + n)) [ inl e ↦ inr e | inr ne ↦ inl (l, omega (arith, k, ne)) ]
 
-  -- columns can be joined at each variable of a graph: at all counts, and then at all values
+  -- columns may be joined at each variable of the graph: at all fault counts, then at all values
   pass_all : (xs : List Column) → IsShorn g xs → (ys : List Column) × IsPassed g (IsVariable g) xs ys
   pass_all xs h =
       let a = pass_over 0 (process_count g) (λ v l k. inl (omega (arith, k))) xs h in
@@ -153,12 +159,13 @@ module _ (g : Graph) (few : process_count g ≤ 128) where
 
   -- ---- joined until they are as many as before
 
-  -- columns that are as many as before, have none left to join
+  -- if as many columns are left after going over all variables, no two of one time touch
   settled_at : (xs ys : List Column) → IsPassed g (IsVariable g) xs ys → length ys ≡ length xs → AreSettled g xs ys
   settled_at xs ys p e = record { joins = p.joins; good = p.good; settled = settled_same g (IsVariable g) xs ys p e }
 
-  -- after at most as many rounds as there are columns, none is left to join
+  -- after some rounds over all variables, no two columns of one time touch
   settle : (n : ℕ) (xs : List Column) → length xs ≤ n → IsShorn g xs → (ys : List Column) × AreSettled g xs ys
+  -- by induction on a bound of how many columns there are: a round leaves as many, and they are settled, or fewer
   settle zero xs l h =
       let a = pass_all xs h in
       elim (cases_eq (length a.0) (length xs)) [
@@ -183,18 +190,19 @@ module _ (g : Graph) (few : process_count g ≤ 128) where
     abbrev lows_after : Column → Column → Bool
     lows_after c d = is_below (lows_along g urgency (low_in d.cube)) (lows_along g urgency (low_in c.cube))
 
-    -- not both ways
+    -- that isn't so both ways
     lows_one_way : (c d : Column) → lows_after c d ≡ true → lows_after d c ≡ false
     lows_one_way c d h = below_one_way (lows_along g urgency (low_in d.cube)) (lows_along g urgency (low_in c.cube)) h
 
-    -- and one by one along a chain
+    -- and where it isn't, it isn't so along a chain
     lows_chain : (c d e : Column) → lows_after c d ≡ false → lows_after d e ≡ false → lows_after c e ≡ false
     lows_chain c d e h k = not_below_transitive (lows_along g urgency (low_in c.cube))
         (lows_along g urgency (low_in d.cube)) (lows_along g urgency (low_in e.cube)) h k
 
-    -- columns that can be merged have a merge
+    -- columns that may be merged have a merge
     pub merge_exists : (entries : List Column) → AreMergeable g entries →
         (columns : List Column) × IsMergeOf g urgency entries columns
+    -- their whole literals are left out, they are settled, and then put in order
     merge_exists entries mergeable =
         let shorn = shorn_columns g few entries mergeable in
         let s = settle (length (all_shorn g.faults entries)) (all_shorn g.faults entries) (omega arith) shorn in

@@ -1,4 +1,4 @@
--- A graph has a row for each item, found from those of the processes before its own.
+-- An order has rows: place by place, those of the process's items are made from the rows of earlier processes.
 use Rattle.std.proofs.Common.{◌≡◌, ◌∙◌, ℕ, zero, suc, ◌+◌, ◌<◌, ◌≤◌, List, [], ◌∷◌, ◌++◌, length, get_or, Option, arith}
 use Rattle.std.proofs.Common.{refl, sym, ap, subst, inl, inr, length-append}
 use Rattle.std.proofs.lemmas.Bool.{cases_eq}
@@ -18,9 +18,10 @@ use Rattle.cpg_run.proofs.RowsTimed.{entries_alike, row_alike, rows_before}
 use Rattle.cpg_built_laws.proofs.EntriesExist.{entries_exist}
 use Rattle.cpg_built_laws.proofs.MergeExists.{merge_exists}
 
--- if each number below n has something, there is a list of such things
+-- if there is some c for each number below n, there is a list of them
 chosen : {X : Type 0} (P : ℕ → X → Type 0) (d : X) (n : ℕ) → ((x : ℕ) → x < n → (c : X) × P x c) →
     (cs : List X) × (length cs ≡ n) × ((x : ℕ) → x < n → P x (get_or cs x d))
+-- by induction on n: the last one is put behind the others
 chosen P d zero each = ([], refl, λ x l. absurd (omega (arith, l)))
 chosen P d (suc n) each =
     let r = chosen P d n (λ x l. each x (omega (arith, l))) in
@@ -37,26 +38,34 @@ chosen P d (suc n) each =
 
 -- given: an admitted graph, and the frozen times of an order
 module _ (g : Graph) (urgency order : List ℕ) (frozen : List (Option ℕ)) (timed : IsTimed g urgency order frozen) where
-  -- the rows of the items from processes before a place
+  -- the rows are right for the items of processes before the place i
   pub record AreRowsTo (i : ℕ) (rows : List (List Column)) : Type 0 where
+    -- there is a row for each item
     pub count : length rows ≡ item_count g
+    -- it is right if its process stands before i
     pub each : (x : ℕ) → x < item_count g → place order (producer g x) < i → IsRowOf g urgency order frozen rows x
 
+  -- given: rows that are right up to the place i
   module _ (i : ℕ) (rows : List (List Column)) (are : AreRowsTo i rows) where
-    -- the columns of an item in the next rows
+    -- the columns of item x in rows that are right up to the place behind i
     pub record IsNext (x : ℕ) (columns : List Column) : Type 0 where
+      -- an item of an earlier process keeps its columns
       pub same : place order (producer g x) < i → columns ≡ row_at rows x
+      -- an item of the process at i has its entries, merged
       pub entries : List Column
+      -- they are the item's entries
       pub found : place order (producer g x) ≡ i → AreEntriesOf g order frozen rows x entries
+      -- and its columns are these entries merged
       pub merge : place order (producer g x) ≡ i → IsMergeOf g urgency entries columns
 
-    -- the rows so far are those of all places before
+    -- the rows are right for all places up to i
     earlier : (bound : ℕ) → bound ≤ i → AreRowsBefore g order frozen bound rows
     earlier bound h =
         rows_before g urgency order frozen timed rows bound (λ y e. are.each y e.0 (omega (arith, e.1, h)))
 
-    -- an item of the process at place i has columns made of these rows, and any other one keeps its own
+    -- each item has such columns: one of the process at i has entries, and these have a merge; any other keeps its own
     next_row : (x : ℕ) → x < item_count g → (columns : List Column) × IsNext x columns
+    -- by whether the item's producer stands at i
     next_row x l = elim (cases_eq (place order (producer g x)) i) [
       | inl here ↦
           let before = earlier (place order (producer g x)) (omega (arith, here)) in
@@ -72,7 +81,7 @@ module _ (g : Graph) (urgency order : List ℕ) (frozen : List (Option ℕ)) (ti
       )
     ]
 
-    -- rows up to the next place: those of the place's items are made of the rows before, all others stay as they are
+    -- there are rows that are right up to the place behind i
     next_rows : (next : List (List Column)) × AreRowsTo (i + 1) next
     next_rows =
         let r = chosen IsNext [] (item_count g) next_row in
@@ -101,8 +110,9 @@ module _ (g : Graph) (urgency order : List ℕ) (frozen : List (Option ℕ)) (ti
           },
         )
 
-  -- there are rows up to each place
+  -- there are rows that are right up to each place
   rows_to : (i : ℕ) → (rows : List (List Column)) × AreRowsTo i rows
+  -- by induction on the place: before the first one any rows will do
   rows_to zero =
       let r = chosen (λ x (c : List Column). Unit {0}) [] (item_count g) (λ x l. ([], tt)) in
       (r.0, record { count = r.1; each = λ x l h. absurd (omega (arith, h)) })
@@ -111,8 +121,9 @@ module _ (g : Graph) (urgency order : List ℕ) (frozen : List (Option ℕ)) (ti
       let s = next_rows i r.0 r.1 in
       (s.0, record { count = s.1.count; each = λ x l h. s.1.each x l (omega (arith, h)) })
 
-  -- there are rows of all items
+  -- there are rows that are right for all items
   pub rows_exist : (rows : List (List Column)) × AreRows g urgency order frozen rows
+  -- the rows that are right up to the last place are right for all items, whose producers stand in the order
   rows_exist =
       let r = rows_to (process_count g) in (
         r.0,

@@ -1,4 +1,4 @@
--- Tables exist: rows that are found can be written, node by node.
+-- Tables exist: an order has rows, these are within the limits, and they are written node by node.
 use Rattle.std.proofs.Common.{◌≡◌, ◌∙◌, ℕ, ◌<◌, List, [], ◌∷◌, length, map, Contains, arith, refl, sym, ap, ap₂, subst}
 use Rattle.std.proofs.Common.{ext_get_or}
 use Rattle.std.proofs.lemmas.List.{length-map, get_or-map}
@@ -30,18 +30,19 @@ use Rattle.cpg_built_laws.specs.Exist.{TablesExist}
 use Rattle.cpg_built_laws.proofs.EarlyFrozen.{frozen_early}
 use Rattle.cpg_built_laws.proofs.RowsExist.{rows_exist}
 
--- rows that are made for items have these items
+-- if the row made for each number names it as its item, the items of the rows are the numbers
 items_same : (row : ℕ → Row) (xs : List ℕ) → ((x : ℕ) → Contains xs x → (row x).item ≡ x) → items_of (map row xs) ≡ xs
+-- by induction on the list
 items_same row [] each = refl
 items_same row (x ∷ xs) each =
     ap₂ ◌∷◌ (each x (Contains-first x xs)) (items_same row xs (λ y c. each y (Contains-rest x xs y c)))
 
 -- ---- tables of rows
 
--- given: rows that can be written, of a graph within the limits
+-- given: rows that can be written, of a well-formed graph within the limits
 module _ (g : Graph) (within : IsWithinLimits g) (formed : WellFormed g) (rows : List Row)
     (w : AreWritable g rows) where
-  -- the table of a node
+  -- the table of a node: its head, and the rows of what it starts, sends and hears
   abbrev table_of : ℕ → NodeTable
   table_of node = record {
     faults = (head_of g).faults;
@@ -54,6 +55,7 @@ module _ (g : Graph) (within : IsWithinLimits g) (formed : WellFormed g) (rows :
 
   -- the table made for a node has the node's head and the rows of its items
   table_with : (node : ℕ) → node < length g.nodes → IsTableWith g rows node (table_of node)
+  -- each part of the node's list of items is mapped to their rows
   table_with node l =
       let are : AreRowsOf (head_of g) node (rows_of_items g rows (lists_of (head_of g) node)) =
       are_rows g within rows w node l in
@@ -76,7 +78,7 @@ module _ (g : Graph) (within : IsWithinLimits g) (formed : WellFormed g) (rows :
   abbrev nodes : List NodeTable
   nodes = map table_of (numbers_below (length g.nodes))
 
-  -- these are the nodes' tables of the rows
+  -- they are right for all nodes
   are_nodes : AreNodeTables g rows (length g.nodes) nodes
   are_nodes = record {
     long = length-map-range_with_len table_of 0 (length g.nodes);
@@ -88,25 +90,25 @@ module _ (g : Graph) (within : IsWithinLimits g) (formed : WellFormed g) (rows :
   abbrev pub written : Tables
   written = record { head = head_of g; nodes = nodes }
 
-  -- the tables that are written of them have these rows
+  -- these tables have the rows
   pub is_written : AreTablesWith g rows written
   is_written = tables_with g within formed rows w nodes are_nodes written refl refl
 
 -- ---- the rows
 
--- the row of a number
+-- the row of item x, with its columns in the list
 abbrev numbered_row : List (List Column) → ℕ → Row
 numbered_row columns x = record { item = x; columns = row_at columns x }
 
--- the rows with these columns, by number
+-- the rows of all items, by number
 abbrev numbered : List (List Column) → List Row
 numbered columns = map (numbered_row columns) (numbers_below (length columns))
 
--- rows that are numbered have their numbers as items
+-- the items of these rows are their numbers
 numbered_items : (columns : List (List Column)) → items_of (numbered columns) ≡ numbers_below (length columns)
 numbered_items columns = items_same (numbered_row columns) (numbers_below (length columns)) (λ x c. refl)
 
--- and the columns that they were made of
+-- their columns are those they were made from
 numbered_columns : (columns : List (List Column)) → columns_of_rows (numbered columns) ≡ columns
 numbered_columns columns =
     let blank : Row = record { item = 0; columns = [] } in
@@ -119,7 +121,7 @@ numbered_columns columns =
     ∙ ap (λ (r : Row). r.columns)
     (get_or-map-below (numbered_row columns) (length columns) k blank (omega (arith, l, count, long))))
 
--- under each topological order in which no item is too wide there are tables
+-- the whole: there are tables under each topological order in which no item is too wide
 pub tables_exist : TablesExist
 tables_exist g urgency order guards frozen admitted topological narrow times =
     let timed : IsTimed g urgency order frozen =

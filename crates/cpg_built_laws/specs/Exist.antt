@@ -1,4 +1,4 @@
--- What the law says that there is: rows as a builder finds them, and their tables.
+-- What the law promises: rows that a builder may find, and tables with these rows.
 use Rattle.std.specs.Prelude.{ℕ, List, Option}
 use Rattle.cpg_base.specs.Graph.{Graph}
 use Rattle.cpg_order.specs.Urgency.{IsTopological}
@@ -11,17 +11,20 @@ use Rattle.cpg_table.specs.Writing.{AreTablesWith}
 use Rattle.cpg_run.specs.Found.{AreRowsFound, DoRowsFit}
 use Rattle.cpg_run.specs.Frozen.{AreFrozenTimes}
 
--- rows with the times of the runs under an order, which are within the limits, and tables with these rows
+-- There are rows with the times of the order's runs, none of which exceeds the limits of columns, and tables with
+-- these rows.
 pub record HasTables (g : Graph) (urgency order : List ℕ) (frozen : List (Option ℕ)) : Type 0 where
-  -- the rows, found from the runs, with no more columns than a row and all rows may have
+  -- the rows have what the runs under the order and these frozen times ask for
   pub rows : List Row
   pub found : AreRowsFound g urgency order frozen rows
+  -- no row has too many columns, nor have the rows of all tables together
   pub fit : DoRowsFit g rows
-  -- the tables in which they are written
+  -- the tables have these rows and no others
   pub tables : Tables
   pub written : AreTablesWith g rows tables
 
--- there are such tables under each topological order in which no item is too wide
+-- An admitted graph has such tables under each topological order in which no item is too wide by its views, with the
+-- frozen times of that order.
 abbrev pub TablesExist : Type 0
 TablesExist = (g : Graph) (urgency order : List ℕ) (guards : Guards) (frozen : List (Option ℕ)) →
     IsAdmitted g urgency guards → IsTopological g order →

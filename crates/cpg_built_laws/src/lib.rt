@@ -3,8 +3,8 @@
 
 ghost use Rattle.cpg_built_laws.specs.Exist.{TablesExist};
 
-/// Under an order in which no item is too wide by its views an admitted graph has rows that a builder finds, and tables of them
-/// within the limits.
+/// Does nothing: its contract says that, under an order in which no item is too wide by its views, an admitted graph
+/// has rows that a builder may find, and tables of them within the limits.
 pub fn tables_exist()
     ensures { TablesExist }
 {}

@@ -48,7 +48,8 @@ module _ (rank : ℕ → ℕ) (xs : List ℕ) (rises : Rises (λ a b. rank a < r
       let at : get_or xs c.0 0 ≡ y = get_or_default xs c.0 0 y (omega arith) ∙ sym (get_or-take k xs c.0 y l) ∙ c.2 in
       subst (λ z. rank z < rank (get_or xs k 0)) at (at_places (λ a b. rank a < rank b) xs rises c.0 k 0 l inside)
 
-  -- each element with a lower rank than the k-th is one of the first k
+  -- Each element with a lower rank than the k-th is one of the first k.
+  -- Its place isn't k or later, since ranks rise along the list.
   pub in_first : (y : ℕ) → Contains xs y → rank y < rank (get_or xs k 0) → Contains (take k xs) y
   in_first y c less =
       let at : get_or xs c.0 0 ≡ y = get_or_default xs c.0 0 y c.1 ∙ c.2 in
@@ -65,14 +66,19 @@ module _ (g : Graph) where
 
   -- an item that a process makes and that goes over the bus
   pub record IsSentOf (p x : ℕ) : Type 0 where
+    -- it is an item of the graph
     pub within : x < item_count g
+    -- it is no start
     pub above : process_count g ≤ x
+    -- it goes over the bus
     pub sent : is_sent g x ≡ true
+    -- the process makes it
     pub by : producer g x ≡ p
 
   -- ---- what is in it
 
-  -- the broadcast of a process is that of its condition, and there is more than one node
+  -- The broadcast of a process is that of its condition, and there is more than one node.
+  -- A process without a condition, or on the only node, has no broadcast.
   a_broadcast : (p x : ℕ) (o : Option ℕ) → condition_of g p ≡ o → Contains (broadcasts_of g o) x →
       (c : ℕ) × (c < condition_count g) × (x ≡ broadcast_item g c) × (process_of g c ≡ p) ×
       (ltb 1 (length g.nodes) ≡ true)
@@ -95,7 +101,8 @@ module _ (g : Graph) where
       let o = outputs_parts g p r.0 f.0 in
       (r.0, o.0, sym r.2, o.1, f.1)
 
-  -- all that a process sends is made by it and goes over the bus
+  -- All that a process sends is made by it and goes over the bus.
+  -- It is the broadcast of its condition, or a message of one of its outputs.
   pub in_queue : (p x : ℕ) → Contains (queue_of g p) x → IsSentOf p x
   in_queue p x k = elim (Contains-append_cases (broadcasts_of g (condition_of g p))
       (map (message_item g) (filter (is_message g) (outputs g p))) x k) [
@@ -117,7 +124,8 @@ module _ (g : Graph) where
             }
       ]
 
-  -- each item that goes over the bus is among what its producer sends
+  -- Each item that goes over the bus is among what its producer sends.
+  -- By the kind of the item: a start isn't sent, and a message or a broadcast is in its part of the list.
   to_queue : (x : ℕ) → x < item_count g → is_sent g x ≡ true → Contains (queue_of g (producer g x)) x
   to_queue x l sent = elim (item_cases g x l) [
     | inl c ↦ absurd (true≢false (sym sent ∙ ap (is_sent_item g) c.1))
@@ -142,7 +150,8 @@ module _ (g : Graph) where
 
   -- ---- in which order
 
-  -- the messages and the broadcast of a process rise by rank
+  -- The messages and the broadcast of a process rise by rank.
+  -- The outputs rise by number, and so do the ranks of their messages.
   messages_rise : (p : ℕ) →
       Rises (λ a b. rank_at a < rank_at b) (map (message_item g) (filter (is_message g) (outputs g p)))
   messages_rise p = Rises-map (λ a b. rank_at a < rank_at b) (message_item g) (filter (is_message g) (outputs g p))
@@ -172,7 +181,8 @@ module _ (g : Graph) where
       go true = (λ y k. absurd (Contains-nil y k), tt)
       go false = tt
 
-  -- what a process sends rises by rank
+  -- What a process sends rises by rank.
+  -- The broadcast has rank 0, and each message a rank above that.
   pub queue_rises : (p : ℕ) → Rises (λ a b. rank_at a < rank_at b) (queue_of g p)
   queue_rises p = Rises-append (λ a b. rank_at a < rank_at b) (broadcasts_of g (condition_of g p))
       (map (message_item g) (filter (is_message g) (outputs g p)))

@@ -10,7 +10,8 @@ use Rattle.cpg_base.proofs.Bounds.{round-le}
 use Rattle.cpg_base.proofs.Slots.{slot_place-lt}
 use Rattle.cpg_bus.specs.Share.{HasSlot, ShareState, IsShare, share_of}
 
--- in a graph within the limits, the slot of a node that has one takes time and lies in the round
+-- In a graph within the limits, the slot of a node that has one takes time and lies in the round.
+-- The slots before it and itself are some of the slots of the round.
 pub is_share : (g : Graph) (node : ℕ) → IsWithinLimits g → HasSlot g node → IsShare (share_of g node)
 is_share g node within has =
     let l = slot_place-lt g node has in

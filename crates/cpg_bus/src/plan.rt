@@ -1,4 +1,4 @@
-//! The plan of a graph, which is found once: the edges of each process, what it sends, and the shares of the nodes.
+//! The plan of a graph, which is found once for many runs.
 ghost use Rattle.std.specs.Prelude.{◌≡◌, ◌<◌, ◌==◌, IfOk, ℕ, length, map};
 ghost use Rattle.std.specs.List.{list_any};
 ghost use Rattle.cpg_base.specs.Bus.{round};
@@ -17,6 +17,7 @@ use std::marker::Model;
 /// The items that a process sends, in their order.
 #[derive(Drop)]
 struct ItemList {
+    /// The numbers of the items: the broadcast, if there is one, and then the messages by number.
     items: Vec<u32>,
 }
 
@@ -29,7 +30,7 @@ impl Model for ItemList {
 }
 
 impl ItemList {
-    /// The items as a slice.
+    /// Returns the items as a slice.
     fn as_slice(&self) -> &[u32]
         ensures { result.now ≡ self.now }
     {
@@ -38,12 +39,16 @@ impl ItemList {
 }
 
 /// The edges of each process, the items that it sends in their order, and the nodes' shares of the bus, found once for many
-/// scenarios.
+/// runs.
 #[derive(Drop)]
 pub struct Plan {
+    /// The edges of each process.
     links: Links,
+    /// By process, the items that it sends, as its node's queue has them.
     queues: Vec<ItemList>,
+    /// By node, its share of the bus, if it has a slot.
     shares: Vec<Option<Share>>,
+    /// The length of the round, in time units.
     round: u64,
 }
 
@@ -55,17 +60,17 @@ impl Model for Plan {
     ghost view = { λ p. record { links = p.links; queues = p.queues.items; shares = p.shares.items; turn = p.round } };
 }
 
-/// The broadcast of a process, if it has a condition and there is another node to hear it.
+/// Returns the broadcast of a process's condition; an empty list if it has none, or there is no other node to hear it.
 fn broadcasts(alloc: Global, problem: &Problem, process: u32) -> Result<Vec<u32>, OutOfMemory>
     requires { process < process_count problem.now }
     ensures { IfOk result (λ items. items.items ≡ broadcasts_of problem.now (condition_of problem.now process)) }
 {
     let mut items = Vec::new(alloc);
-    // no condition, so no broadcast
+    // a process without a condition broadcasts nothing
     let Some(condition) = problem.condition_of(process) else {
         return Ok(items);
     };
-    // no other node hears it
+    // with one node there is no other to hear it
     if problem.nodes().len() <= 1 {
         return Ok(items);
     }
@@ -73,7 +78,7 @@ fn broadcasts(alloc: Global, problem: &Problem, process: u32) -> Result<Vec<u32>
     Ok(items)
 }
 
-/// The items that a process sends.
+/// Returns the items that a process sends: its broadcast first, then its messages by number.
 fn queue(
     alloc: Global,
     problem: &Problem,
@@ -86,6 +91,7 @@ fn queue(
 {
     let mut items = broadcasts(alloc, problem, process)?;
     for edge in links.outputs(process) {
+        // an edge within a node isn't sent
         if problem.is_message(*edge) {
             items.push(problem.message_item(*edge))?;
         }
@@ -93,7 +99,7 @@ fn queue(
     Ok(ItemList { items })
 }
 
-/// The items that each process sends.
+/// Returns the items that each process sends, by process.
 fn queues(alloc: Global, problem: &Problem, links: &Links) -> Result<Vec<ItemList>, OutOfMemory>
     requires { links.now ≡ links_of problem.now }
     ensures { IfOk result (λ queues. queues.items ≡ map (queue_of problem.now) (numbers_below (process_count problem.now))) }
@@ -113,7 +119,7 @@ fn has_slot(problem: &Problem, node: u32) -> bool
     problem.slots().iter().any(|slot| slot.node == node)
 }
 
-/// The share of a node, if it has a slot.
+/// Returns the share of a node, and `None` exactly if it has no slot.
 fn share_if(problem: &Problem, node: u32) -> Option<Share>
     ensures { result ≡ share_if problem.now node }
 {
@@ -124,7 +130,7 @@ fn share_if(problem: &Problem, node: u32) -> Option<Share>
     }
 }
 
-/// The shares of the nodes.
+/// Returns the share of each node, by number, and `None` for a node without a slot.
 fn shares(alloc: Global, problem: &Problem) -> Result<Vec<Option<Share>>, OutOfMemory>
     ensures { IfOk result (λ shares. shares.items ≡ map (share_if problem.now) (numbers_below (length problem.now.nodes))) }
 {
@@ -137,7 +143,7 @@ fn shares(alloc: Global, problem: &Problem) -> Result<Vec<Option<Share>>, OutOfM
 }
 
 impl Plan {
-    /// The plan of a graph.
+    /// Returns the plan of a graph.
     pub fn of(alloc: Global, problem: &Problem) -> Result<Plan, OutOfMemory>
         ensures { IfOk result (λ plan. plan ≡ plan_of problem.now) }
     {
@@ -151,17 +157,18 @@ impl Plan {
         })
     }
 
-    /// The edges that lead to a process. The contract alone names `problem`.
+    /// Returns the edges that lead to a process, the lowest first. Only the contract uses `problem`.
     pub fn inputs(&self, problem: &Problem, process: u32) -> &[u32]
         requires plan { self.now ≡ plan_of problem.now }
         requires process { process < process_count problem.now }
         ensures { result.now ≡ inputs problem.now process }
     {
+        // bound to a name, so that the prover closes the clause by itself
         let inputs = self.links.inputs(process);
         inputs
     }
 
-    /// The items that a process sends. The contract alone names `problem`.
+    /// Returns the items that a process sends, as its node's queue has them. Only the contract uses `problem`.
     pub fn queue(&self, problem: &Problem, process: u32) -> &[u32]
         requires plan { self.now ≡ plan_of problem.now }
         requires process { process < process_count problem.now }
@@ -171,7 +178,7 @@ impl Plan {
         queue.as_slice()
     }
 
-    /// The share of a node that has a slot.
+    /// Returns the share of a node that has a slot.
     pub fn share(&self, problem: &Problem, node: u32) -> Share
         requires plan { self.now ≡ plan_of problem.now }
         requires node { node < length problem.now.nodes }
@@ -180,17 +187,17 @@ impl Plan {
     {
         match self.shares[node as usize] {
             Some(share) => share,
-            // a node with a slot has its share in the plan; this one would be equal to it
+            // the node has a slot, so the plan has its share; this one is equal, so the contract holds here too
             None => Share::of(problem, node),
         }
     }
 
-    /// The length of the round.
+    /// Returns the length of the round, in time units. Only the contract uses `problem`.
     pub fn round(&self, problem: &Problem) -> u64
         requires { self.now ≡ plan_of problem.now }
         ensures { result ≡ round problem.now }
     {
-        // the contract of `slots` says that the graph is within its limits
+        // called for its clause: the graph is within its limits
         let _slots = problem.slots();
         self.round
     }

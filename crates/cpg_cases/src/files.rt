@@ -1,14 +1,15 @@
-//! The files of the cases, and how one is made of another.
+//! The files of the cases, and the making of one from another.
 
 use crate::stopped::Stopped;
 use cpg_io::{MemoryShelf, ReadAll, read_all};
 use std::alloc::Global;
 use std::{fs, str};
 
-/// The most bytes of a file.
+/// The most bytes of a file that an item made; more than any limit of the program.
 const MOST_BYTES: usize = 1_000_000_000;
 
-/// Adds the bytes that words spell.
+/// Adds the bytes that words spell, two hexadecimal digits each. An error is a word that spells none, or that memory
+/// runs out.
 fn push_bytes(bytes: &mut Vec<u8>, words: &str) -> Result<(), Stopped> {
     for word in words.split_whitespace() {
         bytes.push(u8::from_str_radix(word, 16)?)?;
@@ -16,7 +17,7 @@ fn push_bytes(bytes: &mut Vec<u8>, words: &str) -> Result<(), Stopped> {
     Ok(())
 }
 
-/// A line up to a `#`.
+/// Returns a line up to its first `#`, or all of it if it has none.
 fn uncommented(line: &str) -> &str {
     match line.split_once('#') {
         Some((line, _)) => line,
@@ -24,7 +25,7 @@ fn uncommented(line: &str) -> &str {
     }
 }
 
-/// The bytes that a text spells.
+/// Returns the bytes that a text spells, in words of two hexadecimal digits, with comments from a `#` on.
 fn spelled(alloc: Global, text: &str) -> Result<Vec<u8>, Stopped> {
     let mut bytes = Vec::new(alloc);
     for line in text.lines() {
@@ -33,7 +34,7 @@ fn spelled(alloc: Global, text: &str) -> Result<Vec<u8>, Stopped> {
     Ok(bytes)
 }
 
-/// The bytes of a file of the folder, or those that it spells.
+/// Returns the bytes of a file of the folder or, if its name ends in `.hex`, the bytes that it spells.
 fn folder_bytes(rt: &HostRuntime, name: &str) -> Result<Vec<u8>, Stopped> {
     if name.ends_with(".hex") {
         let text = fs::read_to_string(rt, name)?;
@@ -42,7 +43,7 @@ fn folder_bytes(rt: &HostRuntime, name: &str) -> Result<Vec<u8>, Stopped> {
     Ok(fs::read(rt, name)?)
 }
 
-/// The bytes of a file that an item made, or else of one of the folder.
+/// Returns the bytes of the file that an item made or, if none made it, of a file of the folder.
 pub fn bytes_of(rt: &HostRuntime, files: &mut MemoryShelf, name: &str) -> Result<Vec<u8>, Stopped> {
     match read_all(rt.alloc(), files, name, MOST_BYTES) {
         Ok(bytes) => Ok(bytes),
@@ -51,22 +52,25 @@ pub fn bytes_of(rt: &HostRuntime, files: &mut MemoryShelf, name: &str) -> Result
     }
 }
 
-/// Three texts as one.
+/// Returns three texts as one.
 fn joined(alloc: Global, before: &str, new: &str, after: &str) -> Result<String, Stopped> {
     Ok(format!(in alloc; "{before}{new}{after}")?)
 }
 
-/// A text with another in place of the first `old` of it.
+/// Returns a text with `new` in place of its first `old`. An error is that the bytes are no text, that `old` isn't in
+/// it, or that memory runs out.
 pub fn replaced(alloc: Global, bytes: &[u8], old: &str, new: &str) -> Result<String, Stopped> {
     let text = str::from_utf8(bytes).ok().ok_or(Stopped)?;
     let (before, after) = text.split_once(old).ok_or(Stopped)?;
     joined(alloc, before, new, after)
 }
 
-/// Bytes with those that words spell in place of others, from a place on.
+/// Returns bytes with those that words spell in place of as many, from a place on; they may go past the end. An error
+/// is that the place is past the end, that a word spells no byte, or that memory runs out.
 pub fn changed(alloc: Global, bytes: &[u8], place: usize, words: &str) -> Result<Vec<u8>, Stopped> {
     let mut made = Vec::from_slice(alloc, bytes.get(..place).ok_or(Stopped)?)?;
     push_bytes(&mut made, words)?;
+    // nothing is left if the new bytes reach the end
     let rest = bytes.get(made.len()..).unwrap_or(&[]);
     made.extend_from_slice(rest)?;
     Ok(made)

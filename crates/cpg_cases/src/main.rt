@@ -1,7 +1,8 @@
 //! Worked cases of the whole program: files and words, run over a shelf and sinks in memory.
 //!
-//! Each line of the standard input names a list of cases, a file of the folder. What an item of one list makes, the later lists
-//! have too. In a list, an empty line, or one that begins with `#`, says nothing; each other line is an item:
+//! Each line of the standard input names a list of cases, a file of the folder. What an item of one list makes, the
+//! later lists have too. In a list, an empty line, or one that begins with `#`, says nothing; each other line is an
+//! item:
 //!
 //! | item | what it does |
 //! |---|---|
@@ -12,20 +13,20 @@
 //! | `keep NAME` | makes a file of the last output |
 //! | `room OUT ERR` | the sinks of the next run take OUT and ERR bytes |
 //! | `fail CALL` | a call of the shelf in the next run fails, counted from 0 |
-//! | `first LINES` | of the next output only the first lines are printed |
+//! | `first LINES` | of the next run's output only the first lines are printed |
 //! | `run WORD ..` | runs the program on these words over the files that they name |
 //! | `rooms WORD ..` | runs them with an output of each room below what they write |
 //! | `refusals WORD ..` | runs them, which are refused, with an error output of each room below the line that they write |
 //! | `calls WORD ..` | runs them with each call of the shelf failing in turn, until a run has status 0 |
 //! | `parts COUNT NAME WORD ..` | runs them with the longest proper beginnings of a pack in its place |
 //!
-//! A name is that of a file that an item made, or else of one of the folder. A file NAME.hex of the folder spells its bytes, two
-//! digits each, up to a `#` in a line.
+//! A name is that of a file that an item made or, if none did, of one of the folder. A file NAME.hex of the folder
+//! spells its bytes, two hexadecimal digits each, up to a `#` in a line.
 //!
-//! A run prints its words, each line of its output behind `>` and of its error output behind `!`, or the bytes by two
-//! digits if they are no text, and its status. The last four print of how many runs how many ended as they are to: by
-//! a fault of the output after just that room, the same of the error output, by a fault of the shelf, and by a refusal of
-//! the pack at its end.
+//! `run` prints its words, each line of its output behind `>` and of its error output behind `!`, or the bytes in two
+//! digits each if they are no text, and its status. The last four items print how many of their runs ended as they
+//! should: by a fault of the output after just that room, by the same of the error output, by a fault of the shelf, and
+//! by a refusal of the pack at its end.
 #![tactic(auto)]
 
 mod files;
@@ -40,7 +41,7 @@ use crate::stopped::Stopped;
 use std::fs;
 use std::process::ExitCode;
 
-/// Takes a line of a list.
+/// Does what a line of a list says. If that fails, prints the line.
 fn take_line(rt: &HostRuntime, session: &mut Session, line: &str) -> Result<(), Stopped> {
     if line.is_empty() || line.starts_with('#') {
         return Ok(());
@@ -52,7 +53,7 @@ fn take_line(rt: &HostRuntime, session: &mut Session, line: &str) -> Result<(), 
     Ok(())
 }
 
-/// Takes the lines of a list.
+/// Does what the lines of a list say, up to the first that fails.
 fn take_list(rt: &HostRuntime, session: &mut Session, name: &str) -> Result<(), Stopped> {
     let list = fs::read_to_string(rt, name)?;
     for line in list.as_str().lines() {
@@ -61,7 +62,7 @@ fn take_list(rt: &HostRuntime, session: &mut Session, name: &str) -> Result<(), 
     Ok(())
 }
 
-/// Takes the lists that the standard input names.
+/// Does what the lists say that the standard input names, one after the other.
 fn take_named(rt: &HostRuntime, session: &mut Session) -> Result<(), Stopped> {
     for name in rt.lines(rt.alloc()) {
         let name = name?;
@@ -70,12 +71,13 @@ fn take_named(rt: &HostRuntime, session: &mut Session) -> Result<(), Stopped> {
     Ok(())
 }
 
-/// Takes all lists.
+/// Does what all lists say, in one session.
 fn take_lists(rt: &HostRuntime) -> Result<(), Stopped> {
     let mut session = Session::new(rt.alloc())?;
     take_named(rt, &mut session)
 }
 
+/// Ends with status 0 if all lists were gone through, and 1 if one stopped.
 fn main(rt: HostRuntime) -> ExitCode {
     match take_lists(&rt) {
         Ok(()) => ExitCode::from(0),

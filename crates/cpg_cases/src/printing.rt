@@ -1,10 +1,10 @@
-//! What a run wrote, as text.
+//! Printing runs.
 
 use crate::runs::Outcome;
 use crate::sweeps::Sweep;
 use std::{io, str};
 
-/// The words after the program's name.
+/// Prints the words of a run as a command line.
 pub fn print_words(rt: &HostRuntime, words: &[String]) -> io::Result<()> {
     print!(rt; "$ cpgc")?;
     for word in words {
@@ -13,12 +13,12 @@ pub fn print_words(rt: &HostRuntime, words: &[String]) -> io::Result<()> {
     println!(rt)
 }
 
-/// Whether a byte is a line feed, or has a shape on paper.
+/// Whether a byte is a line feed or a printable ASCII character.
 fn is_plain(byte: u8) -> bool {
     byte == b'\n' || (b' ' <= byte && byte <= b'~')
 }
 
-/// Bytes as a text, if each of them is plain.
+/// Returns bytes as a text, or `None` if one of them isn't plain.
 fn text_of(bytes: &[u8]) -> Option<&str> {
     if bytes.iter().all(|byte| is_plain(*byte)) {
         str::from_utf8(bytes).ok()
@@ -27,7 +27,7 @@ fn text_of(bytes: &[u8]) -> Option<&str> {
     }
 }
 
-/// The first lines of a text.
+/// Prints the first lines of a text behind a mark, and says if there are more, or if the last line has no line feed.
 fn print_text(rt: &HostRuntime, mark: &str, text: &str, lines: usize) -> io::Result<()> {
     for line in text.lines().take(lines) {
         println!(rt; "{mark} {line}")?;
@@ -41,7 +41,7 @@ fn print_text(rt: &HostRuntime, mark: &str, text: &str, lines: usize) -> io::Res
     Ok(())
 }
 
-/// Some bytes as two digits each.
+/// Prints some bytes behind a mark, in two hexadecimal digits each.
 fn print_row(rt: &HostRuntime, mark: &str, row: &[u8]) -> io::Result<()> {
     print!(rt; "{mark}")?;
     for byte in row {
@@ -50,7 +50,7 @@ fn print_row(rt: &HostRuntime, mark: &str, row: &[u8]) -> io::Result<()> {
     println!(rt)
 }
 
-/// The first rows of bytes, 16 of them in each.
+/// Prints the first rows of bytes, 16 in each, and says if there are more.
 fn print_rows(rt: &HostRuntime, mark: &str, bytes: &[u8], rows: usize) -> io::Result<()> {
     for row in bytes.chunks(16).take(rows) {
         print_row(rt, mark, row)?;
@@ -61,7 +61,7 @@ fn print_rows(rt: &HostRuntime, mark: &str, bytes: &[u8], rows: usize) -> io::Re
     Ok(())
 }
 
-/// The first lines of what a sink took: as a text if it is plain, and else as digits.
+/// Prints the first lines of what a sink took: as a text if all its bytes are plain, otherwise as digits.
 fn print_bytes(rt: &HostRuntime, mark: &str, bytes: &[u8], lines: usize) -> io::Result<()> {
     match text_of(bytes) {
         Some(text) => print_text(rt, mark, text, lines),
@@ -69,7 +69,7 @@ fn print_bytes(rt: &HostRuntime, mark: &str, bytes: &[u8], lines: usize) -> io::
     }
 }
 
-/// A run.
+/// Prints a run: the first lines of its output, all of its error output, and its status.
 pub fn print_outcome(rt: &HostRuntime, got: &Outcome, lines: usize) -> io::Result<()> {
     let status = got.status;
     print_bytes(rt, ">", got.out.taken(), lines)?;
@@ -77,7 +77,7 @@ pub fn print_outcome(rt: &HostRuntime, got: &Outcome, lines: usize) -> io::Resul
     println!(rt; "status {status}")
 }
 
-/// Many runs.
+/// Prints how many of many runs ended as they should.
 pub fn print_sweep(rt: &HostRuntime, what: &str, sweep: Sweep) -> io::Result<()> {
     let Sweep { runs, well } = sweep;
     println!(rt; "{what}: {well} of {runs}")

@@ -1,24 +1,24 @@
-//! Runs of the top call.
+//! Runs of the program, over a shelf and sinks in memory.
 
 use crate::files::bytes_of;
 use crate::stopped::Stopped;
 use cpg_app::run;
 use cpg_io::{MemoryShelf, MemorySink};
 
-/// What a run has of its own.
+/// What an item sets for a run.
 #[derive(Clone, Copy)]
 pub struct RunSetting {
-    /// How many bytes the output takes.
+    /// How many bytes the output takes before it fails.
     pub out: usize,
-    /// How many bytes the error output takes.
+    /// How many bytes the error output takes before it fails.
     pub err: usize,
-    /// The number of a call of the shelf that fails.
+    /// The number, from 0, of the call of the shelf that fails, if one is to.
     pub failing: Option<u64>,
     /// How many lines of the output are printed.
     pub lines: usize,
 }
 
-/// What a run has if nothing is said.
+/// What a run has if no item sets anything: room for what it writes, no call that fails, and all lines printed.
 pub const USUAL: RunSetting = RunSetting {
     out: 10_000_000,
     err: 1000,
@@ -26,22 +26,25 @@ pub const USUAL: RunSetting = RunSetting {
     lines: usize::MAX,
 };
 
-/// What a run answered and wrote.
+/// How a run ended, and what it wrote.
 #[derive(Drop)]
 pub struct Outcome {
+    /// The exit status.
     pub status: u8,
+    /// The output.
     pub out: MemorySink,
+    /// The error output.
     pub err: MemorySink,
 }
 
 impl Outcome {
-    /// Whether a run answered and wrote just this.
+    /// Whether the run ended with this status and wrote just these bytes.
     pub fn is(&self, status: u8, out: &[u8], err: &[u8]) -> bool {
         self.status == status && self.out.taken() == out && self.err.taken() == err
     }
 }
 
-/// A shelf of the files that some words name.
+/// Returns a shelf with the files that some words name. A word that names none is no file.
 fn shelf_for(
     rt: &HostRuntime,
     files: &mut MemoryShelf,
@@ -56,7 +59,7 @@ fn shelf_for(
     Ok(shelf)
 }
 
-/// Runs words over a shelf.
+/// Runs the program on words over a shelf, which is new, so that its calls count from 0.
 fn run_over(
     rt: &HostRuntime,
     shelf: &mut MemoryShelf,
@@ -72,7 +75,7 @@ fn run_over(
     Ok(Outcome { status, out, err })
 }
 
-/// Runs words over the files that they name.
+/// Runs the program on words over the files that they name.
 pub fn run_words(
     rt: &HostRuntime,
     files: &mut MemoryShelf,

@@ -1,4 +1,4 @@
-//! The items of a list.
+//! Doing the items of the lists, one after the other.
 
 use crate::files::{bytes_of, changed, replaced};
 use crate::printing::{print_outcome, print_sweep, print_words};
@@ -12,21 +12,25 @@ use std::alloc::Global;
 /// What the items so far leave to the next one.
 #[derive(Drop)]
 pub struct Session {
+    /// The files that items made.
     files: MemoryShelf,
+    /// What is set for the next run.
     next: RunSetting,
+    /// The output of the last `run`.
     wrote: Vec<u8>,
 }
 
-/// A text before a blank, and after it.
+/// Returns a text before its first blank, and after it. An error is that it has none.
 fn split(text: &str) -> Result<(&str, &str), Stopped> {
     text.split_once(' ').ok_or(Stopped)
 }
 
+/// Returns the number that a text writes in decimal digits. An error is that it writes none.
 fn number(text: &str) -> Result<usize, Stopped> {
     Ok(text.parse::<usize>()?)
 }
 
-/// The words of a line.
+/// Returns the words of a line. The one error is that memory runs out.
 fn words_of(alloc: Global, line: &str) -> Result<Vec<String>, Stopped> {
     let mut words = Vec::new(alloc);
     for word in line.split_whitespace() {
@@ -36,7 +40,7 @@ fn words_of(alloc: Global, line: &str) -> Result<Vec<String>, Stopped> {
 }
 
 impl Session {
-    /// No files, and no run so far.
+    /// Returns a session in which nothing has been done. The one error is that memory runs out.
     pub fn new(alloc: Global) -> Result<Session, OutOfMemory> {
         Ok(Session {
             files: MemoryShelf::new(alloc)?,
@@ -45,11 +49,13 @@ impl Session {
         })
     }
 
-    /// Makes a file.
+    /// Makes a file with these bytes, in place of any other with this name.
     fn put(&mut self, name: &str, bytes: &[u8]) -> Result<(), Stopped> {
         Ok(self.files.put(name, bytes)?)
     }
 
+    /// Does `feeds NAME COUNT`; `rest` is what follows the first word. Each function below is for one item of the table
+    /// in `main`, unless it says otherwise.
     fn feeds(&mut self, alloc: Global, rest: &str) -> Result<(), Stopped> {
         let (name, count) = split(rest)?;
         let count = number(count)?;
@@ -57,6 +63,7 @@ impl Session {
         self.put(name, bytes.as_slice())
     }
 
+    /// Does `edit NAME FROM OLD => NEW`.
     fn edit(&mut self, rt: &HostRuntime, rest: &str) -> Result<(), Stopped> {
         let (name, rest) = split(rest)?;
         let (from, rest) = split(rest)?;
@@ -66,6 +73,7 @@ impl Session {
         self.put(name, text.as_bytes())
     }
 
+    /// Does `set NAME FROM PLACE BYTE ..`.
     fn set(&mut self, rt: &HostRuntime, rest: &str) -> Result<(), Stopped> {
         let (name, rest) = split(rest)?;
         let (from, rest) = split(rest)?;
@@ -76,10 +84,12 @@ impl Session {
         self.put(name, made.as_slice())
     }
 
+    /// Does `keep NAME`.
     fn keep(&mut self, name: &str) -> Result<(), Stopped> {
         Ok(self.files.put(name, self.wrote.as_slice())?)
     }
 
+    /// Does `room OUT ERR`.
     fn room(&mut self, rest: &str) -> Result<(), Stopped> {
         let (out, err) = split(rest)?;
         self.next.out = number(out)?;
@@ -87,31 +97,35 @@ impl Session {
         Ok(())
     }
 
+    /// Does `fail CALL`.
     fn fail(&mut self, call: &str) -> Result<(), Stopped> {
         self.next.failing = Some(call.parse::<u64>()?);
         Ok(())
     }
 
+    /// Does `first LINES`.
     fn first(&mut self, lines: &str) -> Result<(), Stopped> {
         self.next.lines = number(lines)?;
         Ok(())
     }
 
-    /// Prints a run, and keeps its output.
+    /// Prints a run, and keeps its output for `keep`.
     fn note(&mut self, rt: &HostRuntime, got: &Outcome) -> Result<(), Stopped> {
         print_outcome(rt, got, self.next.lines)?;
         self.wrote = Vec::from_slice(rt.alloc(), got.out.taken())?;
-        // room, failing call and lines are for one run alone
+        // what items set is for one run alone
         self.next = USUAL;
         Ok(())
     }
 
+    /// Does `run WORD ..`.
     fn run(&mut self, rt: &HostRuntime, words: &[String]) -> Result<(), Stopped> {
         let got = run_words(rt, &mut self.files, words, self.next)?;
         self.note(rt, &got)
     }
 
-    /// Many runs, by the name of their item.
+    /// Runs words many times, as `rooms`, `refusals` or `calls` says. An error is that `item` is none of these, or that
+    /// a run can't be made.
     fn sweep(&mut self, rt: &HostRuntime, item: &str, words: &[String]) -> Result<Sweep, Stopped> {
         match item {
             "rooms" => rooms(rt, &mut self.files, words),
@@ -122,7 +136,7 @@ impl Session {
         }
     }
 
-    /// Runs words as an item says.
+    /// Prints words, runs them as an item says, and prints what comes of it.
     fn take_words(
         &mut self,
         rt: &HostRuntime,
@@ -130,7 +144,7 @@ impl Session {
         words: &[String],
     ) -> Result<(), Stopped> {
         print_words(rt, words)?;
-        // one run, which is printed; all others are sweeps, of which only the counts are
+        // of one run all is printed, of many only how many ended as they should
         if item == "run" {
             return self.run(rt, words);
         }
@@ -138,13 +152,13 @@ impl Session {
         Ok(print_sweep(rt, item, sweep)?)
     }
 
-    /// Takes an item that runs words.
+    /// Does an item that runs words, which follow its name.
     fn take_run(&mut self, rt: &HostRuntime, item: &str, rest: &str) -> Result<(), Stopped> {
         let words = words_of(rt.alloc(), rest)?;
         self.take_words(rt, item, words.as_slice())
     }
 
-    /// Runs words with this number of beginnings of a pack.
+    /// Runs words with the `count` longest proper beginnings of a pack, and prints how many ended as they should.
     fn take_parts(
         &mut self,
         rt: &HostRuntime,
@@ -157,6 +171,7 @@ impl Session {
         Ok(print_sweep(rt, "parts", sweep)?)
     }
 
+    /// Does `parts COUNT NAME WORD ..`.
     fn parts(&mut self, rt: &HostRuntime, rest: &str) -> Result<(), Stopped> {
         let (count, rest) = split(rest)?;
         let (name, rest) = split(rest)?;
@@ -165,29 +180,30 @@ impl Session {
         self.take_parts(rt, words.as_slice(), name, count)
     }
 
-    /// Takes an item that says what the next run has.
+    /// Does an item that sets something for the next run, or runs words.
     fn take_setting(&mut self, rt: &HostRuntime, item: &str, rest: &str) -> Result<(), Stopped> {
         match item {
             "room" => self.room(rest),
             "fail" => self.fail(rest),
             "first" => self.first(rest),
             "parts" => self.parts(rt, rest),
-            // all other items run words
+            // each other item is just followed by the words that it runs
             _ => self.take_run(rt, item, rest),
         }
     }
 
-    /// Takes an item.
+    /// Does the item of a line. An error is that the line has no form, or that the item fails.
     pub fn take(&mut self, rt: &HostRuntime, line: &str) -> Result<(), Stopped> {
+        // a line of one word has nothing after it
         let (item, rest) = line.split_once(' ').unwrap_or((line, ""));
         match item {
-            // a title: it is printed behind an empty line
+            // a title is printed after an empty line
             "case" => Ok(println!(rt; "\n{rest}")?),
             "feeds" => self.feeds(rt.alloc(), rest),
             "edit" => self.edit(rt, rest),
             "set" => self.set(rt, rest),
             "keep" => self.keep(rest),
-            // all other items set something of the next run, or run words
+            // each other item sets something for the next run, or runs words
             _ => self.take_setting(rt, item, rest),
         }
     }

@@ -1,11 +1,12 @@
-//! Why the lists aren't gone through to their end.
+//! The error that stops the going through the lists.
 
 use cpg_base::OutOfMemory;
 use std::alloc::{AllocError, AllocFailed};
 use std::io;
 use std::num::ParseIntError;
 
-/// A line has no form, a file isn't there, the output can't be written, or memory ran out.
+/// The lists aren't gone through to their end: a line has no form, a file isn't there, the output can't be written, or
+/// memory ran out.
 #[derive(Clone, Copy)]
 pub struct Stopped;
 

@@ -1,31 +1,34 @@
-//! Many runs of the same words.
+//! Sweeps: many runs of the same words, in each of which something else fails.
 
 use crate::files::bytes_of;
 use crate::runs::{RunSetting, USUAL, run_words};
 use crate::stopped::Stopped;
 use cpg_io::MemoryShelf;
 
-/// How many runs there were, and how many of them ended as they are to.
+/// The count of a sweep.
 #[derive(Clone, Copy)]
 pub struct Sweep {
+    /// How many runs there were.
     pub runs: u64,
+    /// How many of them ended as they should.
     pub well: u64,
 }
 
 impl Sweep {
-    /// No runs.
+    /// Returns the count of no runs.
     fn none() -> Sweep {
         Sweep { runs: 0, well: 0 }
     }
 
-    /// One more run.
+    /// Counts one more run, and whether it ended as it should.
     fn count(&mut self, well: bool) {
         self.runs = self.runs.saturating_add(1);
         self.well = self.well.saturating_add(u64::from(well));
     }
 }
 
-/// With an output of each room that is less than these bytes: each run is to be cut there.
+/// Runs words with an output of each room below these bytes, which they write. Each run should be cut there, with
+/// status 3.
 fn rooms_below(
     rt: &HostRuntime,
     files: &mut MemoryShelf,
@@ -41,7 +44,7 @@ fn rooms_below(
     Ok(sweep)
 }
 
-/// With an output of each room that is less than what they write.
+/// Runs words with an output of each room below what they write.
 pub fn rooms(
     rt: &HostRuntime,
     files: &mut MemoryShelf,
@@ -51,7 +54,8 @@ pub fn rooms(
     rooms_below(rt, files, words, whole.out.taken())
 }
 
-/// With an error output of each room that is less than this line: each run is to end by a fault of it there.
+/// Runs words with an error output of each room below this line, which they write. Each run should be cut there, with
+/// status 3.
 fn refusals_below(
     rt: &HostRuntime,
     files: &mut MemoryShelf,
@@ -67,7 +71,7 @@ fn refusals_below(
     Ok(sweep)
 }
 
-/// Words that are refused, with an error output of each room that is less than their line.
+/// Runs words that are refused, with an error output of each room below the line that they write.
 pub fn refusals(
     rt: &HostRuntime,
     files: &mut MemoryShelf,
@@ -77,18 +81,19 @@ pub fn refusals(
     refusals_below(rt, files, words, whole.err.taken())
 }
 
-/// With each call of the shelf failing, until a run has status 0: each run before is to end by a fault of the shelf.
+/// Runs words with each call of the shelf failing in turn, until a run has status 0, as it makes no such call. Each run
+/// before should end with status 2.
 pub fn calls(
     rt: &HostRuntime,
     files: &mut MemoryShelf,
     words: &[String],
 ) -> Result<Sweep, Stopped> {
     let mut sweep = Sweep::none();
-    // a thousand calls are the most that are tried
+    // the bound ends the loop even if every run fails
     for call in 0..1000 {
         let failing = Some(call);
         let got = run_words(rt, files, words, RunSetting { failing, ..USUAL })?;
-        // the call that fails comes after the last one, so every call has been tried
+        // this call wasn't made, so every call has been tried
         if got.status == 0 {
             break;
         }
@@ -97,7 +102,7 @@ pub fn calls(
     Ok(sweep)
 }
 
-/// Whether words refuse some bytes in place of a file, all of which could begin a pack.
+/// Runs words with the beginning of a pack in its file, and returns whether they refuse it at the place where it ends.
 fn refuse_part(
     rt: &HostRuntime,
     files: &mut MemoryShelf,
@@ -112,7 +117,8 @@ fn refuse_part(
     Ok(got.is(4, &[], line.as_bytes()))
 }
 
-/// With the longest proper beginnings of a pack in its place, `count` of them: each run is to refuse it at its end.
+/// Runs words with each of the `count` longest proper beginnings of a pack in its file, or with all if it has fewer.
+/// Each run should refuse the pack at the place where it ends.
 pub fn parts(
     rt: &HostRuntime,
     files: &mut MemoryShelf,
@@ -123,6 +129,7 @@ pub fn parts(
     let whole = bytes_of(rt, files, name)?;
     let bytes = whole.as_slice();
     let mut sweep = Sweep::none();
+    // from the shortest of these beginnings to the pack without its last byte
     for length in bytes.len().saturating_sub(count)..bytes.len() {
         sweep.count(refuse_part(rt, files, words, name, &bytes[..length])?);
     }

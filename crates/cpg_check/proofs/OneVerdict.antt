@@ -1,4 +1,5 @@
--- What is first is one: the differing part of a head, the violation of tables.
+-- Of what is first there is one: one part in which a head first differs, one first violation of node tables, so one
+-- verdict.
 use Rattle.std.proofs.Common.{ℕ, zero, suc, ◌≡◌, ◌<◌, ◌∙◌, Bool, true, false, ◌&&◌, ◌||◌, List, [], ◌∷◌, Option, Some}
 use Rattle.std.proofs.Common.{None, IfSome, IsPermutation, length, take, drop, refl, sym, ap, subst, inl, inr}
 use Rattle.std.proofs.Common.{arith}
@@ -31,7 +32,7 @@ use Rattle.cpg_check.proofs.Verdicts.{other_head, faulty_tables}
 
 -- ---- heads
 
--- a head first differs from the graph's in one part: of two such parts the earlier would be equal
+-- a head first differs from the graph's in one part: of two such parts, the later one says that the earlier is equal
 one_part : (g : Graph) (h : Head) (p q : HeadPart) → IsFirstDifference g h p → IsFirstDifference g h q → p ≡ q
 one_part g h HeadPart.Faults HeadPart.Faults d e = refl
 one_part g h HeadPart.Faults HeadPart.Nodes d e = absurd (d e.faults)
@@ -52,7 +53,7 @@ one_part g h HeadPart.Edges HeadPart.Edges d e = refl
 
 -- ---- faults by their parts
 
--- a violation by its parts
+-- a violation with these fields
 fault_of : ℕ → ℕ → Option ℕ → Scenario → Fault
 fault_of rule item column scenario = record { rule = rule; item = item; column = column; scenario = scenario }
 
@@ -63,7 +64,7 @@ same_fault e f rule item column scenario =
     ap (λ r. fault_of r e.item e.column e.scenario) rule ∙ ap (λ i. fault_of f.rule i e.column e.scenario) item
     ∙ ap (λ c. fault_of f.rule f.item c e.scenario) column ∙ ap (λ s. fault_of f.rule f.item f.column s) scenario
 
--- what none of either is less than the other is the same
+-- numbers of which neither is less than the other are equal
 same_number : (n m : ℕ) → (n < m → ⊥) → (m < n → ⊥) → n ≡ m
 same_number n m below above = elim (cases_lt n m) [
   | inl l ↦ absurd (below l)
@@ -75,20 +76,21 @@ same_number n m below above = elim (cases_lt n m) [
 
 -- ---- V1 to V9
 
+-- node tables, and the rules V1 to V9
 module _ (g : Graph) (tables : List NodeTable) where
-  -- a test that is joined to false adds nothing to the other one
+  -- a test joined to `false` by `and` adds nothing to one that fails
   off : (b r : Bool) → r ≡ false → ((b && false) || r) ≡ false
   off true r e = e
   off false r e = e
 
-  -- V3 speaks of no column
+  -- V3 is broken at no column: it asks only whether some column matches; by induction on `cs`
   present_never : (s : Scenario) (x : ℕ) (earlier cs : List Column) →
       list_any (breaks_at Rule.Present g tables s x earlier) cs ≡ false
   present_never s x earlier [] = refl
   present_never s x earlier (c ∷ cs) =
       off (matches c.cube s) (list_any (breaks_at Rule.Present g tables s x earlier) cs) (present_never s x earlier cs)
 
-  -- a rule is broken at columns alone, or at no column alone
+  -- a rule is broken only at columns, or only for lack of one (V3)
   none_or_some : (rule : Rule) (s t : Scenario) (x i : ℕ) → breaks rule g tables s x None ≡ true →
       breaks rule g tables t x (Some i) ≡ true → ⊥
   none_or_some Rule.Present s t x i e k = both_ways (breaks Rule.Present g tables t x (Some i))
@@ -103,13 +105,15 @@ module _ (g : Graph) (tables : List NodeTable) where
   none_or_some Rule.Due s t x i e k = true≢false (sym e)
   none_or_some Rule.Hears s t x i e k = true≢false (sym e)
 
+  -- a rule, and an item
   module _ (rule : Rule) (x : ℕ) where
-    -- no column before this one breaks the rule in any scenario
+    -- the rule is broken at no column before this one in any scenario
     abbrev Before : Option ℕ → Type 0
     Before column =
         IfSome column (λ j. (i : ℕ) (s : Scenario) → i < j → IsScenario g s → breaks rule g tables s x (Some i) ≡ false)
 
-    -- two first columns that break the rule are one
+    -- the first column at which the rule is broken is one: of two, the earlier is before the later, where it isn't
+    -- broken
     one_column : (c d : Option ℕ) (s t : Scenario) → IsScenario g s → IsScenario g t →
         breaks rule g tables s x c ≡ true → breaks rule g tables t x d ≡ true → Before c → Before d → c ≡ d
     one_column None None s t is it h k before earlier = refl
@@ -119,12 +123,14 @@ module _ (g : Graph) (tables : List NodeTable) where
         (λ l. both_ways (breaks rule g tables s x (Some i)) (earlier i s l is) h)
         (λ l. both_ways (breaks rule g tables t x (Some j)) (before j t l it) k))
 
+  -- an order of all processes
   module _ (order : List ℕ) (all : IsPermutation (numbers_below (process_count g)) order) where
-    -- the scenario is the least in which the rule is broken there
+    -- the scenario is the least in which the rule is broken at this item and column
     abbrev LeastAt : Rule → ℕ → Option ℕ → Scenario → Type 0
     LeastAt rule x column s = IsLeast g order (λ t. IsTrue (breaks rule g tables t x column)) s
 
-    -- a rule has one first violation: one item, one column and one scenario
+    -- a rule has one first violation: its item is the least at which the rule is broken, so one; then its column is the
+    -- first there, and its scenario the least there
     one_violation : (rule : Rule) (e f : Fault) → IsFirstViolation g order tables rule e →
         IsFirstViolation g order tables rule f → e ≡ f
     one_violation rule e f a b =
@@ -143,18 +149,18 @@ module _ (g : Graph) (tables : List NodeTable) where
         same_fault e f (a.number ∙ sym b.number) item column (one_least g order all
         (λ t. IsTrue (breaks rule g tables t f.item f.column)) e.scenario f.scenario here b.least)
 
-    -- a rule that holds has no violation
+    -- a rule that holds has no first violation
     broken : (rule : Rule) (e : Fault) → IsFirstViolation g order tables rule e → Holds g tables rule → ⊥
     broken rule e a holds = both_ways (breaks rule g tables e.scenario e.item e.column)
         (holds e.item e.column e.scenario a.least.lawful a.item) a.least.holds
 
-    -- if all of some rules hold, none has a violation
+    -- rules that all hold have no first violation
     some_broken : (rules : List Rule) (e : Fault) → IsFirstOf g order tables rules e → AllHold g tables rules → ⊥
     some_broken [] e h all = h
     some_broken (rule ∷ rules) e (inl a) all = broken rule e a all.0
     some_broken (rule ∷ rules) e (inr a) all = some_broken rules e a.1 all.1
 
-    -- some rules, one after another, have one first violation
+    -- rules, one after another, have one first violation: it is of the first rule that doesn't hold
     one_of : (rules : List Rule) (e f : Fault) → IsFirstOf g order tables rules e → IsFirstOf g order tables rules f →
         e ≡ f
     one_of [] e f a b = absurd a
@@ -165,42 +171,44 @@ module _ (g : Graph) (tables : List NodeTable) where
 
 -- ---- V10
 
--- columns that differ aren't the same
+-- a row of columns that are equal to others doesn't differ from them at a first place
 differ : (columns : List Column) (place : ℕ) (r : Option (List Column)) → IfSome r (λ cs. cs ≡ columns) →
     IsSomeAnd r (λ cs. DifferFirstAt cs columns place) → ⊥
 differ columns place None e d = d
 differ columns place (Some cs) e d = d.here (ap (λ xs. slice_get xs place) e)
 
--- the first j columns have the same column at an earlier place
+-- the first `j` columns have the same column as all at a place below `j`
 slice_get-take : (xs : List Column) (i j : ℕ) → i < j → slice_get (take j xs) i ≡ slice_get xs i
 slice_get-take xs i zero l = absurd (omega arith)
 slice_get-take [] i (suc j) l = refl
 slice_get-take (x ∷ xs) zero (suc j) l = refl
 slice_get-take (x ∷ xs) (suc i) (suc j) l = slice_get-take xs i j (omega arith)
 
--- lists that agree on the first j columns have the same column at an earlier place
+-- lists of which the first `j` columns are equal have the same column at a place below `j`
 taken : (xs ys : List Column) (i j : ℕ) → i < j → take j xs ≡ take j ys → slice_get xs i ≡ slice_get ys i
 taken xs ys i j l e = sym (slice_get-take xs i j l) ∙ ap (λ zs. slice_get zs i) e ∙ slice_get-take ys i j l
 
--- two lists first differ at one place
+-- a row of columns first differs from others at one place: below the later of two such places they are equal
 one_place : (columns : List Column) (i j : ℕ) (r : Option (List Column)) →
     IsSomeAnd r (λ cs. DifferFirstAt cs columns i) → IsSomeAnd r (λ cs. DifferFirstAt cs columns j) → i ≡ j
 one_place columns i j None d e = absurd d
 one_place columns i j (Some cs) d e =
     same_number i j (λ l. d.here (taken cs columns i j l e.before)) (λ l. e.here (taken cs columns j i l d.before))
 
+-- node tables, and V10
 module _ (g : Graph) (tables : List NodeTable) where
-  -- the least node that hears x otherwise than it is due does so first at this place
+  -- some node hears item `x` by other columns than are due, and this is the first place that differs at the least such
+  -- node
   abbrev FirstAt : ℕ → Option ℕ → Type 0
   FirstAt x o = IsSomeAnd o (IsFirstHear tables (length g.nodes) x (due_columns g tables x))
 
-  -- an item that is heard well is heard otherwise by no node
+  -- an item that is heard well is heard by other columns than are due at no node
   heard_badly : (x : ℕ) (o : Option ℕ) → FirstAt x o → IsHeardWell g tables x → ⊥
   heard_badly x None h well = h
   heard_badly x (Some place) h well = differ (due_columns g tables x) place
       (row_columns (table_at tables h.node).hears x) (well h.node h.within) h.differ
 
-  -- an item is first heard so at one place
+  -- an item is first heard otherwise at one place: the least such node is one, and so is the place there
   one_hear_place : (x : ℕ) (o p : Option ℕ) → FirstAt x o → FirstAt x p → o ≡ p
   one_hear_place x None p h k = absurd h
   one_hear_place x (Some i) None h k = absurd k
@@ -213,7 +221,7 @@ module _ (g : Graph) (tables : List NodeTable) where
       (subst (λ n. IsSomeAnd (row_columns (table_at tables n).hears x) (λ cs. DifferFirstAt cs columns i)) node
       h.differ) k.differ)
 
-  -- there is one first violation of V10: one item, and its place
+  -- V10 has one first violation: its item is the least that isn't heard well, so one, and its place is the first there
   one_hear : (e f : Fault) → IsFirstHearFault g tables e → IsFirstHearFault g tables f → e ≡ f
   one_hear e f a b =
       let item : e.item ≡ f.item = same_number e.item f.item
@@ -223,7 +231,7 @@ module _ (g : Graph) (tables : List NodeTable) where
       (one_hear_place f.item e.column f.column (subst (λ x. FirstAt x e.column) item a.column) b.column)
       (a.scenario ∙ sym b.scenario)
 
-  -- tables have one first violation of all ten rules
+  -- node tables have one first violation: it is of V10 only if the other nine rules hold
   one_fault : (order : List ℕ) (e f : Fault) → IsTopological g order → IsFirstFault g order tables e →
       IsFirstFault g order tables f → e ≡ f
   one_fault order e f along (inl a) (inl b) = one_of g tables order along.all column_rules e f a b
@@ -233,7 +241,7 @@ module _ (g : Graph) (tables : List NodeTable) where
 
 -- ---- verdicts
 
--- a verdict of each kind excludes those of the others, and each kind has one
+-- of two verdicts that are shown, neither excludes the other, so they are of one kind; and of each kind there is one
 one_verdict : (g : Graph) (order : List ℕ) (t : Tables) (v w : Verdict) → IsTopological g order →
     length t.nodes ≡ length g.nodes → ShowsVerdict g order t v → ShowsVerdict g order t w → v ≡ w
 one_verdict g order t Yes Yes along count a b = refl
@@ -246,7 +254,7 @@ one_verdict g order t (No e) Yes along count a b = absurd (faulty_tables g t.nod
 one_verdict g order t (No e) (Other q) along count a b = absurd (other_head g t.head q b a.0)
 one_verdict g order t (No e) (No f) along count a b = ap No (one_fault g t.nodes order e f along a.1 b.1)
 
--- tables have one verdict: one first difference of the head, or one first violation, or neither
+-- a check has one answer: one part in which the head first differs, or one first violation, or neither
 pub have_one_verdict : HaveOneVerdict
 have_one_verdict = record {
   parts = one_part;

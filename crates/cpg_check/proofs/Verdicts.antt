@@ -1,4 +1,5 @@
--- A verdict that shows something shows that the tables are not the graph's, or not valid.
+-- What a verdict shows excludes the others: a difference of heads, that the head is the graph's; a violation, that the
+-- node tables are valid.
 use Rattle.std.proofs.Common.{ℕ, ◌≡◌, ◌<◌, ◌∙◌, ◌==◌, List, [], ◌∷◌, Option, Some, None, length, map, refl, sym, ap}
 use Rattle.std.proofs.Common.{inl, inr, arith, eqb-true}
 use Rattle.std.specs.Prelude.{slice_get, IsSomeAnd}
@@ -18,15 +19,16 @@ use Rattle.cpg_check_rows.specs.Hears.{DifferFirstAt, IsFirstHear, due_columns}
 use Rattle.cpg_check.specs.Verdict.{IsFirstFault}
 use Rattle.cpg_violation.specs.declared.heads.HeadPart.{HeadPart}
 
--- a head with a difference isn't the graph's
+-- a head that differs from the graph's in some part isn't the graph's
 pub other_head : (g : Graph) (h : Head) (part : HeadPart) → IsFirstDifference g h part → IsHeadFor g h → ⊥
 other_head g h HeadPart.Faults d k = d k.faults
 other_head g h HeadPart.Nodes d k = d.nodes k.nodes
 other_head g h HeadPart.Processes d k = d.processes k.processes
 other_head g h HeadPart.Edges d k = d.edges k.edges
 
+-- node tables
 module _ (g : Graph) (tables : List NodeTable) where
-  -- a hear row of V10 has the columns that are due
+  -- if one of the hear rows that V10 asks for has item `x`, it has the columns that are due; by induction on `items`
   heard_due : (x : ℕ) (items : List ℕ) (cs : List Column) → row_columns (map (hear_row g tables) items) x ≡ Some cs →
       cs ≡ due_columns g tables x
   heard_due x [] cs e = absurd (none-some cs e)
@@ -36,7 +38,7 @@ module _ (g : Graph) (tables : List NodeTable) where
     | inr there ↦ heard_due x items cs (sym (cond-false (y == x) _ _ there) ∙ e)
   ]
 
-  -- in valid tables no node hears an item at other columns than are due
+  -- in valid tables no node hears an item by other columns than are due: its hear rows are those that V10 asks for
   not_heard : IsValid g tables → (x place node : ℕ) → node < length tables → (o : Option (List Column)) →
       row_columns (table_at tables node).hears x ≡ o →
       IsSomeAnd o (λ cs. DifferFirstAt cs (due_columns g tables x) place) → ⊥
@@ -45,14 +47,14 @@ module _ (g : Graph) (tables : List NodeTable) where
       let hears = valid.hears node (table_at tables node) (slice_get-get_or tables node empty_table l) in
       differ.here (ap (λ ds. slice_get ds place) (heard_due x _ cs (sym (ap (λ rows. row_columns rows x) hears) ∙ e)))
 
-  -- so none is the first that does
+  -- so no place of a column is where an item is first heard otherwise than it is due
   first_hear : IsValid g tables → length tables ≡ length g.nodes → (x : ℕ) (o : Option ℕ) →
       IsSomeAnd o (IsFirstHear tables (length g.nodes) x (due_columns g tables x)) → ⊥
   first_hear valid count x None shown = shown
   first_hear valid count x (Some place) shown = not_heard valid x place shown.node (omega (arith, count, shown.within))
       (row_columns (table_at tables shown.node).hears x) refl shown.differ
 
-  -- tables with a fault aren't valid
+  -- node tables with a first violation aren't valid: in valid ones the rule that it breaks holds
   pub faulty_tables : (order : List ℕ) (f : Fault) → length tables ≡ length g.nodes → IsFirstFault g order tables f →
       IsValid g tables → ⊥
   faulty_tables order f count (inl broken) valid =

@@ -1,4 +1,4 @@
--- Tables have one verdict.
+-- A check has no choice: what it answers is determined by the graph, the order and the tables.
 use Rattle.std.specs.Prelude.{ℕ, ◌≡◌, List, length}
 use Rattle.cpg_base.specs.Graph.{Graph}
 use Rattle.cpg_order.specs.Urgency.{IsTopological}
@@ -11,14 +11,14 @@ use Rattle.cpg_check.specs.Verdict.{IsFirstFault, ShowsVerdict}
 use Rattle.cpg_violation.specs.declared.heads.HeadPart.{HeadPart}
 use Rattle.cpg_check.specs.declared.verdict.Verdict.{Verdict}
 
--- a check has one answer, for each graph, each order of all its processes, and tables with one for each of its nodes
+-- of two answers to a check that its contract allows, both are the same
 pub record HaveOneVerdict : Type 0 where
-  -- a head differs first in one part
+  -- a head differs from a graph's first in one part
   pub parts : (g : Graph) (h : Head) (p q : HeadPart) → IsFirstDifference g h p → IsFirstDifference g h q → p ≡ q
-  -- tables have one first violation
+  -- tables have one first violation, by each order of all processes
   pub faults : (g : Graph) (order : List ℕ) (tables : List NodeTable) (e f : Fault) → IsTopological g order →
       IsFirstFault g order tables e → IsFirstFault g order tables f → e ≡ f
-  -- tables have one verdict
+  -- so tables with one table for each node have one verdict
   pub verdicts : (g : Graph) (order : List ℕ) (t : Tables) (v w : Verdict) → IsTopological g order →
       length t.nodes ≡ length g.nodes →
       ShowsVerdict g order t v → ShowsVerdict g order t w → v ≡ w

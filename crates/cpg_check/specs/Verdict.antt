@@ -11,17 +11,18 @@ use Rattle.cpg_check_rows.specs.Hears.{IsFirstHearFault}
 use Rattle.cpg_check.specs.declared.verdict.Verdict.{Verdict}
 use Rattle.cpg_check.specs.declared.verdict.Verdict.TheVariants.{Yes, Other, No}
 
--- the first violation of V1 to V9; or, if these hold, of V10
+-- the fault is the first violation of the first of V1 to V9 that is broken; or, if all these hold, of V10
 abbrev pub IsFirstFault : Graph → List ℕ → List NodeTable → Fault → Type 0
 IsFirstFault g order tables f =
     IsFirstOf g order tables column_rules f ⊎ (AllHold g tables column_rules × IsFirstHearFault g tables f)
 
--- what a check finds: nothing exactly if the tables are valid, and else the first violation
+-- what a check of tables with the graph's head finds: `None` if they are valid, and otherwise the first violation
 abbrev pub ShowsFault : Graph → List ℕ → List NodeTable → Option Fault → Type 0
 ShowsFault g order tables None = IsValid g tables
 ShowsFault g order tables (Some f) = IsFirstFault g order tables f
 
--- the first difference of the heads; or, if there is none, whether the tables are valid
+-- what a check answers: the part in which the head differs first from the graph's; or, if the head is the graph's,
+-- whether the tables are valid, and if not, the first violation
 abbrev pub ShowsVerdict : Graph → List ℕ → Tables → Verdict → Type 0
 ShowsVerdict g order t Yes = IsHeadFor g t.head × IsValid g t.nodes
 ShowsVerdict g order t (Other part) = IsFirstDifference g t.head part

@@ -7,7 +7,8 @@ mod verdict;
 
 pub use verdict::{Verdict, check};
 
-/// Tables have one verdict: one first part of the head that differs, or one first violation, or neither.
+/// Proves that a check has no choice: one part of the head is the first that differs from the graph's, one violation is
+/// the first, and so tables have one verdict.
 pub fn tables_have_one_verdict()
     ensures { HaveOneVerdict }
 {}

@@ -1,4 +1,5 @@
--- Columns that a node hears: what one tells, and one more.
+-- Arrivals: which columns tell nothing, which tell a bound for sure, and what a list of them tells with one column
+-- more.
 use Rattle.std.proofs.Common.{ℕ, zero, suc, ◌+◌, ◌<◌, ◌≤◌, ◌≡◌, Bool, true, false, ◌&&◌, ◌||◌, List, [], ◌∷◌, ◌++◌}
 use Rattle.std.proofs.Common.{get_or, length, All, Option, arith, refl, sym, ap, ◌∙◌, subst, lt-ltb}
 use Rattle.std.specs.Prelude.{nat_le}
@@ -23,20 +24,21 @@ use Rattle.cpg_check_heard.specs.Arrivals.{IsArrival, do_tell}
 use Rattle.cpg_check_heard.specs.Bounds.{tells}
 use Rattle.cpg_check_heard.specs.TellingRows.{column_tells, is_telling, is_telling_at}
 
+-- a bound, a scenario, and the time by which something has to be told
 module _ (g : Graph) (time : ℕ) (b : LiteralBound) (s : Scenario) where
-  -- a frame that comes later tells nothing
+  -- a column whose frame comes later tells nothing
   pub late_frame : (delay : ℕ) (o : Option ℕ) (c : Column) → time < c.time + delay →
       is_telling g (Frame delay o) time b s c ≡ false
   late_frame delay o c l = and_right (matches c.cube s) (column_tells g (Frame delay o) time b s c)
       (ap (λ t. t && list_any (tells b) (c.cube ++ value_fact s o)) (lt-leb (c.time + delay) time l))
 
-  -- an end that comes later tells nothing
+  -- a column whose execution starts later tells nothing, as it ends later, too
   pub late_end : (p : ℕ) (c : Column) → time < c.time → is_telling g (End p) time b s c ≡ false
   late_end p c l = and_right (matches c.cube s) (column_tells g (End p) time b s c)
       (ap (λ t. t && list_any (tells b) (exactly p (number_of s p) ∷ value_fact s (condition_of g p)))
       (lt-leb (c.time + duration g p (number_of s p)) time (omega (arith, l))))
 
-  -- one that has come tells what its column's literals do
+  -- if a frame has come, its column matches, and one of the column's literals tells the bound, the column does
   pub whole_frame : (delay : ℕ) (o : Option ℕ) (c : Column) → nat_le (c.time + delay) time ≡ true →
       list_any (tells b) c.cube ≡ true →
       matches c.cube s ≡ true →
@@ -45,30 +47,31 @@ module _ (g : Graph) (time : ℕ) (b : LiteralBound) (s : Scenario) where
       (and_from (nat_le (c.time + delay) time) (list_any (tells b) (c.cube ++ value_fact s o)) come
       (list_any-append (tells b) c.cube (value_fact s o) ∙ ap (λ t. t || list_any (tells b) (value_fact s o)) told))
 
-  -- with one column more, the columns tell what they told before or what that one tells
+  -- with one column more, the columns tell the bound exactly if those before do or that one does
   pub tell_push : (xs : List Arrival) (a : Arrival) (at : Bool) → is_telling g a.means time b s a.column.now ≡ at →
       do_tell g time b (xs ++ a ∷ []) s ≡ (do_tell g time b xs s || at)
   tell_push xs a at e = list_any-append (λ (x : Arrival). is_telling g x.means time b s x.column.now) xs (a ∷ [])
       ∙ ap (λ t. do_tell g time b xs s || t) (or-false (is_telling g a.means time b s a.column.now) ∙ e)
 
+-- columns on variables of the graph
 module _ (g : Graph) where
-  -- with one column more of known variables, all columns are of known variables
+  -- with one lawful arrival more, all arrivals are lawful
   pub each_push : (xs : List Arrival) (a : Arrival) → All (IsArrival g) xs → IsArrival g a →
       All (IsArrival g) (xs ++ a ∷ [])
   each_push xs a h is = All-append (IsArrival g) xs (a ∷ []) h one
     where
-      -- the one column that is added is as all of them have to be
+      -- the list that is added has this one alone
       one : (j : ℕ) (d : Arrival) → j < 1 → IsArrival g (get_or (a ∷ []) j d)
       one zero d l = is
       one (suc j) d l = absurd (omega arith)
 
-  -- a column found at a place of a row of known variables has known variables
+  -- if all columns of a row are on variables of the graph, the one that is found at a place is
   pub known_column : (columns : List Column) (i : ℕ) (c : Column) → i < length columns →
       ((d : Column) → c ≡ get_or columns i d) → All (λ (d : Column). IsKnown g d.cube) columns →
       IsKnown g c.cube
   known_column columns i c l e all = subst (λ (d : Column). IsKnown g d.cube) (sym (e c)) (all i c l)
 
--- the column that is found at a place
+-- if `c` is the column at place `i`, the place tells the bound exactly if the column does
 pub telling_at : (g : Graph) (time : ℕ) (b : LiteralBound) (s : Scenario) (means : Means) (columns : List Column)
     (i : ℕ) (c : Column) →
     i < length columns →
@@ -78,7 +81,8 @@ telling_at g time b s means columns i c l e =
     ap (λ t. t && is_telling g means time b s (column_at columns i)) (lt-ltb i (length columns) l)
     ∙ ap (is_telling g means time b s) (sym (e _))
 
--- no column of a row that begins late passes a test that no late column passes
+-- if no column of a row is before `first`, and the test fails at each that isn't, it passes at none of the row; by
+-- induction on the row
 pub late_row : (test : Column → Bool) (columns : List Column) (first : ℕ) → All (λ c. first ≤ c.time) columns →
     ((c : Column) → first ≤ c.time → test c ≡ false) →
     list_any test columns ≡ false

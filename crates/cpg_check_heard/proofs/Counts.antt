@@ -1,4 +1,4 @@
--- Which fault counts an execution has ended with by a time.
+-- The loop of `counts_by`: with which fault counts an execution has ended by a time.
 use Rattle.std.proofs.Common.{ℕ, ◌+◌, ◌-◌, ◌<◌, ◌≤◌, ◌≡◌, arith, inl, inr, ◌∙◌, sym, le-leb, lt-ltb, le-ltb}
 use Rattle.std.specs.Prelude.{nat_le, nat_lt}
 use Rattle.std.proofs.lemmas.Bool.{cases_lt, lt-leb}
@@ -6,8 +6,10 @@ use Rattle.cpg_base.specs.Graph.{Graph}
 use Rattle.cpg_base.specs.Duration.{duration}
 use Rattle.cpg_violation.proofs.Durations.{duration_grows}
 
+-- an execution of process `p` that starts at `start`, no later than `time`
 module _ (g : Graph) (p start time : ℕ) (come : start ≤ time) where
-  -- if a count is the first with which the execution ends after the time, it ends by then with just the lower ones
+  -- if `count` is the first with which it lasts too long, it has ended by the time exactly with the lower counts: with
+  -- greater ones it lasts at least as long
   pub counts_here : (count : ℕ) → ((n : ℕ) → n < count → duration g p n ≤ time - start) →
       time - start < duration g p count
       → (n : ℕ) → n ≤ g.faults → nat_le (start + duration g p n) time ≡ nat_lt n count
@@ -17,7 +19,7 @@ module _ (g : Graph) (p start time : ℕ) (come : start ≤ time) where
         lt-leb (start + duration g p n) time (omega (arith, r)) ∙ sym (le-ltb n count l)
   ]
 
-  -- if it ends by the time with all counts that there may be, all are lower than one more than the faults
+  -- if it lasts too long with none of the counts that there may be, it has ended by the time with all of them
   pub counts_all : ((n : ℕ) → n < g.faults + 1 → duration g p n ≤ time - start) → (n : ℕ) → n ≤ g.faults →
       nat_le (start + duration g p n) time ≡ nat_lt n (g.faults + 1)
   counts_all before n l = le-leb (start + duration g p n) time (omega (arith, before n (omega arith)))

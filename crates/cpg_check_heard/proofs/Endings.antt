@@ -1,4 +1,4 @@
--- If a column matches, a literal is heard whose process has ended: the process is active, so it has a column that
+-- A literal that holds is heard if its process is active and has ended on the node: by V3 one of the process's columns
 -- matches, and its end tells the count and the value.
 use Rattle.std.proofs.Common.{ℕ, ◌+◌, ◌<◌, ◌≤◌, ◌≡◌, Bool, All, true, false, not, List, arith, refl, sym, ap, ◌∙◌}
 use Rattle.std.proofs.Common.{eq-eqb, le-leb}
@@ -35,10 +35,9 @@ use Rattle.cpg_check_heard.proofs.Sides.{count_within, end_side, side, variable_
 use Rattle.cpg_check_heard.proofs.Untolds.{own_told}
 
 -- tables that keep V1 to V3, a scenario, a node and a time
--- V1: what matches is active. V2: no two columns of a row match. V3: what is active has a column that matches.
 module _ (g : Graph) (tables : List NodeTable) (few : process_count g ≤ 128) (rules : AllHold g tables row_rules)
     (s : Scenario) (law : IsScenario g s) (node time : ℕ) where
-  -- the end tells a bound that the number is within
+  -- the end of the process tells each bound of its variables that the number is within
   own_bound : (b : LiteralBound) → IsVariable g (variable_of b) → HasEnded g tables node (variable_of b) time →
       active g s.values (process_of_variable g (variable_of b)) ≡ true
       → side b (number_of s (variable_of b)) ≡ true → own_tells g tables node time b s ≡ true
@@ -47,6 +46,7 @@ module _ (g : Graph) (tables : List NodeTable) (few : process_count g ≤ 128) (
       let l : p < process_count g = variable_within g (variable_of b) few known in
       let d =
       match_where g tables s law p (omega arith) rules (ap (item_active g s.values) (item_at-start g p l) ∙ on) in
+      -- column `d.0` matches, its execution has ended by the time, and the number is within the bound
       let told : is_telling g (End p) time b s d.0 ≡ true = and_from _ _ d.2 (and_from _ _
       (le-leb (d.0.time + duration g p (number_of s p)) time
       (ended.ends d.0 (number_of s p) d.1 (count_within g few s law p l)))
@@ -55,7 +55,7 @@ module _ (g : Graph) (tables : List NodeTable) (few : process_count g ≤ 128) (
       (ap (λ i. row_tells g (means_of_item g p i) time b (columns_of tables p) s) (item_at-start g p l)
       ∙ list_any_true (is_telling g (End p) time b s) (columns_of tables p) d.0 d.1 told)
 
-  -- a bound that holds is told by the end of its process, which has come by the time
+  -- so the node has been told such a bound
   told_bound : (b : LiteralBound) → IsVariable g (variable_of b) → HasEnded g tables node (variable_of b) time →
       active g s.values (process_of_variable g (variable_of b)) ≡ true
       → side b (number_of s (variable_of b)) ≡ true → is_told g tables node time b s ≡ true
@@ -65,7 +65,7 @@ module _ (g : Graph) (tables : List NodeTable) (few : process_count g ≤ 128) (
       refl (facts_told g tables time b s few (variable_within g (variable_of b) few known) node)
       (own_bound b known ended on within)
 
-  -- a literal that holds is heard if the process of its variable is active and has ended
+  -- so it has heard a literal that holds: both its bounds are told
   pub ended_heard : (l : Literal) → IsVariable g l.variable → HasEnded g tables node l.variable time →
       active g s.values (process_of_variable g l.variable) ≡ true
       → holds s l ≡ true → is_literal_unheard g tables node time s l ≡ false
@@ -74,7 +74,8 @@ module _ (g : Graph) (tables : List NodeTable) (few : process_count g ≤ 128) (
       ap not (heard_is g.faults (facts g tables node s time) l
       ∙ and_from _ _ (told_bound (low_of l) known ended on parts.0) (told_bound (high_of l) known ended on parts.1))
 
--- an execution that starts last, and is the longest, has ended by the time
+-- if `result` says that even an execution that starts last and lasts longest has ended by the time, and the process of
+-- the variable is on the node, the process has ended there
 pub ended_by : (g : Graph) (tables : List NodeTable) (node v time last longest : ℕ) (result : Bool) →
     result ≡ nat_le (last + longest) time →
     node_of g (process_of_variable g v) ≡ node

@@ -1,4 +1,4 @@
--- What a node is told altogether, row by row.
+-- A node is told a bound exactly if the rows of its own ends tell it, or those that it hears do.
 use Rattle.std.proofs.Common.{ℕ, ◌+◌, ◌-◌, ◌<◌, ◌≤◌, ◌≡◌, ◌≢◌, ◌==◌, Bool, true, false, cond, ◌&&◌, ◌||◌, List, [], ◌∷◌}
 use Rattle.std.proofs.Common.{◌++◌, filter, flat_map, Contains, Option, Some, None, arith, refl, sym, ap}
 use Rattle.std.proofs.Common.{◌∙◌, subst, inl, inr, lt-ltb, le-ltb, true≢false}
@@ -36,32 +36,33 @@ use Rattle.cpg_check_heard.proofs.Sides.{side, tells_exactly, value_side}
 
 -- ---- tests of lists that are made of others
 
--- some result of a flat map passes exactly if some result of some element does
+-- some result of a flat map passes exactly if some result of some element does; by induction on the elements
 any_flat_map : {X Y : Type 0} (test : Y → Bool) (f : X → List Y) (xs : List X) →
     list_any test (flat_map f xs) ≡ list_any (λ x. list_any test (f x)) xs
 any_flat_map test f [] = refl
 any_flat_map test f (x ∷ xs) =
     list_any-append test (f x) (flat_map f xs) ∙ ap (λ t. list_any test (f x) || t) (any_flat_map test f xs)
 
--- a test of a list that stands only if b holds
+-- some element of a list that is there only if `b` is true passes exactly if `b` is true and some element passes
 any_cond : {X : Type 0} (test : X → Bool) (b : Bool) (xs : List X) →
     list_any test (cond b xs []) ≡ (b && list_any test xs)
 any_cond test true xs = refl
 any_cond test false xs = refl
 
--- tests that agree everywhere pass for some element alike
+-- two tests that agree everywhere pass for some element of a list alike; by induction on `xs`
 any_ext : {X : Type 0} (p q : X → Bool) (xs : List X) → ((x : X) → p x ≡ q x) → list_any p xs ≡ list_any q xs
 any_ext p q [] h = refl
 any_ext p q (x ∷ xs) h = ap (λ t. t || list_any p xs) (h x) ∙ ap (λ t. q x || t) (any_ext p q xs h)
 
--- tests that agree on the elements of a list pass for some of them alike
+-- two tests that agree on the elements of a list pass for some of them alike; by induction on `xs`
 any_within : {X : Type 0} (p q : X → Bool) (xs : List X) → ((x : X) → Contains xs x → p x ≡ q x) →
     list_any p xs ≡ list_any q xs
 any_within p q [] h = refl
 any_within p q (x ∷ xs) h = ap (λ t. t || list_any p xs) (h x (Contains-first x xs))
     ∙ ap (λ t. q x || t) (any_within p q xs (λ y c. h y (Contains-rest x xs y c)))
 
--- where one number alone may pass
+-- if `f` passes for no number below `n` but perhaps for `one`, it passes for some of those that `t` keeps exactly if
+-- `t` keeps `one` and `f` passes for it
 any_one : (f t : ℕ → Bool) (n one : ℕ) → one < n → ((q : ℕ) → q < n → q ≢ one → f q ≡ false) →
     list_any f (filter t (numbers_below n)) ≡ (t one && f one)
 any_one f t n one l off = same_truth (list_any f (filter t (numbers_below n))) (t one && f one)
@@ -83,10 +84,12 @@ frame_carried s (Start p) = refl
 frame_carried s (Message e) = refl
 frame_carried s (Broadcast c) = refl
 
+-- a bound, a scenario, and the time by which it has to be told
 module _ (g : Graph) (tables : List NodeTable) (time : ℕ) (b : LiteralBound) (s : Scenario) where
   -- ---- a process
 
-  -- column by column: the end is there by the time, and its count or its value tells the bound
+  -- the facts of a process's ends tell the bound exactly if its row does: the facts are made of the columns that match,
+  -- of each only if its end has come
   end_row : (p : ℕ) →
       list_any (tells b) (facts_of_end g tables s time p) ≡ row_tells g (End p) time b (columns_of tables p) s
   end_row p = any_flat_map (tells b) (λ (c : Column). cond (nat_le (c.time + duration g p (number_of s p)) time)
@@ -101,19 +104,19 @@ module _ (g : Graph) (tables : List NodeTable) (time : ℕ) (b : LiteralBound) (
       ap (λ t. matches c.cube s && t) (any_cond (tells b) (nat_le (c.time + duration g p (number_of s p)) time)
       (exactly p (number_of s p) ∷ value_fact s (condition_of g p))))
 
-  -- what the end of a process tells, by the row of its start
+  -- so they tell it exactly if the row of the start does
   start_row : (p : ℕ) → p < process_count g →
       list_any (tells b) (facts_of_end g tables s time p) ≡ item_tells g tables time b s p
   start_row p l =
       end_row p ∙ ap (λ i. row_tells g (means_of_item g p i) time b (columns_of tables p) s) (sym (item_at-start g p l))
 
-  -- another process tells nothing of the variable
+  -- if the bound isn't of the value of the condition, it isn't of a value that the condition has
   other_value : (o : Option ℕ) → ((c : ℕ) → o ≡ Some c → value_variable c ≢ variable_of b) →
       is_value o (variable_of b) ≡ false
   other_value None h = refl
   other_value (Some c) h = ne_eqb (value_variable c) (variable_of b) (h c refl)
 
-  -- the end speaks of its own count and value alone, and the bound is of another process
+  -- if the bound is of another process, the count and the value of process `q` don't tell it
   other_end : process_count g ≤ 128 → (q : ℕ) → q < process_count g → q ≢ process_of_variable g (variable_of b) →
       list_any (tells b) (exactly q (number_of s q) ∷ value_fact s (condition_of g q)) ≡ false
   other_end few q l n =
@@ -127,7 +130,7 @@ module _ (g : Graph) (tables : List NodeTable) (time : ℕ) (b : LiteralBound) (
       n (sym (cond-false _ _ _ (le-ltb v 128 (omega (arith, e))) ∙ ap (process_of g) back
       ∙ process_of_condition_of g q c has))))
 
-  -- so the end of any other process doesn't tell the bound
+  -- so the ends of any other process don't tell it
   other_row : process_count g ≤ 128 → (q : ℕ) → q < process_count g → q ≢ process_of_variable g (variable_of b) →
       list_any (tells b) (facts_of_end g tables s time q) ≡ false
   other_row few q l n = end_row q ∙ list_any_false (is_telling g (End q) time b s) (columns_of tables q)
@@ -142,13 +145,14 @@ module _ (g : Graph) (tables : List NodeTable) (time : ℕ) (b : LiteralBound) (
       means_of g x ≡ Frame (slot_length g (home g x)) (carried (item_at g x))
   framed x node h = go (item_at g x) h
     where
-      -- as a message or a broadcast
+      -- by cases of the item: no node hears a start
       go : (i : Item) → is_heard_by g node i ≡ true → means_of_item g x i ≡ Frame (slot_length g (home g x)) (carried i)
       go (Start p) e = absurd (true≢false (sym e))
       go (Message e) h = refl
       go (Broadcast c) h = refl
 
-  -- column by column: the frame is there by the time, and a literal or its value tells the bound
+  -- the facts of an item's frames tell the bound exactly if its row does: they are made of the columns that match, of
+  -- each only if its frame has come
   frame_row : (x node : ℕ) → is_heard_by g node (item_at g x) ≡ true →
       list_any (tells b) (facts_of_frame g tables s time x) ≡ item_tells g tables time b s x
   frame_row x node h = any_flat_map (tells b) (λ (c : Column). cond (nat_le (c.time + slot_length g (home g x)) time)
@@ -167,7 +171,8 @@ module _ (g : Graph) (tables : List NodeTable) (time : ℕ) (b : LiteralBound) (
 
   -- ---- altogether
 
-  -- a node is told a bound exactly if its own ends tell it or the rows that it hears do
+  -- a node is told a bound exactly if its own ends tell it or the rows that it hears do: of its own processes only that
+  -- of the bound's variable may
   pub facts_told : process_count g ≤ 128 → process_of_variable g (variable_of b) < process_count g → (node : ℕ)
       → list_any (tells b) (facts g tables node s time)
       ≡ (own_tells g tables node time b s || are_told_by g tables time b (heard_by g node) s)
@@ -192,6 +197,6 @@ module _ (g : Graph) (tables : List NodeTable) (time : ℕ) (b : LiteralBound) (
   pub heard_can : (x node : ℕ) → is_heard_by g node (item_at g x) ≡ true → CanTell g b (means_of g x)
   heard_can x node h = subst (CanTell g b) (sym (framed x node h)) tt
 
-  -- the row of a process can tell about the variables of the process
+  -- the row of a process can tell a bound of the process's own variables
   pub own_can : (p : ℕ) → p < process_count g → process_of_variable g (variable_of b) ≡ p → CanTell g b (means_of g p)
   own_can p l e = subst (λ i. CanTell g b (means_of_item g p i)) (sym (item_at-start g p l)) (l, e)

@@ -1,4 +1,4 @@
--- Bounds that the frames of a row tell are told.
+-- The loops of `unframed` and `left_open`: bounds that the frames of one row tell are told, and may be left out.
 use Rattle.std.proofs.Common.{ℕ, ◌+◌, ◌<◌, ◌≤◌, ◌≡◌, Bool, true, false, not, ◌||◌, List, [], ◌∷◌, ◌++◌, get_or, length}
 use Rattle.std.proofs.Common.{take, Contains, sym, ap, ◌∙◌}
 use Rattle.std.specs.List.{list_any}
@@ -23,7 +23,7 @@ pub heard_below : (g : Graph) (node x : ℕ) → Contains (heard_by g node) x �
 heard_below g node x among = numbers-Contains (item_count g) x
     (Contains-filter_parts (λ y. is_heard_by g node (item_at g y)) (numbers_below (item_count g)) x among).0
 
--- a bound that one row which a node hears tells is told
+-- if the row of one item that a node hears tells a bound, the node is told the bound
 pub frame_told : (g : Graph) (tables : List NodeTable) (time : ℕ) (b : LiteralBound) (s : Scenario) →
     process_count g ≤ 128 →
     process_of_variable g (variable_of b) < process_count g
@@ -38,17 +38,18 @@ frame_told g tables time b s few within node x among told =
     (list_any (tells b) (facts g tables node s time))
     (facts_told g tables time b s few within node) all))
 
--- the elements kept of the first ones, among which one passes exactly if one of the first ones does
+-- a test passes at one of `ys` exactly if it does at one of the first `i` elements of `xs` (`d` is only the default of
+-- `get_or`)
 module _ {X : Type 0} (test : X → Bool) (xs : List X) (i : ℕ) (d : X) (l : i < length xs) (ys : List X)
     (is : list_any test ys ≡ list_any test (take i xs)) where
-  -- with the next element kept, one of the kept ones passes exactly if one of one element more does
+  -- with the next element added to `ys`, this is so for one element more
   pub kept_more : (more : List X) → more ≡ ys ++ get_or xs i d ∷ [] →
       list_any test more ≡ list_any test (take (i + 1) xs)
   kept_more more e = ap (list_any test) e ∙ list_any-append test ys (get_or xs i d ∷ [])
       ∙ ap (λ t. list_any test ys || t) (or-false (test (get_or xs i d))) ∙ ap (λ t. t || test (get_or xs i d)) is ∙
       sym (list_any_more test xs i d l)
 
-  -- one that is left out, since it fails
+  -- and also without it, if it fails the test
   pub left_more : test (get_or xs i d) ≡ false → list_any test ys ≡ list_any test (take (i + 1) xs)
   left_more off = is ∙ sym (or-false (list_any test (take i xs))) ∙ ap (λ t. list_any test (take i xs) || t) (sym off)
       ∙ sym (list_any_more test xs i d l)

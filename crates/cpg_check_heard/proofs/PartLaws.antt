@@ -33,13 +33,14 @@ use Rattle.cpg_check_heard.proofs.Sides.{side, range_holds, end_side, value_side
 
 -- ---- parts
 
--- a part for one test is a part for another that is the same in the graph's scenarios
+-- the part for a test is the part for another that agrees with it in the graph's scenarios
 pub part_same : (g : Graph) (p q : Scenario → Bool) (o : Option (List Literal)) →
     ((s : Scenario) → IsScenario g s → p s ≡ q s) → IsPart g p o → IsPart g q o
 part_same g p q None h f = λ s i. sym (h s i) ∙ f s i
 part_same g p q (Some cube) h f = λ s i. f s i ∙ h s i
 
--- the cube with a literal is the part in which the cube matches and the literal holds
+-- a cube narrowed by a literal is the part in which the cube matches and the literal holds; without scenarios there is
+-- none
 pub part_with : (g : Graph) (l : Literal) (base : List Literal) (o : Option (List Literal))
     → IfSome o (λ cube. (s : Scenario) → matches cube s ≡ (holds s l && matches base s)) →
     IfNone o ((s : Scenario) → (holds s l && matches base s) ≡ false) →
@@ -47,40 +48,39 @@ pub part_with : (g : Graph) (l : Literal) (base : List Literal) (o : Option (Lis
 part_with g l base None some none = λ s i. none s
 part_with g l base (Some cube) some none = λ s i. some s
 
--- a cube of known variables with a literal on a known one has known variables
+-- a cube on variables of the graph stays that when it is narrowed by a literal on one
 pub known_with : (g : Graph) (l : Literal) (base : List Literal) (o : Option (List Literal)) → o ≡ with_literal l base →
     IsVariable g l.variable → IsKnown g base →
     IfSome o (IsKnown g)
 known_with g l base None e v k = tt
 known_with g l base (Some cube) e v k = subst (IsKnown g) (with-is l base cube (sym e)) (known-narrowed g l base v k)
 
--- the range of a bound is on the bound's variable
+-- the range of a bound is a literal on the bound's variable
 pub range_variable : (k : ℕ) (b : LiteralBound) → (range_of k b).variable ≡ variable_of b
 range_variable k (Low v least) = refl
 range_variable k (High v most) = refl
 
 -- ---- of ends
 
--- three tests joined by `and` in another order
+-- three tests that all have to pass may be asked in another order
 turned : (h r m : Bool) → (r && (h && m)) ≡ (m && (h && r))
 turned true true m = with_true m true refl
 turned true false m = sym (and_right m false refl)
 turned false true m = sym (and_right m false refl)
 turned false false m = sym (and_right m false refl)
 
--- if two of three tests never hold together, the three don't
+-- if two of three tests don't both pass, not all three do
 off_both : (m h r : Bool) → (h && m) ≡ false → (m && (h && r)) ≡ false
 off_both true true r e = absurd (true≢false e)
 off_both true false r e = refl
 off_both false h r e = refl
 
--- a column of a process that ends by the time with just the counts below a number
--- `can`, `known`: the end of p may tell the bound b, which is of a variable of the graph. `come`: with a count of
--- faults the execution has ended by the time exactly if the count is below `counts`.
+-- column `c` of process `p`, whose execution has ended by the time exactly with fault counts below `counts` (`come`);
+-- and a bound of one of the process's variables
 module _ (g : Graph) (few : process_count g ≤ 128) (p : ℕ) (c : Column) (time : ℕ) (b : LiteralBound)
     (can : CanTell g b (End p)) (known : IsVariable g (variable_of b))
     (counts : ℕ) (come : (n : ℕ) → n ≤ g.faults → nat_le (c.time + duration g p n) time ≡ nat_lt n counts) where
-  -- an end tells if the count is below a number and the variable is within the bound
+  -- the end of the column tells the bound exactly if the count is below `counts` and the variable is within the bound
   end_is : (s : Scenario) → IsScenario g s →
       column_tells g (End p) time b s c ≡ (nat_lt (number_of s p) counts && holds s (range_of g.faults b))
   end_is s i = ap (λ t. t && list_any (tells b) (exactly p (number_of s p) ∷ value_fact s (condition_of g p)))
@@ -88,19 +88,20 @@ module _ (g : Graph) (few : process_count g ≤ 128) (p : ℕ) (c : Column) (tim
       ∙ ap (λ t. nat_lt (number_of s p) counts && t)
       (end_side g few s i b p known can.0 can.1 ∙ sym (range_holds g few s i b known))
 
-  -- if the execution has ended by the time with no count, the column's end tells nothing
+  -- if there are no such counts, it never tells the bound
   pub end_none : counts ≡ 0 → (s : Scenario) → IsScenario g s → is_telling g (End p) time b s c ≡ false
   end_none e s i = and_right (matches c.cube s) (column_tells g (End p) time b s c)
       (end_is s i ∙ ap (λ n. nat_lt (number_of s p) n && holds s (range_of g.faults b)) e
       ∙ ap (λ t. t && holds s (range_of g.faults b)) (le-ltb (number_of s p) 0 (omega arith)))
 
+  -- there are such counts
   module _ (some : 0 < counts) where
-    -- the count is below `counts` exactly if it is in the range from 0 to `counts` less 1
+    -- the count is one of them exactly if it is in the range from 0 to `counts` less 1
     come_is : (s : Scenario) →
         holds s (record { variable = p; low = 0; high = counts - 1 }) ≡ nat_lt (number_of s p) counts
     come_is s = come_holds (number_of s p) counts some
 
-    -- if the column never matches with such a count, its end tells nothing
+    -- if the column matches with none of them, its end never tells the bound
     pub end_apart : ((s : Scenario) →
         (holds s (record { variable = p; low = 0; high = counts - 1 }) && matches c.cube s) ≡ false) → (s : Scenario) →
         IsScenario g s →
@@ -109,7 +110,8 @@ module _ (g : Graph) (few : process_count g ≤ 128) (p : ℕ) (c : Column) (tim
         ∙ off_both (matches c.cube s) (nat_lt (number_of s p) counts) (holds s (range_of g.faults b))
         (ap (λ t. t && matches c.cube s) (sym (come_is s)) ∙ off s)
 
-    -- else the part with such a count and within the bound is the one in which the column's end tells the bound
+    -- otherwise the part with these counts, narrowed by the bound's range, is that in which the column's end tells the
+    -- bound
     pub end_told : (part : List Literal) (o : Option (List Literal)) →
         ((s : Scenario) →
         matches part s ≡ (holds s (record { variable = p; low = 0; high = counts - 1 }) && matches c.cube s))
@@ -123,11 +125,11 @@ module _ (g : Graph) (few : process_count g ≤ 128) (p : ℕ) (c : Column) (tim
 
 -- ---- of frames
 
--- a column whose frame takes a delay, and a bound that it may tell
--- `o`: the condition whose value the frame carries, if it is a broadcast. `known`: b is of a variable of the graph.
+-- column `c`, whose frame takes `delay` and carries the value of condition `o`, if there is one; and a bound
 module _ (g : Graph) (few : process_count g ≤ 128) (delay : ℕ) (o : Option ℕ) (c : Column) (time : ℕ) (b : LiteralBound)
     (known : IsVariable g (variable_of b)) where
-  -- a frame that has come by the time tells the bound if a literal of its column does, or the value that it carries
+  -- a frame that has come by the time tells the bound exactly if a literal of its column does, or the value that it
+  -- carries is that of the bound's variable and within the bound
   frame_is : (s : Scenario) → nat_le (c.time + delay) time ≡ true → column_tells g (Frame delay o) time b s c ≡
       (list_any (tells b) c.cube || (is_value o (variable_of b) && side b (number_of s (variable_of b))))
   frame_is s e = ap (λ t. t && list_any (tells b) (c.cube ++ value_fact s o)) e
@@ -139,6 +141,7 @@ module _ (g : Graph) (few : process_count g ≤ 128) (delay : ℕ) (o : Option �
   frame_late e s i = and_right (matches c.cube s) (column_tells g (Frame delay o) time b s c)
       (ap (λ t. t && list_any (tells b) (c.cube ++ value_fact s o)) e)
 
+  -- a frame that has come by the time
   module _ (come : nat_le (c.time + delay) time ≡ true) where
     -- if a literal of the column tells the bound, the whole cube is the part in which the frame does
     pub frame_whole : list_any (tells b) c.cube ≡ true → (cube : List Literal) → cube ≡ c.cube →
@@ -155,7 +158,8 @@ module _ (g : Graph) (few : process_count g ≤ 128) (delay : ℕ) (o : Option �
         (frame_is s come ∙ ap (λ t. t || (is_value o (variable_of b) && side b (number_of s (variable_of b)))) off
         ∙ ap (λ t. t && side b (number_of s (variable_of b))) none)
 
-    -- if it carries the value, the part in which the value is within the bound is the one in which it tells it
+    -- if no literal tells it and the frame carries the value, the column's cube narrowed by the bound's range is the
+    -- part in which it tells the bound
     pub frame_value : list_any (tells b) c.cube ≡ false → is_value o (variable_of b) ≡ true →
         (r : Option (List Literal)) →
         IsPart g (λ s. holds s (range_of g.faults b) && matches c.cube s) r
@@ -170,8 +174,9 @@ module _ (g : Graph) (few : process_count g ≤ 128) (delay : ℕ) (o : Option �
 
 -- ---- what is told by a list of parts
 
+-- a test, of which a part is added to a list of cubes
 module _ (g : Graph) (test : Scenario → Bool) where
-  -- with a part added, the cubes match where they matched before or the part's test holds
+  -- one of the cubes matches exactly where one did before, or the test passes
   pub told_add : (told : List (List Literal)) (o : Option (List Literal)) → IsPart g test o → (s : Scenario) →
       IsScenario g s
       → list_any (λ b. matches b s) (told ++ option_to_list o) ≡ (list_any (λ b. matches b s) told || test s)
@@ -180,19 +185,20 @@ module _ (g : Graph) (test : Scenario → Bool) where
   told_add told (Some cube) f s i = list_any-append (λ b. matches b s) told (cube ∷ [])
       ∙ ap (λ t. list_any (λ b. matches b s) told || t) (or-false (matches cube s) ∙ f s i)
 
--- with a part of known variables added, the cubes have known variables
+-- if the cubes and the part that is added are on variables of the graph, so are all
 pub known_add : (g : Graph) (told : List (List Literal)) (o : Option (List Literal)) → All (IsKnown g) told →
     IfSome o (IsKnown g) →
     All (IsKnown g) (told ++ option_to_list o)
 known_add g told None h k = All-append (IsKnown g) told [] h (λ j d l. absurd (omega arith))
 known_add g told (Some cube) h k = All-append (IsKnown g) told (cube ∷ []) h (λ j d l. one j d l)
   where
-    -- the one cube that is added has known variables
+    -- the list that is added has this cube alone
     one : (j : ℕ) (d : List Literal) → j < 1 → IsKnown g (get_or (cube ∷ []) j d)
     one zero d l = k
     one (suc j) d l = absurd (omega arith)
 
--- one place more of a row, one item or one column
+-- the step of a loop over `places`, each of which may pass a test: `r` says whether `a` holds or one of the first `i`
+-- has passed, `n` whether `r` does or the next one has; so `n` says it of one place more
 pub row_more : {X : Type 0} (test : X → Bool) (places : List X) (i : ℕ) (d : X) → i < length places → (a r n : Bool) →
     r ≡ (a || list_any test (take i places)) →
     n ≡ (r || test (get_or places i d)) →
@@ -201,7 +207,8 @@ row_more test places i d h a r n e f = f ∙ ap (λ t. t || test (get_or places 
     ∙ or_assoc a (list_any test (take i places)) (test (get_or places i d)) ∙
     ap (λ t. a || t) (sym (list_any_more test places i d h))
 
--- a row's places among which each column is that matches together with a cube tell what the row does
+-- if the place of each column that matches in the scenario is among `places`, these tell a bound exactly if the row
+-- does
 pub row_all : (g : Graph) (means : Means) (time : ℕ) (b : LiteralBound) (columns : List Column)
     (places : List ℕ) (s : Scenario)
     → ((i : ℕ) → i < length columns → matches (column_at columns i).cube s ≡ true → Contains places i)

@@ -1,4 +1,4 @@
--- When ends and frames tell a bound: if the variable's number is within it.
+-- An end or a frame that tells the number of a bound's variable tells the bound exactly if the number is within it.
 use Rattle.std.proofs.Common.{ℕ, ◌-◌, ◌<◌, ◌≤◌, ◌≡◌, ◌==◌, Bool, false, ◌&&◌, ◌||◌, ◌⊎◌, ◌∷◌, Option, Some, None, arith}
 use Rattle.std.proofs.Common.{refl, sym, ap, ◌∙◌, inl, inr, subst, eqb-true, eq-eqb, le-leb, lt-ltb, le-ltb}
 use Rattle.std.specs.Prelude.{nat_le, nat_lt}
@@ -20,22 +20,23 @@ use Rattle.cpg_check_heard.specs.declared.bound.LiteralBound.TheVariants.{Low, H
 use Rattle.cpg_check_heard.specs.Bounds.{tells, range_of, variable_of}
 use Rattle.cpg_check_heard.specs.TellingRows.{is_value}
 
--- whether a number is within a bound
+-- whether number `n` is within a bound
 abbrev pub side : LiteralBound → ℕ → Bool
 side (Low v least) n = nat_le least n
 side (High v most) n = nat_le n most
 
--- an exact number tells a bound exactly if it is of the bound's variable and within the bound
+-- the exact number of variable `w` tells a bound exactly if `w` is the bound's variable and the number is within the
+-- bound
 pub tells_exactly : (b : LiteralBound) (w n : ℕ) → tells b (exactly w n) ≡ ((w == variable_of b) && side b n)
 tells_exactly (Low v least) w n = refl
 tells_exactly (High v most) w n = refl
 
--- a count isn't the value of any condition
+-- the variable of a fault count isn't that of a condition's value
 is_value_off : (o : Option ℕ) (v : ℕ) → v < 128 → is_value o v ≡ false
 is_value_off None v h = refl
 is_value_off (Some c) v h = ne_eqb (value_variable c) v (λ e. omega (arith, e, h))
 
--- a count is in the range below a number exactly if it is less
+-- `n` is in the range from 0 to `c - 1` exactly if it is less than `c`
 pub come_holds : (n c : ℕ) → 0 < c → (nat_le 0 n && nat_le n (c - 1)) ≡ nat_lt n c
 come_holds n c h = elim (cases_lt n c) [
   | inl l ↦ ap (λ b. b && nat_le n (c - 1)) (le-leb 0 n (omega arith)) ∙ le-leb n (c - 1) (omega arith)
@@ -44,7 +45,8 @@ come_holds n c h = elim (cases_lt n c) [
       ∙ sym (le-ltb n c l)
 ]
 
--- the value of a condition tells what its number does
+-- the value of a condition, if there is one, tells a bound exactly if it is that of the bound's variable and the
+-- variable's number is within the bound
 pub value_side : (s : Scenario) (b : LiteralBound) (o : Option ℕ) →
     list_any (tells b) (value_fact s o) ≡ (is_value o (variable_of b) && side b (number_of s (variable_of b)))
 value_side s b None = refl
@@ -54,7 +56,7 @@ value_side s b (Some c) = or-false (tells b (exactly (value_variable c) (number_
     (side b (number_of s (variable_of b)))
     (λ e. ap (λ v. side b (number_of s v)) (eqb-true (value_variable c) (variable_of b) e))
 
--- the cases of a variable
+-- a variable of the graph is that of a fault count or that of a value
 variable_parts : (g : Graph) (v : ℕ) → process_count g ≤ 128 → IsVariable g v →
     (v < process_count g) ⊎ ((128 ≤ v) × (v - 128 < condition_count g))
 variable_parts g v few (inl l) = inl l
@@ -71,6 +73,7 @@ variable_within g v few known =
           (process_of_below g (v - 128) m.1)
     ]
 
+-- a scenario of a graph
 module _ (g : Graph) (few : process_count g ≤ 128) (s : Scenario) (i : IsScenario g s) where
   -- the range of a bound holds exactly if the variable's number is within the bound
   pub range_holds : (b : LiteralBound) → IsVariable g (variable_of b) →
@@ -86,7 +89,8 @@ module _ (g : Graph) (few : process_count g ≤ 128) (s : Scenario) (i : IsScena
       let t = top_of_count g.faults p (omega arith) in
       omega (arith, a, t)
 
-  -- the end of a process tells its count and its value
+  -- the count and the value of a process tell a bound of one of its variables exactly if the variable's number is
+  -- within the bound; by cases of whether the bound is of the count or of the value
   pub end_side : (b : LiteralBound) (p : ℕ) → IsVariable g (variable_of b) → p < process_count g →
       process_of_variable g (variable_of b) ≡ p
       → list_any (tells b) (exactly p (number_of s p) ∷ value_fact s (condition_of g p))
@@ -98,7 +102,7 @@ module _ (g : Graph) (few : process_count g ≤ 128) (s : Scenario) (i : IsScena
       (λ _. (((p == variable_of b) && side b (number_of s p))
       || (is_value (condition_of g p) (variable_of b) && side b (number_of s (variable_of b))))
       ≡ side b (number_of s (variable_of b))) [
-        -- the bound is of p's count, so no value has to do with it
+        -- the bound is of the count, so the value doesn't tell it
         | inl m ↦
             let same : p ≡ variable_of b = sym is ∙ cond-true _ _ _ (lt-ltb (variable_of b) 128 (omega arith)) in
             ap (λ t. (t && side b (number_of s p)) || (is_value (condition_of g p) (variable_of b)
@@ -106,7 +110,7 @@ module _ (g : Graph) (few : process_count g ≤ 128) (s : Scenario) (i : IsScena
             ∙ ap (λ t. side b (number_of s p) || (t && side b (number_of s (variable_of b))))
             (is_value_off (condition_of g p) (variable_of b) (omega arith))
             ∙ or-false (side b (number_of s p)) ∙ ap (λ v. side b (number_of s v)) same
-        -- the bound is of the value of p's condition
+        -- the bound is of the value, so the count doesn't tell it
         | inr m ↦
             let c : ℕ = variable_of b - 128 in
             let at : process_of g c ≡ p = sym (cond-false _ _ _ (le-ltb (variable_of b) 128 m.0)) ∙ is in

@@ -1,4 +1,4 @@
--- The rows of all items, one after another.
+-- The list of telling rows, which is made item by item.
 use Rattle.std.proofs.Common.{ℕ, zero, suc, ◌+◌, ◌<◌, ◌≡◌, List, [], ◌∷◌, ◌++◌, get_or, length, Some, arith, refl, sym}
 use Rattle.std.proofs.Common.{ap, ◌∙◌, subst, inl, inr, length-append}
 use Rattle.std.specs.Prelude.{slice_get}
@@ -9,23 +9,25 @@ use Rattle.cpg_table.specs.Table.{NodeTable}
 use Rattle.cpg_check_heard.specs.declared.telling_rows.TellingRow.{TellingRow}
 use Rattle.cpg_check_heard.specs.TellingRows.{IsTellingRow, AreTellingRows}
 
--- an element of the first list stands at the same place in both
+-- a place of the first list has the same element in the joined list
 get_before : {X : Type 0} (xs ys : List X) (i : ℕ) → i < length xs → slice_get (xs ++ ys) i ≡ slice_get xs i
 get_before [] ys i h = absurd (omega arith)
 get_before (x ∷ xs) ys zero h = refl
 get_before (x ∷ xs) ys (suc i) h = get_before xs ys i (omega arith)
 
--- the element that is added stands behind the others
+-- the element that is added comes after the others; by induction on `xs`
 get_last : {X : Type 0} (xs : List X) (y : X) → slice_get (xs ++ y ∷ []) (length xs) ≡ Some y
 get_last [] y = refl
 get_last (x ∷ xs) y = get_last xs y
 
+-- the tables that the rows are of
 module _ (g : Graph) (tables : List NodeTable) where
-  -- without items there are no rows
+  -- before the first item the list is empty
   pub rows_none : AreTellingRows g tables 0 []
   rows_none = record { count = refl; each = λ x t e. absurd (omega (arith, slice_get_within [] x t e)) }
 
-  -- a place below the count has an earlier row, and the last place the new one
+  -- with the row of the next item at its end, the list has the rows of one item more: each place below the end has an
+  -- earlier row, and the end the new one
   rows_push : (items : ℕ) (ts : List TellingRow) (t : TellingRow) → AreTellingRows g tables items ts →
       IsTellingRow g tables items t →
       AreTellingRows g tables (items + 1) (ts ++ t ∷ [])
@@ -43,14 +45,14 @@ module _ (g : Graph) (tables : List NodeTable) where
     ];
   }
 
-  -- the row of the next item, put last, makes the rows of one item more
+  -- the same of a list that is said to be so
   pub rows_more : (items : ℕ) (ts more : List TellingRow) (t : TellingRow) → more ≡ ts ++ t ∷ [] →
       AreTellingRows g tables items ts → IsTellingRow g tables items t →
       AreTellingRows g tables (items + 1) more
   rows_more items ts more t e are is =
       subst (AreTellingRows g tables (items + 1)) (sym e) (rows_push items ts t are is)
 
-  -- the row found at an item's place is the item's
+  -- the row that is looked up at an item's number is the item's
   pub row_at : (items : ℕ) (ts : List TellingRow) (x : ℕ) (t : TellingRow) → AreTellingRows g tables items ts →
       x < items →
       t ≡ get_or ts x t →

@@ -1,4 +1,4 @@
--- The least scenario in which a bound isn't told, by what is left of a cube.
+-- The least scenario in which a bound isn't told: it is what the cubes where it is told leave of a column's cube.
 use Rattle.std.proofs.Common.{ℕ, ◌≡◌, Bool, true, false, not, ◌&&◌, ◌||◌, List, [], Option, Some, None, sym, ap, ◌∙◌}
 use Rattle.std.specs.Bool.{OnFalse}
 use Rattle.std.specs.Prelude.{IfSome, IfNone, IsTrue, is_some}
@@ -13,8 +13,9 @@ use Rattle.cpg_cube.specs.Cube.{matches}
 use Rattle.cpg_cube.specs.declared.literal.Literal.{Literal}
 use Rattle.cpg_violation.proofs.Tests.{off_where, same_where}
 
+-- the cube of a column, and cubes where a bound is told
 module _ (g : Graph) (order : List ℕ) (cube : List Literal) (told : List (List Literal)) where
-  -- the answer of the search is the first scenario that is left of the cube
+  -- the answer of the search is the least scenario that they leave of the cube
   pub first_left : (o : Option Scenario) →
       IfNone o ((s : Scenario) → IsScenario g s → matches cube s ≡ true → list_any (λ b. matches b s) told ≡ true)
       → IfSome o (IsLeast g order (λ s. IsTrue (matches cube s && not (list_any (λ b. matches b s) told)))) →
@@ -23,8 +24,10 @@ module _ (g : Graph) (order : List ℕ) (cube : List Literal) (told : List (List
       λ s i. off_where (matches cube s) (not (list_any (λ b. matches b s) told)) (λ m. ap not (none s i m))
   first_left (Some s) none some = some
 
+  -- whether the bound is told by all that the node hears, in a scenario
   module _ (facts : Scenario → Bool) where
-    -- the first scenario that is left is the first in which the bound isn't told
+    -- if the cubes match exactly where it is told, and the bound leaves out some number (`free` is false), the least
+    -- scenario that they leave is the least in which it isn't told
     pub untold_first : (free : Bool) (o : Option Scenario) → free ≡ false →
         ((s : Scenario) → IsScenario g s → matches cube s ≡ true → list_any (λ b. matches b s) told ≡ facts s)
         → IsFirst g order (is_left told cube) o → IsFirst g order (λ s. matches cube s && not (free || facts s)) o
@@ -32,19 +35,20 @@ module _ (g : Graph) (order : List ℕ) (cube : List Literal) (told : List (List
         (λ s i. same_where (matches cube s) (not (list_any (λ b. matches b s) told)) (not (free || facts s))
         (λ m. ap not (is s i m ∙ sym (ap (λ t. t || facts s) e)))) f
 
--- what a node's own ends tell, and then all that it hears, from nothing
+-- a list of cubes that is empty at first, in a scenario
 module _ (start : List (List Literal)) (s : Scenario) where
-  -- the parts of the own ends, and then those of the rows that are heard, tell all that the node is told
+  -- if first the cubes of what the own ends tell are added and then those of what is heard, one of them matches exactly
+  -- if the node is told
   pub told_all : (first last own heard all : Bool) → start ≡ [] → first ≡ (list_any (λ b. matches b s) start || own) →
       last ≡ (first || heard) → all ≡ (own || heard) → last ≡ all
   told_all first last own heard all none e f is =
       f ∙ ap (λ x. x || heard) (e ∙ ap (λ xs. list_any (λ b. matches b s) xs || own) none) ∙ sym is
 
--- a bound that the heard rows tell is told
+-- what the heard rows tell is told
 pub told_heard : (own heard all : Bool) → all ≡ (own || heard) → heard ≡ true → all ≡ true
 told_heard own heard all is t = is ∙ or_right own heard t
 
--- if a bound is told all over a cube, it isn't open there
+-- if a bound is told wherever the cube matches, there is no scenario of the cube in which it isn't
 pub untold_nowhere : (g : Graph) (cube : List Literal) (facts : Scenario → Bool) (free : Bool) →
     ((s : Scenario) → IsScenario g s → matches cube s ≡ true → facts s ≡ true) →
     (s : Scenario) →
@@ -57,12 +61,13 @@ pub own_told : (free first own heard all : Bool) → first ≡ own → all ≡ (
     (free || all) ≡ true
 own_told free first own heard all f is t = or_right free all (is ∙ ap (λ x. x || heard) (sym f ∙ t))
 
--- what follows if nothing is left may be weakened
+-- what follows from what a false answer guarantees is guaranteed by it, too
 pub fewer_left : {A B : Type 0} (left : Bool) → (A → B) → OnFalse left A → OnFalse left B
 fewer_left false f a = f a
 fewer_left true f a = tt
 
--- if nothing is left of a cube, all of it is told
+-- if the search finds no scenario that the cubes leave, then whatever holds where one of them matches holds wherever
+-- the cube does
 pub left_nowhere : (g : Graph) (order : List ℕ) (cube : List Literal) (told : List (List Literal)) (o : Option Scenario)
     (facts : Scenario → Bool)
     → ((s : Scenario) → IsScenario g s → matches cube s ≡ true →

@@ -8,13 +8,13 @@ use Rattle.cpg_violation.specs.Violation.{AllHold, row_rules}
 use Rattle.cpg_check_heard.specs.declared.hearing.Hearing.{Hearing}
 use Rattle.cpg_check_heard.specs.TellingRows.{AreTellingRows}
 
--- an admitted graph, its tables, which keep V1 to V3, and the rows of all its items
+-- a hearing is for tables of its graph that keep V1 to V3
 pub record IsHearing (h : Hearing) : Type 0 where
-  -- the graph, with a head and tables of it
+  -- the graph is admitted, and the head and the tables are made for it
   pub admitted : IsAdmitted h.admitted.now.graph h.admitted.now.order h.admitted.now.guards
   pub head : IsHeadFor h.admitted.now.graph h.tables.now.head
   pub tables : AreTablesOf (head_of h.admitted.now.graph) h.tables.now.nodes
-  -- each row keeps V1 to V3
+  -- the tables keep V1 to V3
   pub rules : AllHold h.admitted.now.graph h.tables.now.nodes row_rules
   pub telling_rows :
       -- for each item its row, and by what means it tells: by an end or by frames

@@ -12,18 +12,19 @@ use Rattle.cpg_violation.specs.Broken.{is_broken}
 use Rattle.cpg_check_heard.specs.declared.bound.LiteralBound.{LiteralBound}
 use Rattle.cpg_check_heard.specs.Bounds.{is_told}
 
--- whether a node hasn't heard a literal by a time
+-- whether a node hasn't heard literal `l` by `time`
 abbrev pub is_literal_unheard : Graph → List NodeTable → ℕ → ℕ → Scenario → Literal → Bool
 is_literal_unheard g tables node time s l = not (is_heard g.faults (facts g tables node s time) l)
 
--- whether a node hasn't been told one of these bounds by a time
+-- whether there is one of these bounds that a node has to be told, and hasn't been by `time`
 abbrev pub is_one_untold : Graph → List NodeTable → ℕ → ℕ → List LiteralBound → Scenario → Bool
 is_one_untold g tables node time bounds s = list_any (λ b. not (is_told g tables node time b s)) bounds
 
--- whether a node hasn't heard all literals of a column by its time
+-- whether a node hasn't heard some literal of a column by the column's time
 abbrev pub is_column_unheard : Graph → List NodeTable → ℕ → Scenario → Column → Bool
 is_column_unheard g tables node s c = list_any (is_literal_unheard g tables node c.time s) c.cube
 
--- whether the column at a place of an item's row matches in a scenario in which one of its literals isn't heard
+-- whether there is a column at place `i` of the row of item `x`, and it breaks V4: it matches in a scenario in which
+-- the item's node hasn't heard one of its literals
 abbrev pub is_unheard : Graph → List NodeTable → ℕ → List Column → ℕ → Scenario → Bool
 is_unheard g tables x columns i s = is_broken (λ t c. breaks_heard g tables t x c) columns i s

@@ -1,4 +1,4 @@
--- The bounds that the rows of a node tell together.
+-- What several rows tell a node together.
 use Rattle.std.specs.Prelude.{ℕ, Bool, ◌&&◌, ◌==◌, List}
 use Rattle.std.specs.List.{list_any}
 use Rattle.cpg_base.specs.Graph.{Graph, node_of, process_of_variable}
@@ -8,15 +8,15 @@ use Rattle.cpg_check_heard.specs.declared.bound.LiteralBound.{LiteralBound}
 use Rattle.cpg_check_heard.specs.Bounds.{variable_of}
 use Rattle.cpg_check_heard.specs.TellingRows.{row_tells, means_of}
 
--- whether the row of an item tells a bound
+-- whether the row of item `x` tells a bound by `time`
 abbrev pub item_tells : Graph → List NodeTable → ℕ → LiteralBound → Scenario → ℕ → Bool
 item_tells g tables time b s x = row_tells g (means_of g x) time b (columns_of tables x) s
 
--- whether the rows of some items tell a bound
+-- whether the row of one of these items tells a bound by `time`
 abbrev pub are_told_by : Graph → List NodeTable → ℕ → LiteralBound → List ℕ → Scenario → Bool
 are_told_by g tables time b items s = list_any (item_tells g tables time b s) items
 
--- whether the node's own ends tell a bound: those of the variable's process, if it is on the node
+-- whether an end on the node itself tells a bound by `time`: one of the variable's process, if that is on the node
 abbrev pub own_tells : Graph → List NodeTable → ℕ → ℕ → LiteralBound → Scenario → Bool
 own_tells g tables node time b s = (node_of g (process_of_variable g (variable_of b)) == node)
     && item_tells g tables time b s (process_of_variable g (variable_of b))

@@ -1,4 +1,4 @@
-//! Ends of literals' ranges.
+//! Bounds of variables: a literal sets one by each end of its range.
 ghost use Rattle.std.specs.Prelude.{◌≡◌};
 ghost use Rattle.std.specs.List.{list_any};
 ghost use Rattle.cpg_check_heard.specs.Bounds.{high_of, is_free, low_of, range_of, tells, variable_of};
@@ -6,17 +6,18 @@ ghost use Rattle.cpg_check_heard.specs.Bounds.{high_of, is_free, low_of, range_o
 use cpg_base::top;
 use cpg_cube::Literal;
 
-/// One end of a literal's range.
+/// A bound of a variable, which a node hears by itself: it may hear the two ends of a literal's range from different
+/// columns.
 #[derive(Clone, Copy)]
 pub(crate) enum LiteralBound {
-    /// The variable is this number at least.
+    /// The variable is at least this number.
     Low { variable: u8, least: u8 },
-    /// The variable is this number at most.
+    /// The variable is at most this number.
     High { variable: u8, most: u8 },
 }
 
 impl LiteralBound {
-    /// The low of a literal.
+    /// The bound that the low of a literal sets.
     pub(crate) fn low_of(literal: &Literal) -> LiteralBound
         ensures { result ≡ low_of literal.now }
     {
@@ -26,7 +27,7 @@ impl LiteralBound {
         }
     }
 
-    /// The high of a literal.
+    /// The bound that the high of a literal sets.
     pub(crate) fn high_of(literal: &Literal) -> LiteralBound
         ensures { result ≡ high_of literal.now }
     {
@@ -36,7 +37,7 @@ impl LiteralBound {
         }
     }
 
-    /// The variable.
+    /// The variable that it bounds.
     pub(crate) fn variable(&self) -> u8
         ensures { result ≡ variable_of self.now }
     {
@@ -46,7 +47,7 @@ impl LiteralBound {
         }
     }
 
-    /// Whether every number of the variable in scenarios of at most `k` faults is within it.
+    /// Whether it leaves out no number that the variable may have in a scenario of at most `k` faults.
     pub(crate) fn is_free(&self, k: u8) -> bool
         ensures { result ≡ is_free k self.now }
     {
@@ -56,7 +57,7 @@ impl LiteralBound {
         }
     }
 
-    /// Whether a literal that is told bounds the variable at least as closely.
+    /// Whether a literal implies it: it is on the same variable, and its range is within the bound.
     pub(crate) fn is_told_by(&self, literal: &Literal) -> bool
         ensures { result ≡ tells self.now literal.now }
     {
@@ -70,14 +71,14 @@ impl LiteralBound {
         }
     }
 
-    /// Whether one of these literals, if they are told, bounds the variable at least as closely.
+    /// Whether one of these literals implies it.
     pub(crate) fn is_told_by_any(&self, literals: &[Literal]) -> bool
         ensures { result ≡ list_any (tells self.now) literals.now }
     {
         literals.iter().any(|literal| self.is_told_by(literal))
     }
 
-    /// The numbers within it in scenarios of at most `k` faults.
+    /// The numbers within it that the variable may have in scenarios of at most `k` faults, as a literal.
     pub(crate) fn range(&self, k: u8) -> Literal
         ensures { result ≡ range_of k self.now }
     {

@@ -1,4 +1,4 @@
-//! The least scenario in which a node hasn't heard a literal by a time, by what all rows tell.
+//! The least scenario in which a column matches, and its node hasn't heard all its literals by its time.
 ghost use Rattle.std.specs.Prelude.{◌≡◌, ◌&&◌, ◌||◌, All, Contains, IfOk, not, true};
 ghost use Rattle.std.specs.Bool.{OnFalse, OnTrue};
 ghost use Rattle.std.specs.List.{list_any};
@@ -31,12 +31,15 @@ use std::alloc::Global;
 /// The rows of a graph's tables, ready to be asked what they tell.
 #[derive(Drop)]
 pub(crate) struct Hearing<'a> {
+    /// The graph of the tables.
     pub(crate) admitted: &'a Admitted,
+    /// The tables, which keep V1 to V3.
     pub(crate) tables: &'a Tables,
+    /// For each item, by number, its row and by what means that tells.
     pub(crate) telling_rows: Vec<TellingRow<'a>>,
 }
 
-/// The least scenario that a cube matches and no cube of a list does, if there is one.
+/// The least scenario that a cube matches and none of the cubes `told` does. `None` exactly if there is none.
 fn least_left(
     alloc: Global,
     admitted: &Admitted,
@@ -53,7 +56,7 @@ fn least_left(
     Ok(found)
 }
 
-/// Whether one cube of a list matches wherever a cube does.
+/// Whether one of the cubes `told` alone matches wherever a cube does. If not, several of them together may.
 fn is_within_one(problem: &Problem, cube: &Cube, told: &[Cube]) -> bool
     requires cube { IsKnown problem.now cube.now }
     requires told { All (IsKnown problem.now) told.now }
@@ -62,7 +65,8 @@ fn is_within_one(problem: &Problem, cube: &Cube, told: &[Cube]) -> bool
     told.iter().any(|part| cube.within(part, problem))
 }
 
-/// Whether a list may leave something of a cube. A single cube of it that leaves nothing is the common case, and found first.
+/// Whether some scenario that a cube matches is matched by none of the cubes `told`. Mostly a single one of them leaves
+/// none, so that is asked first.
 fn may_leave(
     alloc: Global,
     admitted: &Admitted,
@@ -74,7 +78,6 @@ fn may_leave(
     ensures { IfOk result (λ left. OnFalse left ((s : Scenario) → IsScenario admitted.now.graph s → matches cube.now s ≡ true
         → list_any (λ b. matches b s) told.now ≡ true)) }
 {
-    // one cube of the list matches everywhere: nothing is left, and no search is needed
     if is_within_one(admitted.problem(), cube, told) {
         return Ok(false);
     }
@@ -83,8 +86,8 @@ fn may_leave(
 }
 
 impl Hearing<'_> {
-    /// Adds the parts of cubes in which the node's own ends tell a bound by a time, as far as they match together with a cube:
-    /// those of the row of the process of the bound's variable, if that is on the node.
+    /// Adds to `told`, where `cube` matches, the parts of cubes in which the node's own ends tell a bound by a time.
+    /// Only the process of the bound's variable may tell it by its end, and only if it is on the node.
     fn add_own(
         &self,
         alloc: Global,
@@ -105,7 +108,7 @@ impl Hearing<'_> {
     {
         let problem = self.admitted.problem();
         let process = problem.process_of_variable(bound.variable());
-        // the process of the variable is on another node, so no end of this node says the bound
+        // no end on this node is about the variable
         if problem.node_of(process) != node {
             return Ok(());
         }
@@ -114,7 +117,8 @@ impl Hearing<'_> {
         Ok(())
     }
 
-    /// Whether a node may not have been told a bound by a time by its own ends alone, somewhere that a cube matches.
+    /// Whether a bound is open for a node by its own ends: somewhere that a cube matches, no end has told it by a time.
+    /// False if the bound leaves out no number.
     fn is_open(
         &self,
         alloc: Global,
@@ -130,14 +134,14 @@ impl Hearing<'_> {
             → matches cube.now s ≡ true → is_told self.now.admitted.now.graph self.now.tables.now.nodes node time bound s
             ≡ true)) }
     {
-        // a bound that every number keeps needs no telling
+        // no number is left out, so the node need not be told
         if bound.is_free(self.admitted.problem().faults()) {
             return Ok(false);
         }
-        // the parts of the cube in which an end says the bound
+        // the cubes where an end tells the bound
         let mut told = Vec::new(alloc);
         self.add_own(alloc, node, cube, time, bound, &mut told)?;
-        // no end says the bound, so it is open wherever the cube matches
+        // no end tells it anywhere
         if told.is_empty() {
             return Ok(true);
         }
@@ -145,7 +149,7 @@ impl Hearing<'_> {
         Ok(left)
     }
 
-    /// Adds a bound, if the node's own ends may leave it open at a column's time.
+    /// Adds a bound to `bounds`, if the node's own ends leave it open where a column matches, at its time.
     fn add_open(
         &self,
         alloc: Global,
@@ -171,7 +175,8 @@ impl Hearing<'_> {
         Ok(())
     }
 
-    /// Adds the bounds of a column's literal that the node's own ends may leave open at its time.
+    /// Adds to `bounds` those of a column's literal that the node's own ends leave open where the column matches, at
+    /// its time. So one of `bounds` is untold exactly where one was before, or the literal isn't heard (`unheard`).
     fn add_literal(
         &self,
         alloc: Global,
@@ -193,17 +198,18 @@ impl Hearing<'_> {
             ≡ (is_one_untold self.now.admitted.now.graph self.now.tables.now.nodes node column.now.time bounds.old.items s
             || is_literal_unheard self.now.admitted.now.graph self.now.tables.now.nodes node column.now.time s literal.now)) }
     {
-        // the process of the variable has ended on this node by then, so both bounds are known
+        // the process of the variable has ended on this node by then, so its number is known
         if self.has_ended(node, literal.variable, column.time) {
             return Ok(());
         }
-        // a literal is a range: it is heard if both of its bounds are
+        // the literal is heard exactly if both of its bounds are
         self.add_open(alloc, node, column, LiteralBound::low_of(literal), bounds)?;
         self.add_open(alloc, node, column, LiteralBound::high_of(literal), bounds)?;
         Ok(())
     }
 
-    /// The bounds of a column's literals that the node's own ends may leave open at its time.
+    /// The bounds of a column's literals that the node's own ends leave open where the column matches, at its time. So
+    /// one of them is untold exactly where a literal isn't heard (`untold`).
     fn open_bounds(
         &self,
         alloc: Global,
@@ -220,15 +226,14 @@ impl Hearing<'_> {
             ≡ is_column_unheard self.now.admitted.now.graph self.now.tables.now.nodes node s column.now) }
     {
         let mut bounds = Vec::new(alloc);
-        // goes over the literals of the column's cube
         for literal in column.cube.literals() {
             self.add_literal(alloc, node, column, literal, &mut bounds)?;
         }
         Ok(bounds)
     }
 
-    /// The least scenario that a column matches and in which a node hasn't been told a bound by its time, if there is one. The
-    /// contract alone names `items`.
+    /// The least scenario that a column matches and in which a node hasn't been told a bound by its time. `None`
+    /// exactly if there is none. `arrivals` are those for this column. Only the contract names `items`.
     fn least_untold(
         &self,
         alloc: Global,
@@ -248,15 +253,15 @@ impl Hearing<'_> {
     {
         let problem = self.admitted.problem();
         let (cube, time) = (&column.cube, column.time);
-        // a bound that every number keeps needs no telling
+        // no number is left out, so the node need not be told
         if bound.is_free(problem.faults()) {
             return Ok(None);
         }
-        // one frame says the bound wherever the column matches: the usual case
+        // mostly one frame tells the bound wherever the column matches
         if tells_one_whole(problem, arrivals, cube, time, bound) {
             return Ok(None);
         }
-        // the parts in which an end or a frame says the bound; what they leave of the cube is a violation
+        // the cubes where an end or a frame tells the bound: what they leave of the column's cube are violations
         let mut told = Vec::new(alloc);
         self.add_own(alloc, node, cube, time, bound, &mut told)?;
         add_told(problem, arrivals, time, bound, &mut told)?;
@@ -264,8 +269,8 @@ impl Hearing<'_> {
         Ok(found)
     }
 
-    /// The least scenario that a column matches and in which a node hasn't been told one of these bounds by its time, if
-    /// there is one.
+    /// The least scenario that a column matches and in which a node hasn't been told one of these bounds by its time.
+    /// `None` exactly if there is none.
     fn least_of_bounds(
         &self,
         alloc: Global,
@@ -285,7 +290,7 @@ impl Hearing<'_> {
     {
         let problem = self.admitted.problem();
         let order = self.admitted.order();
-        // goes over the bounds, and keeps the least scenario of all
+        // the least scenario of the bounds so far
         let mut found: Option<Scenario> = None;
         for bound in bounds {
             let next = self.least_untold(alloc, node, items, arrivals, column, *bound)?;
@@ -294,8 +299,9 @@ impl Hearing<'_> {
         Ok(found)
     }
 
-    /// The least scenario that a column matches and in which a node hasn't heard one of its literals by its time, if there is
-    /// one.
+    /// The least scenario that a column matches and in which a node hasn't heard one of its literals by its time.
+    /// `None` exactly if there is none. `items` are all that the node hears, and `ranks` are rows of them in the order
+    /// in which they are tried.
     pub(crate) fn least_unheard(
         &self,
         alloc: Global,
@@ -315,7 +321,7 @@ impl Hearing<'_> {
         // first the quick ways: the node's own ends, then single frames; the full search is for what they leave
         let bounds = self.open_bounds(alloc, node, column)?;
         let left = self.unframed(alloc, node, ranks, column, bounds)?;
-        // every bound is known
+        // every bound is told wherever the column matches
         if left.is_empty() {
             return Ok(None);
         }

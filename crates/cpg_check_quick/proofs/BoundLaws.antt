@@ -1,4 +1,4 @@
--- Literals are heard if their bounds are.
+-- A literal is heard if its low and its high are, as far as they leave out a number.
 use Rattle.std.proofs.Common.{ℕ, ◌≡◌, ◌==◌, Bool, true, false, cond, List, [], ◌∷◌, filter, flat_map, get_or, map}
 use Rattle.std.proofs.Common.{Contains, refl, sym, subst, arith, inl, inr, le-leb, ne_eqb, max}
 use Rattle.std.specs.Prelude.{nat_le}
@@ -16,16 +16,16 @@ use Rattle.cpg_check_quick.specs.Bounds.{bounds_of, high_of, low_of, unknown_bou
 use Rattle.cpg_check_quick.specs.Hearing.{IsAllHeard, IsHeardIn}
 use Rattle.cpg_check_quick.specs.HeardRows.{AreToldIn, IsToldIn}
 
--- the one element if there is one
+-- a list that is empty or has one element has no other
 one_of : {X : Type 0} (b : Bool) (x y : X) → Contains (cond b [] (x ∷ [])) y → x ≡ y
 one_of true x y h = absurd (Contains-nil y h)
 one_of false x y h = elim (Contains-cases x [] y h) [ inl e ↦ e | inr k ↦ absurd (Contains-nil y k) ]
 
--- that element is in the list if the test fails
+-- it has that element if the test fails that would empty it
 one_there : {X : Type 0} (b : Bool) (x : X) → b ≡ false → Contains (cond b [] (x ∷ [])) x
 one_there b x e = subst (λ xs. Contains xs x) (sym (cond-false b [] (x ∷ []) e)) (Contains-first x [])
 
--- a bound is as wide as its literal
+-- a literal of a list implies its own low and high
 bound_wider : (k : ℕ) (literals : List Literal) (l w : Literal) → Contains literals l → Contains (bounds_of k l) w →
     IsToldIn literals w
 bound_wider k literals l w there h = elim (Contains-append_cases (low_of k l) (high_of k l) w h) [
@@ -37,16 +37,16 @@ bound_wider k literals l w there h = elim (Contains-append_cases (low_of k l) (h
       (record { by = l; there = there; variable = refl; low = omega arith; high = omega arith })
 ]
 
--- none if a literal is known
+-- the bounds of a literal are listed if its variable isn't known
 unknown_there : {X : Type 0} (b : Bool) (xs : List X) (x : X) → b ≡ false → Contains xs x → Contains (cond b [] xs) x
 unknown_there b xs x e h = subst (λ ys. Contains ys x) (sym (cond-false b [] xs e)) h
 
--- what is in the list, if a literal isn't known, is in the list without that test
+-- what is listed is one of the bounds
 unknown_parts : {X : Type 0} (b : Bool) (xs : List X) (x : X) → Contains (cond b [] xs) x → Contains xs x
 unknown_parts true xs x h = absurd (Contains-nil x h)
 unknown_parts false xs x h = h
 
--- each bound of an unknown literal is as wide as the literal
+-- each bound that is listed for some literals is implied by one of them
 bounds_wider : (k : ℕ) (known : List Bool) (literals : List Literal) (w : Literal) →
     Contains (flat_map (unknown_bounds k known) literals) w →
     IsToldIn literals w
@@ -54,10 +54,10 @@ bounds_wider k known literals w h =
     let p = Contains-flat_map_parts (unknown_bounds k known) literals w h in
     bound_wider k literals p.0 w p.1 (unknown_parts (get_or known p.0.variable false) (bounds_of k p.0) w p.2)
 
--- the bounds of a literal are all implied by what a node has kept
+-- `known` are the literals that a node has learnt, which imply the low and the high of literal `l`
 module _ (k : ℕ) (known : List Literal) (l : Literal)
     (heard : (w : Literal) → Contains (bounds_of k l) w → is_heard k known w ≡ true) where
-  -- what is kept has at least the literal's low: the low is 0, or its bound is implied
+  -- the greatest low that is kept is at least the literal's: that is 0, or it is a bound that is heard
   low_heard : nat_le l.low (kept_low known l.variable) ≡ true
   low_heard = elim (cases_eq l.low 0) [
     | inl none ↦ le-leb l.low (kept_low known l.variable) (omega (arith, none))
@@ -67,7 +67,7 @@ module _ (k : ℕ) (known : List Literal) (l : Literal)
         (Contains-append_left (low_of k l) (high_of k l) w (one_there (l.low == 0) w (ne_eqb l.low 0 some))))).0
   ]
 
-  -- what is kept has at most the literal's high: the high is the top, or its bound is implied
+  -- the least high that is kept is at most the literal's: that leaves out no number, or it is a bound that is heard
   high_heard : nat_le (kept_high k known l.variable) l.high ≡ true
   high_heard = elim (cases_lt l.high (top k l.variable)) [
     | inl below ↦
@@ -83,19 +83,18 @@ module _ (k : ℕ) (known : List Literal) (l : Literal)
         ))
   ]
 
-  -- what is kept implies a literal if it implies its bounds
+  -- so the literal is heard
   bound_heard : is_heard k known l ≡ true
   bound_heard = and_from _ _ low_heard high_heard
 
--- all literals of a column are implied if those on known variables are, and all bounds of the others
--- `c`, `known`: a column, and the variables whose numbers are known; `wanted`, `is`: the bounds of its other literals
+-- a column, marks of known variables, and the bounds of the column's literals on other variables
 module _ (g : Graph) (tables : List NodeTable) (node : ℕ) (c : Column) (known : List Bool) (wanted : List Literal)
     (is : wanted ≡ flat_map (unknown_bounds g.faults known) c.cube) where
-  -- each bound is as wide as some literal of the column
+  -- some literal of the column implies each of these bounds
   pub all_wider : AreToldIn c.cube wanted
   all_wider w h = bounds_wider g.faults known c.cube w (subst (λ ws. Contains ws w) is h)
 
-  -- if the literals on known variables are heard, and all bounds of the others, the column's literals all are
+  -- if the literals on known variables are heard, and all these bounds, then all literals of the column are
   pub column_heard :
       ((l : Literal) → Contains c.cube l → get_or known l.variable false ≡ true → IsHeardIn g tables node c l) →
       ((l : Literal) → Contains wanted l → IsHeardIn g tables node c l) →

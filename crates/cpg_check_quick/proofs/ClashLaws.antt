@@ -1,4 +1,4 @@
--- V6 and V7, if items of a node are apart.
+-- V6 and V7 are sure at an item that is apart from the lower items of its node.
 use Rattle.std.proofs.Common.{ℕ, ◌+◌, ◌≤◌, ◌≡◌, ◌⊎◌, true, false, not, ◌&&◌, ◌||◌, ◌==◌, Bool, List, All, Contains}
 use Rattle.std.proofs.Common.{filter, arith, refl, sym, ap, ◌∙◌, subst, inl, inr, le-ltb, ne_eqb, eq-eqb}
 use Rattle.std.specs.Prelude.{nat_lt}
@@ -21,7 +21,7 @@ use Rattle.cpg_violation.proofs.Tests.{off_where}
 use Rattle.cpg_check_quick.specs.Order.{IsApart, execution, sending}
 use Rattle.cpg_violation.proofs.SureLaws.{sure_of}
 
--- a time at which an item acts is that of a column that matches
+-- each time of an item in a scenario is that of a column that matches
 at_parts : (tables : List NodeTable) (x : ℕ) (s : Scenario) (time : ℕ) → Contains (at tables x s) time →
     (d : Column) × Contains (columns_of tables x) d × (matches d.cube s ≡ true) × (d.time ≡ time)
 at_parts tables x s time h =
@@ -30,7 +30,7 @@ at_parts tables x s time h =
     let q = Contains-filter_parts (λ (c : Column). matches c.cube s) (columns_of tables x) r.0 r.1 in
     (r.0, q.0, q.1, r.2)
 
--- what passes if an item acts passes at its columns that match
+-- a test that fails at the time of each column that matches passes at none of the item's times
 none_at : (tables : List NodeTable) (x : ℕ) (s : Scenario) (test : ℕ → Bool) →
     ((d : Column) → Contains (columns_of tables x) d → matches d.cube s ≡ true → test d.time ≡ false) →
     list_any test (at tables x s) ≡ false
@@ -39,18 +39,20 @@ none_at tables x s test none = list_any_false test (at tables x s)
 
 -- ---- V6
 
--- executions of which one ends before the other starts don't overlap
+-- executions from `a`, lasting `b`, and from `c`, lasting `d`, don't overlap if one is over by the start of the other
 no_overlap : (a b c d : ℕ) → (c + d ≤ a) ⊎ (a + b ≤ c) → overlap a (a + b) c (c + d) ≡ false
 no_overlap a b c d (inl h) = ap (λ t. t && nat_lt c (a + b)) (le-ltb a (c + d) h)
 no_overlap a b c d (inr h) = and_right (nat_lt a (c + d)) (nat_lt c (a + b)) (le-ltb c (a + b) h)
 
+-- an item
 module _ (g : Graph) (tables : List NodeTable) (p : ℕ) where
-  -- an item that is no process has no execution, so it keeps V6
+  -- V6 is sure at a message or a broadcast, which has no execution
   pub sure_no_process : process_count g ≤ p → IsSure g tables Rule.Processor p
   sure_no_process l = sure_of g tables Rule.Processor p refl
       (λ s c earlier law there m. and_left (nat_lt p (process_count g)) _ (le-ltb p (process_count g) l))
 
-  -- no process of its node with a lower number
+  -- V6 is sure at an item that is apart from each lower process of its node: where it and a column of such a process
+  -- match, their executions don't overlap
   lower_alone : All (λ q. IsApart (execution g) g tables q p)
       (filter (λ q. node_of g q == node_of g p) (numbers_below p)) →
       IsSure g tables Rule.Processor p
@@ -66,7 +68,7 @@ module _ (g : Graph) (tables : List NodeTable) (p : ℕ) where
       (All-contains (λ q. IsApart (execution g) g tables q p)
       (filter (λ q. node_of g q == node_of g p) (numbers_below p)) q apart k s c law there m d at n)))))
 
-  -- a process that is apart from those of lower numbers on its node keeps V6
+  -- the same of a list that is said to have the lower processes of the node
   pub sure_alone : (lower : List ℕ) → lower ≡ filter (λ q. node_of g q == node_of g p) (numbers_below p) →
       All (λ q. IsApart (execution g) g tables q p) lower →
       IsSure g tables Rule.Processor p
@@ -75,17 +77,19 @@ module _ (g : Graph) (tables : List NodeTable) (p : ℕ) where
 
 -- ---- V7
 
+-- an item
 module _ (g : Graph) (tables : List NodeTable) (x : ℕ) where
-  -- an item that isn't sent keeps V7
+  -- V7 is sure at an item that isn't sent
   pub sure_not_sent : is_sent g x ≡ false → IsSure g tables Rule.Slot x
   sure_not_sent e = sure_of g tables Rule.Slot x refl (λ s c earlier law there m. and_left (is_sent g x) _ e)
 
-  -- sends of which one is over before the other begins are at different times
+  -- sends that last 1, one of which is over by the time of the other, are at different times
   other_time : (a c : ℕ) → (a + 1 ≤ c) ⊎ (c + 1 ≤ a) → (a == c) ≡ false
   other_time a c (inl h) = ne_eqb a c (λ e. omega (arith, h, e))
   other_time a c (inr h) = ne_eqb a c (λ e. omega (arith, h, e))
 
-  -- if the columns start slots and the sends of lower items are apart, the item keeps V7
+  -- V7 is sure at an item if at each column that matches a slot of its node starts, and it is apart from each lower
+  -- item that the node sends: where a column of both matches, their times differ
   lower_apart : All (λ (c : Column). (s : Scenario) → IsScenario g s → matches c.cube s ≡ true →
       next_slot g (home g x) c.time ≡ c.time) (columns_of tables x)
       → All (λ y. IsApart sending g tables y x)
@@ -106,7 +110,7 @@ module _ (g : Graph) (tables : List NodeTable) (x : ℕ) where
       (Contains-filter (λ y. is_sent g y && (home g y == home g x)) (numbers_below x) y e k) s c law
       there m d at n))))))
 
-  -- an item whose columns start slots, and whose sends are apart from those of lower numbers, keeps V7
+  -- the same of a list that is said to have the lower items that the node sends
   pub sure_own_slots : (lower : List ℕ) → lower ≡ filter (λ y. is_sent g y && (home g y == home g x)) (numbers_below x)
       → All (λ (c : Column). (s : Scenario) → IsScenario g s → matches c.cube s ≡ true →
       next_slot g (home g x) c.time ≡ c.time) (columns_of tables x) →

@@ -1,4 +1,4 @@
--- What has ended or arrived by a time, by the columns that match.
+-- Whether an execution has ended or a frame has come by a time, by the columns that match.
 use Rattle.std.proofs.Common.{ℕ, ◌+◌, ◌<◌, ◌≤◌, ◌≡◌, true, List, map, Contains, ap, ◌∙◌, arith, le-leb, leb-true}
 use Rattle.std.specs.Prelude.{nat_le}
 use Rattle.std.proofs.lemmas.Bool.{and_from}
@@ -18,15 +18,15 @@ use Rattle.cpg_violation.proofs.Matching.{match_where}
 use Rattle.cpg_violation.proofs.Moments.{at_parts, in_at}
 use Rattle.cpg_check_quick.specs.Order.{IsOverBy, execution}
 
--- what begins with the columns of an item and is done later
+-- an item in a scenario; `done` says when what begins at a time is done
 module _ (tables : List NodeTable) (x : ℕ) (s : Scenario) (done : ℕ → ℕ) (time : ℕ) where
-  -- if a column matches and what it begins is done by the time, something is
+  -- if a column matches and what it begins is done by the time, something of the item is
   pub come_by : (d : Column) → Contains (columns_of tables x) d → matches d.cube s ≡ true → done d.time ≤ time →
       is_by time (map done (at tables x s)) ≡ true
   come_by d k m l = list_any_true (λ m. nat_le m time) (map done (at tables x s)) (done d.time)
       (Contains-map done (at tables x s) d.time (in_at tables x s d k m)) (le-leb (done d.time) time l)
 
-  -- if something is done by the time, a column that matches began it
+  -- if something of the item is done by the time, a column that matches began it
   pub by_parts : is_by time (map done (at tables x s)) ≡ true →
       (d : Column) × Contains (columns_of tables x) d × (matches d.cube s ≡ true) × (done d.time ≤ time)
   by_parts t =
@@ -38,7 +38,7 @@ module _ (tables : List NodeTable) (x : ℕ) (s : Scenario) (done : ℕ → ℕ)
 -- tables that keep V1 to V3, a scenario and a time
 module _ (g : Graph) (tables : List NodeTable) (rules : AllHold g tables row_rules) (s : Scenario)
     (law : IsScenario g s) (time : ℕ) where
-  -- an active process that is over has ended
+  -- if a process is active and over by whichever of its columns matches, it has ended: by V3 one does
   pub over_ended : (q : ℕ) → q < process_count g → active g s.values q ≡ true →
       IsOverBy tables (execution g q s) q time s →
       is_by time (ends_of g tables s q) ≡ true
@@ -47,7 +47,8 @@ module _ (g : Graph) (tables : List NodeTable) (rules : AllHold g tables row_rul
       match_where g tables s law q (omega arith) rules (ap (item_active g s.values) (item_at-start g q l) ∙ a) in
       come_by tables q s (λ start. start + duration g q (fault_of s q)) time d.0 d.1 d.2 (over d.0 d.1 d.2)
 
-  -- a message on a live edge that is over has arrived
+  -- if the edge of a message is live and the message over by whichever of its columns matches, it has come: by V3 one
+  -- does
   pub over_arrived : (e : ℕ) → e < edge_count g → is_message g e ≡ true → live g s.values e ≡ true →
       IsOverBy tables (slot_length g (home g (message_item g e))) (message_item g e) time s
       → is_by time (arrivals_of g tables s (message_item g e)) ≡ true

@@ -1,5 +1,5 @@
--- V4 at an item, by the literals of its columns: what the ends of a node's own processes and the frames that reached it
--- tell.
+-- A literal is heard if a frame that has come implies it, or if it holds and its process has ended on the node; and V4
+-- is sure at an item if all its literals are heard.
 use Rattle.std.proofs.Common.{ℕ, ◌+◌, ◌-◌, ◌<◌, ◌≤◌, ◌≡◌, ◌==◌, Bool, true, cond, not, List, [], ◌∷◌, ◌++◌, filter, map}
 use Rattle.std.proofs.Common.{flat_map, Contains, Some, refl, sym, ap, ◌∙◌, subst, arith, inl, inr, eq-eqb}
 use Rattle.std.proofs.Common.{le-leb, leb-true, leb, lt-ltb, le-ltb}
@@ -29,15 +29,18 @@ use Rattle.cpg_check_quick.specs.Hearing.{IsHeardIn}
 use Rattle.cpg_violation.proofs.SureLaws.{sure_of}
 use Rattle.cpg_check_quick.proofs.Ends.{by_parts}
 
+-- a node, a time, a scenario and a literal
 module _ (g : Graph) (tables : List NodeTable) (node time : ℕ) (s : Scenario) (l : Literal) where
-  -- a fact within a literal's range
+  -- if the node has learnt a literal `m` that implies it, the literal is heard
   heard_fact : (m : Literal) → Contains (facts g tables node s time) m → m.variable ≡ l.variable → l.low ≤ m.low →
       m.high ≤ l.high →
       is_heard g.faults (facts g tables node s time) l ≡ true
   heard_fact m k same low high =
       let known : List Literal = facts g tables node s time in
+      -- `m` is among the facts on the variable of `l`
       let here : Contains (filter (λ (n : Literal). n.variable == l.variable) known) m =
       Contains-filter (λ (n : Literal). n.variable == l.variable) known m (eq-eqb m.variable l.variable same) k in
+      -- so the greatest low of these is at least that of `m`, and the least high at most that of `m`
       let above =
       greatest_above (map (λ (n : Literal). n.low) (filter (λ (n : Literal). n.variable == l.variable) known)) m.low
       (Contains-map (λ (n : Literal). n.low) _ m here) in
@@ -47,11 +50,12 @@ module _ (g : Graph) (tables : List NodeTable) (node time : ℕ) (s : Scenario) 
       and_from _ _ (le-leb l.low (kept_low known l.variable) (omega (arith, low, above)))
       (le-leb (kept_high g.faults known l.variable) l.high (omega (arith, high, below)))
 
-  -- what stands where a test passes
+  -- a list that is there only if a test passes has its elements if it does
   kept_where : (b : Bool) (xs : List Literal) (m : Literal) → b ≡ true → Contains xs m → Contains (cond b xs []) m
   kept_where b xs m e k = subst (λ ys. Contains ys m) (sym (cond-true b xs [] e)) k
 
-  -- a frame of a column that matches, which has come by the time
+  -- if a column of an item that the node hears matches, and its frame has come by the time and tells a literal `m` that
+  -- implies it, the literal is heard: `m` is one of the facts of that frame
   pub heard_frame : (y : ℕ) (d : Column) (m : Literal) → y < item_count g → is_heard_by g node (item_at g y) ≡ true →
       Contains (columns_of tables y) d →
       matches d.cube s ≡ true →
@@ -71,7 +75,7 @@ module _ (g : Graph) (tables : List NodeTable) (node time : ℕ) (s : Scenario) 
       (kept_where (leb (d.time + slot_length g (home g y)) time) (d.cube ++ frame_value s (item_at g y)) m
       (le-leb _ _ come) told))))
 
-  -- the count and the value that an end tells
+  -- the end of process `q` tells the number of each of its variables: of its count, or of its value
   end_tells : (v q : ℕ) → process_count g ≤ 128 → IsVariable g v → process_of_variable g v ≡ q →
       Contains (exactly q (number_of s q) ∷ value_fact s (condition_of g q)) (exactly v (number_of s v))
   end_tells v q few (inl count) of_it =
@@ -91,7 +95,8 @@ module _ (g : Graph) (tables : List NodeTable) (node time : ℕ) (s : Scenario) 
       (subst (λ w. Contains (exactly w (number_of s w) ∷ []) (exactly v (number_of s v))) (sym is)
       (Contains-first (exactly v (number_of s v)) [])))
 
-  -- an own process that has ended by the time
+  -- if a process of the node has ended by the time, a literal on one of its variables that holds is heard: the end
+  -- tells the variable's number
   pub heard_end : (q : ℕ) → process_count g ≤ 128 → q < process_count g → node_of g q ≡ node →
       is_by time (ends_of g tables s q) ≡ true → IsVariable g l.variable →
       process_of_variable g l.variable ≡ q
@@ -115,7 +120,7 @@ module _ (g : Graph) (tables : List NodeTable) (node time : ℕ) (s : Scenario) 
       (end_tells l.variable q few known of_it)))))
       refl (leb-true _ _ range.0) (leb-true _ _ range.1)
 
--- if all literals of all columns are heard, the rule holds
+-- V4 is sure at an item if all literals of its columns are heard wherever the column matches
 pub heard_sure : (g : Graph) (tables : List NodeTable) (x : ℕ) →
     ((c : Column) (l : Literal) → Contains (columns_of tables x) c → Contains c.cube l →
     IsHeardIn g tables (home g x) c l) →

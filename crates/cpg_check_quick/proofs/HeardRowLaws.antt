@@ -1,4 +1,4 @@
--- What frames that reach a node tell it.
+-- What a heard row's frames tell a node by the time of a column.
 use Rattle.std.proofs.Common.{ℕ, ◌+◌, ◌<◌, ◌≤◌, ◌≡◌, ◌⊎◌, true, List, Option, None, Some, All, Contains, IfSome, get_or}
 use Rattle.std.proofs.Common.{length, take, drop, ◌++◌, refl, sym, ap, ◌∙◌, subst, arith, inl, inr, leb-true}
 use Rattle.std.proofs.lemmas.Bool.{and_parts}
@@ -23,25 +23,28 @@ use Rattle.cpg_check_quick.specs.HeardRows.{AreToldIn, HasCome, IsHeardRow, IsTo
 use Rattle.cpg_check_quick.specs.declared.heard_rows.HeardRow.{HeardRow}
 use Rattle.cpg_check_quick.proofs.HeardLaws.{heard_frame}
 
--- an item that a node hears, and a literal whose variable a literal of a column bounds at least as closely
+-- the row of an item that the node hears, places of its columns, a column `c`, and a literal that `c` implies
 module _ {g : Graph} {tables : List NodeTable} {node : ℕ} {row : HeardRow} (is : IsHeardRow g tables node row)
     (places : List ℕ) (c : Column) (l : Literal) (h : IsToldIn c.cube l) where
-  -- if a frame of the row has come by the column's time, and the row implies the literal at the place found,
-  -- the node has heard the literal; by cases on whether the frame carries the value, or its column's cube bounds it
+  -- if the scenario's place in the row's tree is among the places, the frame of its column has come by the time of `c`,
+  -- and the frames tell the literal, it is heard; by cases of whether the frame carries the value or the column implies
+  -- it
   told_by : (s : Scenario) → IsScenario g s → matches c.cube s ≡ true →
       IsTold row.value row.columns.now places l → (o : Option ℕ) →
       place_at row.tree.now s ≡ o
       → HasCome row.columns.now row.delay c.time o → IsAmong places o →
       is_heard g.faults (facts g tables node s c.time) l ≡ true
-  -- no place is found, which the list of places excludes
+  -- there is a place, as it is among the places
   told_by s law m told None e come among = absurd among
   told_by s law m told (Some i) e come among =
+      -- the column at the place matches, and its frame has come
       let d : Column = column_at (columns_of tables row.item) i in
       let there : i < length (columns_of tables row.item) = place_there is.tree s law i e in
       let match : matches d.cube s ≡ true = place_matches is.tree s law i e in
       let same : column_at row.columns.now i ≡ d = ap (λ columns. column_at columns i) is.columns in
       let by : d.time + slot_length g (home g row.item) ≤ c.time =
       omega (arith, come, ap (λ (d : Column). d.time) same, is.delay) in
+      -- the variable's number is in the range of the literal of `c` that implies `l`
       let inside = and_parts _ _ (from_all (holds s) c.cube h.by m h.there) in
       let from : h.by.low ≤ number_of s l.variable =
       subst (λ v. h.by.low ≤ number_of s v) h.variable (leb-true _ _ inside.0) in
@@ -59,7 +62,7 @@ module _ {g : Graph} {tables : List NodeTable} {node : ℕ} {row : HeardRow} (is
             is.heard (Contains-get_or (columns_of tables row.item) i _ there) match by
             (Contains-append_right d.cube (frame_value s (item_at g row.item)) _ carried) refl
             (omega (arith, h.low, from)) (omega (arith, to, h.high))
-        -- the column at the place bounds the variable as closely
+        -- the column at the place implies the literal
         | inr all ↦
             let at : IsToldIn d.cube l = subst (λ (d : Column). IsToldIn d.cube l) same
             (All-contains (λ i. IsToldIn (column_at row.columns.now i).cube l) places i all among) in
@@ -69,7 +72,7 @@ module _ {g : Graph} {tables : List NodeTable} {node : ℕ} {row : HeardRow} (is
             at.variable at.low at.high
       ]
 
-  -- a literal is heard that the frames tell which have come wherever a column matches
+  -- so it is heard if this is so wherever `c` matches
   pub told_literal_heard : ((s : Scenario) → IsScenario g s → matches c.cube s ≡ true →
       HasCome row.columns.now row.delay c.time (place_at row.tree.now s) ×
       IsAmong places (place_at row.tree.now s))
@@ -77,11 +80,12 @@ module _ {g : Graph} {tables : List NodeTable} {node : ℕ} {row : HeardRow} (is
   told_literal_heard found told s law m = let r = found s law m in
       told_by s law m told (place_at row.tree.now s) refl r.0 r.1
 
--- the wanted literals that the frames don't tell
+-- literals that are wanted, which column `c` implies, and those of them that are left
 module _ {g : Graph} {tables : List NodeTable} {node : ℕ} {row : HeardRow} (is : IsHeardRow g tables node row)
     (places : List ℕ) (c : Column) (wanted left : List Literal)
     (wider : AreToldIn c.cube wanted) where
-  -- if the frames have come wherever the column matches, the literals that they don't tell are those left
+  -- if the row's frames have come wherever the column matches, and tell each wanted literal that isn't left, those not
+  -- left have been heard
   pub left_untold : ((l : Literal) → Contains left l → Contains wanted l) →
       ((l : Literal) → Contains wanted l → Contains left l ⊎ IsTold row.value row.columns.now places l)
       → ((s : Scenario) → IsScenario g s → matches c.cube s ≡ true → HasCome row.columns.now row.delay c.time
@@ -93,12 +97,13 @@ module _ {g : Graph} {tables : List NodeTable} {node : ℕ} {row : HeardRow} (is
         elim (told l h) [ inl kept ↦ inl kept | inr by ↦ inr (told_literal_heard is places c l (wider l h) found by) ];
   }
 
+-- the loop of `listen`
 module _ (g : Graph) (tables : List NodeTable) (node : ℕ) (c : Column) where
   -- at first all wanted literals are left
   pub left_first : (wanted : List Literal) → AreLeft g tables node c wanted wanted
   left_first wanted = record { among = λ l h. h; heard = λ l h. inl h }
 
-  -- the literals left of those left are those left of all
+  -- what is left of the literals that were left is left of all that are wanted
   pub left_more : (wanted left next : List Literal) → AreLeft g tables node c wanted left →
       AreLeft g tables node c left next →
       AreLeft g tables node c wanted next
@@ -107,7 +112,7 @@ module _ (g : Graph) (tables : List NodeTable) (node : ℕ) (c : Column) where
     heard = λ l h. elim (before.heard l h) [ inl kept ↦ here.heard l kept | inr heard ↦ inr heard ];
   }
 
--- the row that a look-up finds
+-- a row that is looked up in a list of heard rows is a heard row
 pub heard_row_at : {g : Graph} {tables : List NodeTable} {node : ℕ} {all : List HeardRow} →
     All (IsHeardRow g tables node) all
     → (i : ℕ) (row : HeardRow) (list : List HeardRow) → list ≡ all → i < length list → row ≡ get_or list i row
@@ -116,21 +121,21 @@ heard_row_at {g = g} {tables = tables} {node = node} each i row list same l is =
     subst (IsHeardRow g tables node) (sym (is ∙ ap (λ (ys : List HeardRow). get_or ys i row) same))
     (each i row (omega (arith, l, ap length same)))
 
--- a column that begins with the literals of one whose frame has come by its time
+-- column `c` begins with the literals of column `d` of a heard row, whose frame has come by the time of `c`
 module _ {g : Graph} {tables : List NodeTable}
     {node : ℕ} {row : HeardRow} (is : IsHeardRow g tables node row) (c d : Column)
     (there : Contains (columns_of tables row.item) d) (come : d.time + row.delay ≤ c.time)
     (begins : take (length d.cube) c.cube ≡ d.cube) where
-  -- the longer cube is the shorter one and its own last literals
+  -- the cube of `c` is that of `d` and then its own last literals
   both_parts : d.cube ++ drop (length d.cube) c.cube ≡ c.cube
   both_parts = ap (λ front. front ++ drop (length d.cube) c.cube) (sym begins) ∙ take-append-drop (length d.cube) c.cube
 
-  -- where the longer cube matches, the shorter one does
+  -- wherever `c` matches, `d` does
   first_matches : (s : Scenario) → matches c.cube s ≡ true → matches d.cube s ≡ true
   first_matches s m = (and_parts _ _ (sym (list_all-append (holds s) d.cube (drop (length d.cube) c.cube))
       ∙ ap (λ cube. matches cube s) both_parts ∙ m)).0
 
-  -- if the literals behind these are heard, all are
+  -- if the last literals of `c` are heard, all are: the first ones are told by the frame of `d`
   pub begun_heard : ((l : Literal) → Contains (drop (length d.cube) c.cube) l → IsHeardIn g tables node c l) →
       IsAllHeard g tables node c
   begun_heard behind l h = elim (Contains-append_cases d.cube (drop (length d.cube) c.cube) l
@@ -143,14 +148,14 @@ module _ {g : Graph} {tables : List NodeTable}
         | inr rest ↦ behind l rest
       ]
 
--- the column at the only place is that at all
+-- if there is one place, the column there is the column at each place
 pub only_place : (columns : List Column) (places : List ℕ) (c : Column) → length places ≡ 1 →
     column_at columns (get_or places 0 0) ≡ c →
     All (λ i. column_at columns i ≡ c) places
 only_place columns places c one is k d l = subst (λ i. column_at columns i ≡ c)
     (get_or_default places 0 0 d (omega (arith, one)) ∙ ap (λ j. get_or places j d) (omega (arith, l, one))) is
 
--- what the frames of the column at all places tell
+-- if column `c` is at each place, a literal that its frame tells is told by the frames at all places
 pub told_alone : {value : Option ℕ} (columns : List Column) (places : List ℕ) (c : Column) (l : Literal) →
     All (λ i. column_at columns i ≡ c) places
     → (value ≡ Some l.variable) ⊎ IsToldIn c.cube l → IsTold value columns places l

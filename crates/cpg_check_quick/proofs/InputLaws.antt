@@ -1,4 +1,5 @@
--- V5 at an item, by its columns.
+-- V5 is sure at a start whose columns are late enough for its release and inputs, and at a send whose producer is
+-- always over before.
 use Rattle.std.proofs.Common.{ℕ, ◌+◌, ◌<◌, ◌≤◌, ◌≡◌, ◌⊎◌, Bool, true, false, cond, not, ◌||◌, List, [], ◌∷◌, ◌++◌, All}
 use Rattle.std.proofs.Common.{filter, get_or, length, take, Contains, refl, ap, ap₂, ◌∙◌, subst, arith, inl}
 use Rattle.std.proofs.Common.{inr, le-ltb}
@@ -29,8 +30,9 @@ use Rattle.cpg_check_quick.specs.Order.{IsBefore, IsOverBy, execution}
 use Rattle.cpg_violation.proofs.SureLaws.{sure_of}
 use Rattle.cpg_check_quick.proofs.Ends.{over_arrived, over_ended}
 
+-- the tables of all nodes
 module _ (g : Graph) (tables : List NodeTable) where
-  -- a start after its release and its live inputs
+  -- V5 is sure at a start none of whose columns is before the release, if each input is there by each column
   pub start_sure : (p : ℕ) → p < process_count g →
       ((c : Column) → Contains (columns_of tables p) c → (process_at g p).release ≤ c.time)
       → ((c : Column) (e : ℕ) → Contains (columns_of tables p) c → Contains (inputs g p) e →
@@ -42,8 +44,10 @@ module _ (g : Graph) (tables : List NodeTable) where
       (λ e h. let in_it = Contains-filter_parts (live g s.values) (inputs g p) e h in
       ap not (there c e k in_it.0 s law m in_it.1))))
 
+  -- the tables keep V1 to V3
   module _ (rules : AllHold g tables row_rules) where
-    -- a send whose producer is always over before it keeps V5
+    -- V5 is sure at a send whose producer is always over before: the producer is active where the send is, so it has
+    -- ended
     pub send_sure : WellFormed g → (x : ℕ) → x < item_count g → process_count g ≤ x →
         IsBefore g tables (producer g x) x →
         IsSure g tables Rule.Inputs x
@@ -52,8 +56,9 @@ module _ (g : Graph) (tables : List NodeTable) where
         ∙ ap not (over_ended g tables rules s law c.time (producer g x) (producer_within g formed x l)
         (made g s x l send (active_where g tables s law x l rules c k m)) (before s c law k m)))
 
+    -- a column of a start, and an input
     module _ (c : Column) (e : ℕ) where
-      -- what is by the column's time, by the kind of the input, is an input that is there
+      -- the input is there if its message has come, or its source has ended, by the column's time; `b` says which it is
       there_if : (s : Scenario) (b : Bool) → is_message g e ≡ b →
           is_by c.time (cond b (arrivals_of g tables s (message_item g e)) (ends_of g tables s (source g e))) ≡ true →
           input_is_there g tables s c.time e ≡ true
@@ -61,7 +66,7 @@ module _ (g : Graph) (tables : List NodeTable) where
           ap (λ b. is_by c.time (cond b (arrivals_of g tables s (message_item g e)) (ends_of g tables s (source g e))))
           m ∙ h
 
-      -- a message is there if its frame is over by the column's time
+      -- an input that is a message is there if the message is over by the column's time wherever that matches
       pub message_there : e < edge_count g → is_message g e ≡ true
           → ((s : Scenario) → IsScenario g s → matches c.cube s ≡ true → live g s.values e ≡ true →
           IsOverBy tables (slot_length g (home g (message_item g e))) (message_item g e) c.time s) →
@@ -69,14 +74,14 @@ module _ (g : Graph) (tables : List NodeTable) where
       message_there l sent over s law m a =
           there_if s true sent (over_arrived g tables rules s law c.time e l sent a (over s law m a))
 
-      -- a source on the node is there if its execution is over by the column's time
+      -- another input is there if the execution of its source is over by then
       pub source_there : is_message g e ≡ false → source g e < process_count g
           → ((s : Scenario) → IsScenario g s → matches c.cube s ≡ true → live g s.values e ≡ true →
           IsOverBy tables (execution g (source g e) s) (source g e) c.time s) → IsInputThere g tables c e
       source_there near l over s law m a = there_if s false near (over_ended g tables rules s law c.time (source g e) l
           (and_parts (active g s.values (source g e)) _ a).0 (over s law m a))
 
-      -- an input of either kind
+      -- an input of either kind is there if what it comes by is over by then
       input_there : e < edge_count g → source g e < process_count g →
           ((s : Scenario) → IsScenario g s → matches c.cube s ≡ true → live g s.values e ≡ true →
           IsInputOver g tables e c.time s) →
@@ -88,13 +93,13 @@ module _ (g : Graph) (tables : List NodeTable) where
           go true m = message_there l m (λ s law h a. (over s law h a).message m)
           go false m = source_there m from (λ s law h a. (over s law h a).source m)
 
-      -- one from a process that is always over before
+      -- an input is there if its source, on the same node, is always over before the process
       pub before_there : (p : ℕ) → source g e < process_count g → Contains (columns_of tables p) c →
           IsFromBefore g tables e p →
           IsInputThere g tables c e
       before_there p from k near = source_there near.near from (λ s law m a. near.before s c law k m)
 
-    -- inputs are there if each of them is over by the column's time
+    -- each of several inputs is there if what it comes by is over by the column's time wherever that matches
     pub inputs_there : WellFormed g → (c : Column) (edges : List ℕ) → All (λ e. e < edge_count g) edges
         → ((s : Scenario) → IsScenario g s → matches c.cube s ≡ true →
         All (λ e. live g s.values e ≡ true → IsInputOver g tables e c.time s) edges) →
@@ -102,7 +107,8 @@ module _ (g : Graph) (tables : List NodeTable) where
     inputs_there formed c edges known over i d h = input_there c (get_or edges i d) (known i d h)
         (formed.sources (get_or edges i d) (known i d h)) (λ s law m a. over s law m i d h a)
 
-    -- a start by its columns, and inputs that aren't known to be before
+    -- V5 is sure at a start whose columns are late enough for the release and for `others`, if the sources of its other
+    -- inputs are always over before
     pub start_late : WellFormed g → (p : ℕ) → p < process_count g → (release : ℕ) → release ≡ (process_at g p).release →
         (others : List ℕ)
         → ((e : ℕ) → Contains (inputs g p) e → Contains others e ⊎ IsFromBefore g tables e p) →
@@ -116,14 +122,15 @@ module _ (g : Graph) (tables : List NodeTable) where
           | inr near ↦ before_there c e p (formed.sources e (inputs_parts g p e h).0) k near
         ])
 
--- elements for which a fact holds, or that are kept
+-- the step of a loop over `edges` that keeps those for which a fact isn't known to hold: element `k` is the next one
+-- (`any` is only the default of `get_or`)
 module _ {T : Type 0} (fact : T → Type 0) (edges kept : List T) (k : ℕ) (any : T) (within : k < length edges) where
   -- one of the first k + 1 elements is one of the first k, or the next one
   one_of : (d : T) → Contains (take (k + 1) edges) d → Contains (take k edges) d ⊎ (get_or edges k any ≡ d)
   one_of d c = Contains-push_cases (take k edges) (get_or edges k any) d
       (subst (λ xs. Contains xs d) (take_more edges k any within) c)
 
-  -- with the next element kept, each of one element more is kept or the fact holds for it
+  -- if the next element is kept, each of one element more is kept or has the fact
   pub others_push : ((d : T) → Contains (take k edges) d → Contains kept d ⊎ fact d) → (d : T) →
       Contains (take (k + 1) edges) d →
       Contains (kept ++ get_or edges k any ∷ []) d ⊎ fact d
@@ -134,7 +141,7 @@ module _ {T : Type 0} (fact : T → Type 0) (edges kept : List T) (k : ℕ) (any
         inl (subst (λ z. Contains (kept ++ get_or edges k any ∷ []) z) q (Contains-push kept (get_or edges k any)))
   ]
 
-  -- the next element, if it is kept, is one of the list
+  -- if each kept element is one of the list, so it is when the next one is kept
   pub others_among : ((d : T) → Contains kept d → Contains edges d) → (d : T) →
       Contains (kept ++ get_or edges k any ∷ []) d →
       Contains edges d
@@ -143,7 +150,7 @@ module _ {T : Type 0} (fact : T → Type 0) (edges kept : List T) (k : ℕ) (any
     | inr q ↦ subst (Contains edges) q (Contains-get_or edges k any within)
   ]
 
-  -- if the fact holds for the next element, each of one element more is kept or the fact holds for it
+  -- if the next element has the fact, each of one element more is kept or has it
   pub others_skip : fact (get_or edges k any) → ((d : T) → Contains (take k edges) d → Contains kept d ⊎ fact d) →
       (d : T) → Contains (take (k + 1) edges) d →
       Contains kept d ⊎ fact d

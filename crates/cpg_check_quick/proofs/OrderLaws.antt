@@ -1,5 +1,5 @@
--- Items that are over before others begin: by the trees of their rows, by columns one after another, and by items
--- between.
+-- Which items are over before others begin: by the trees of their rows, by their columns one by one, and by an item
+-- between that is always active.
 use Rattle.std.proofs.Common.{ℕ, ◌+◌, ◌-◌, ◌<◌, ◌≤◌, ◌≡◌, ◌⊎◌, true, false, not, ◌&&◌, Bool, cond, List, [], ◌∷◌, ◌++◌}
 use Rattle.std.proofs.Common.{Option, None, Some, All, Contains, IfSome, length, get_or, take, drop, min}
 use Rattle.std.proofs.Common.{arith, refl, sym, ap, ◌∙◌, subst, inl, inr, Global, Vec}
@@ -36,7 +36,8 @@ use Rattle.cpg_check_quick.specs.Order.{execution, IsApart, IsApartAt, IsInSeque
 
 -- ---- spans
 
--- an execution is as long as its faults make it, and they are no more than there may be
+-- a span whose lengths are the durations with 0, 1, .. faults, up to the graph's most, is one of the process's
+-- executions: these last no longer with fewer faults
 pub span_of : (g : Graph) → process_count g ≤ 128 → (p : ℕ) → p < process_count g → (span : ItemSpan) →
     span.variable ≡ p
     → ((n : ℕ) → n ≤ MOST_FAULTS → get_or span.lengths n 0 ≡ duration g p (min g.faults n)) →
@@ -52,7 +53,7 @@ span_of g few p l span is lengths longest = record {
 
 -- ---- rows
 
--- the row that a look-up finds is its item's
+-- the row that is looked up at an item's number is the item's
 pub row_at : {lasts : ℕ → Scenario → ℕ} {g : Graph} {tables : List NodeTable} {rows : SpannedRows} →
     AreSpannedRows lasts g tables rows
     → (x : ℕ) (row : SpannedRow) (list : List SpannedRow) → list ≡ rows.list.items → x < length list →
@@ -61,13 +62,13 @@ row_at {lasts = lasts} {g = g} {tables = tables} {rows = rows} are x row list sa
     subst (IsSpannedRow g tables (lasts x) x) (sym (is ∙ ap (λ (ys : List SpannedRow). get_or ys x row) same))
     (are.each x row (omega (arith, l, ap length same)))
 
--- the rows so far, and one more
+-- the list has the rows of the first `n` items (`d` is only the default of `get_or`)
 pub record AreSoFar (lasts : ℕ → Scenario → ℕ) (g : Graph) (tables : List NodeTable) (n : ℕ)
     (list : List SpannedRow) : Type 0 where
   pub count : length list ≡ n
   pub each : (x : ℕ) (d : SpannedRow) → x < length list → IsSpannedRow g tables (lasts x) x (get_or list x d)
 
--- the row of the next item after those of the first ones makes the rows of one item more
+-- with the row of item `n` at its end, the list has the rows of one item more
 pub rows_more : (lasts : ℕ → Scenario → ℕ) (g : Graph) (tables : List NodeTable) (n : ℕ) (list : List SpannedRow)
     (row : SpannedRow) →
     AreSoFar lasts g tables n list →
@@ -87,10 +88,10 @@ rows_more lasts g tables n list row before here = record {
 
 -- ---- one column
 
--- what holds for the column at the tree's place holds for each that matches
+-- a tree of a row's columns, a scenario, and a fact of columns
 module _ {g : Graph} {columns : List Column} {tree : PlacesState} (is : IsRowTree g columns tree) (s : Scenario)
     (law : IsScenario g s) (fact : Column → Type 0) where
-  -- by the column at the scenario's place: no column matches without a place, and this one alone with it
+  -- if the tree leads the scenario to no place, no column matches; if it leads to one, only the column there does
   by_place : (o : Option ℕ) → place_at tree s ≡ o → IfSome o (λ i. fact (column_at columns i)) → (d : Column) →
       Contains columns d → matches d.cube s ≡ true → fact d
   by_place None e h d c m = absurd (none_matches is s law e d c m)
@@ -99,7 +100,7 @@ module _ {g : Graph} {columns : List Column} {tree : PlacesState} (is : IsRowTre
       let same : c.0 ≡ i = place_only is s law i c.0 e c.1 (ap (λ (d : Column). matches d.cube s) at ∙ m) in
       subst fact (ap (column_at columns) (sym same) ∙ at) h
 
-  -- a fact of the column at the scenario's place is one of each column that matches
+  -- so a fact of the column at the scenario's place is one of each column that matches
   pub each_told : IfSome (place_at tree s) (λ i. fact (column_at columns i)) → (d : Column) → Contains columns d →
       matches d.cube s ≡ true → fact d
   each_told h = by_place (place_at tree s) refl h
@@ -107,21 +108,22 @@ module _ {g : Graph} {columns : List Column} {tree : PlacesState} (is : IsRowTre
 -- the span of an item, and a scenario
 module _ {g : Graph} {lasts : Scenario → ℕ} {span : ItemSpan} (is : IsSpan g lasts span)
     {s : Scenario} (law : IsScenario g s) where
-  -- a start that is past by the span's length of some count is over by the time
+  -- an item that `IsPast` says to be over by a time is over by it
   pub past_over : (start time : ℕ) → IsPast span start time s → start + lasts s ≤ time
   past_over start time p = omega (arith, is.enough s p.count law p.most p.known, p.over)
 
 -- the row of an item, and a scenario
 module _ {g : Graph} {tables : List NodeTable} {lasts : Scenario → ℕ} {x : ℕ} {row : SpannedRow}
     (is : IsSpannedRow g tables lasts x row) {s : Scenario} (law : IsScenario g s) where
-  -- an item is over by a time if its last column and its longest length are
+  -- the item is over by a time, by whichever column it begins, if it would be by its last column, lasting longest
   pub early_over : (time : ℕ) → row.last + row.span.longest ≤ time → IsOverBy tables (lasts s) x time s
   early_over time h d c m =
       let last : d.time ≤ row.last =
       All-contains (λ (d : Column). d.time ≤ row.last) (columns_of tables x) d is.last c in
       omega (arith, h, last, is.span.longest s law)
 
-  -- by the first column, of what is before
+  -- what begins at `start` and lasts `other` is over by each of its columns, if it would be by the first, lasting
+  -- longer
   pub late_over : (start longest other : ℕ) → other ≤ longest → start + longest ≤ row.first → (d : Column) →
       Contains (columns_of tables x) d →
       start + other ≤ d.time
@@ -130,13 +132,14 @@ module _ {g : Graph} {tables : List NodeTable} {lasts : Scenario → ℕ} {x : �
       All-contains (λ (d : Column). row.first ≤ d.time) (columns_of tables x) d is.first c in
       omega (arith, l, h, first)
 
+  -- the row has a tree
   module _ (tree : PlacesState) (there : row.tree.now ≡ Some tree) where
-    -- the tree is one of the item's columns
+    -- it is a tree of the item's columns
     row_tree : IsRowTree g (columns_of tables x) tree
     row_tree = subst (λ (o : Option PlacesState). IfSome o (λ (t : PlacesState). IsRowTree g (columns_of tables x) t))
         there is.tree
 
-    -- an item is over by a time if it is past by then from the column at its tree's place
+    -- the item is over by a time if it is from the column at the scenario's place
     pub told_over : (time : ℕ) →
         IfSome (place_at tree s) (λ i. IsPast row.span (column_at row.columns.now i).time time s) →
         IsOverBy tables (lasts s) x time s
@@ -145,7 +148,8 @@ module _ {g : Graph} {tables : List NodeTable} {lasts : Scenario → ℕ} {x : �
         (subst (λ (columns : List Column).
         IfSome (place_at tree s) (λ i. IsPast row.span (column_at columns i).time time s)) is.columns h) d c m)
 
-    -- an item and another one are apart if one is past by the other's time from the column at the tree's place
+    -- the item and another one, which begins at `time`, are apart if they are with the item begun by the column at the
+    -- scenario's place
     pub told_apart : {other : Scenario → ℕ} {span : ItemSpan} → IsSpan g other span → (time : ℕ)
         → IfSome (place_at tree s) (λ i. IsPast row.span (column_at row.columns.now i).time time s ⊎
         IsPast span time (column_at row.columns.now i).time s) →
@@ -158,7 +162,7 @@ module _ {g : Graph} {tables : List NodeTable} {lasts : Scenario → ℕ} {x : �
           | inr p ↦ inr (past_over by law time d.time p)
         ]
 
--- the tree of an item's columns
+-- the row of an item that has a tree
 module _ {g : Graph} {tables : List NodeTable} {last : Scenario → ℕ} {x : ℕ} {row : SpannedRow}
     (is : IsSpannedRow g tables last x row) (tree : PlacesState) (there : row.tree.now ≡ Some tree) where
   -- the tree is one of the item's columns
@@ -166,25 +170,25 @@ module _ {g : Graph} {tables : List NodeTable} {last : Scenario → ℕ} {x : �
   its_tree = subst (λ (o : Option PlacesState). IfSome o (λ (t : PlacesState). IsRowTree g (columns_of tables x) t))
       there is.tree
 
--- what holds for the column that a look-up finds holds for the column at the place
+-- a fact of the column that is looked up at a place is one of the column at the place
 pub told_at : (fact : Column → Type 0) (columns : List Column) (i : ℕ) (c : Column) → i < length columns →
     c ≡ get_or columns i c → fact c →
     fact (column_at columns i)
 told_at fact columns i c l is h =
     subst fact (is ∙ sym (get_or_default columns i (record { time = 0; cube = [] }) c l)) h
 
--- what holds for the place of a scenario, from what holds for each place
+-- a fact of a place, if there is one, may be replaced by one that follows from it
 pub told_so : {P Q : ℕ → Type 0} (o : Option ℕ) → IfSome o P → ((i : ℕ) → P i → Q i) → IfSome o Q
 told_so None h f = tt
 told_so (Some i) h f = f i h
 
 -- ---- two trees
 
--- the row of an item with a tree, and a scenario
+-- the row of an item that has a tree, and a scenario
 module _ {g : Graph} {tables : List NodeTable} {lasts : Scenario → ℕ} {y : ℕ} {one : SpannedRow}
     (is : IsSpannedRow g tables lasts y one) {s : Scenario} (law : IsScenario g s) (own : PlacesState)
     (there : one.tree.now ≡ Some own) where
-  -- at the place of the scenario the item is over by a time, early or by its tree
+  -- the item is over by a time if `IsOverAt` says so of the scenario's place
   over_at : (time : ℕ) → IsOverAt one time (place_at own s) s → IsOverBy tables (lasts s) y time s
   over_at time h = elim h [
     | inl early ↦ early_over is law time early
@@ -195,12 +199,14 @@ module _ {g : Graph} {tables : List NodeTable} {lasts : Scenario → ℕ} {y : �
 module _ {g : Graph} {tables : List NodeTable}
     (lasts : ℕ → Scenario → ℕ) {long : Scenario → ℕ} {y x : ℕ} {one other : SpannedRow}
     (is : IsSpannedRow g tables (lasts y) y one) (by : IsSpannedRow g tables long x other) where
-  -- what is over by the first column of another is over before it
+  -- the one is over before the other, if it would be by the other's first time, begun by its last column and lasting
+  -- longest
   pub early_before : one.last + one.span.longest ≤ other.first → IsOver lasts g tables y x
   early_before h s c law here m = early_over is law c.time
       (omega (arith, h, All-contains (λ (d : Column). other.first ≤ d.time) (columns_of tables x) c by.first here))
 
-  -- an item that is over by the time of the column at each place of another's tree is over before it
+  -- and if it is over by the time of the other's column at each scenario's place, from its own column at the scenario's
+  -- place
   pub walked_before : (own tree : PlacesState) → one.tree.now ≡ Some own → other.tree.now ≡ Some tree
       → ((s : Scenario) → IsScenario g s →
       IfSome (place_at tree s) (λ i. IsOverAt one (column_at other.columns.now i).time (place_at own s) s)) →
@@ -214,8 +220,9 @@ module _ {g : Graph} {tables : List NodeTable}
 
 -- ---- columns one after another
 
+-- how long each item lasts, and the tables
 module _ (lasts : ℕ → Scenario → ℕ) (g : Graph) (tables : List NodeTable) where
-  -- an item that is over by each column's time is over before the column's item
+  -- items that are over by the time of each of an item's columns that matches are over before it
   pub over_all : (x : ℕ) (columns : List Column) (items : List ℕ) → columns ≡ columns_of tables x
       → ((s : Scenario) → IsScenario g s → All
       (λ (c : Column). matches c.cube s ≡ true → All (λ y. IsOverBy tables (lasts y s) y c.time s) items) columns)
@@ -225,7 +232,7 @@ module _ (lasts : ℕ → Scenario → ℕ) (g : Graph) (tables : List NodeTable
       columns c (each s law)
       (subst (λ (cs : List Column). Contains cs c) (sym all) here) m k d l
 
-  -- if each column's time is apart from each of some items, the items are apart from the column's item
+  -- items that are apart from an item at each of its columns that matches are apart from it
   pub apart_all : (x : ℕ) (columns : List Column) (items : List ℕ) → columns ≡ columns_of tables x
       → ((s : Scenario) → IsScenario g s → All (λ (c : Column). matches c.cube s ≡ true →
       All (λ y. IsApartAt tables (lasts y s) y (lasts x s) c.time s) items) columns)
@@ -235,16 +242,17 @@ module _ (lasts : ℕ → Scenario → ℕ) (g : Graph) (tables : List NodeTable
       All (λ y. IsApartAt tables (lasts y s) y (lasts x s) c.time s) items) columns c (each s law)
       (subst (λ (cs : List Column). Contains cs c) (sym all) here) m k d l
 
-  -- one item that is over before another is apart from it
+  -- an item that is over before another is apart from it
   pub over_apart : (y x : ℕ) → IsOver lasts g tables y x → IsApart lasts g tables y x
   over_apart y x h s c law here m d at n = inl (h s c law here m d at n)
 
-  -- an item is apart from one that is over before it
+  -- and so is one that another is over before
   pub apart_over : (y x : ℕ) → IsOver lasts g tables x y → IsApart lasts g tables y x
   apart_over y x h s c law here m d at n = inr (h s d law at n c here m)
 
 -- ---- items between
 
+-- tables that keep V3
 module _ (g : Graph) (tables : List NodeTable) (present : Holds g tables Rule.Present) where
   -- an item that is active has a column that matches
   pub has_column : (x : ℕ) → x < item_count g → (s : Scenario) → IsScenario g s →
@@ -265,8 +273,10 @@ module _ (g : Graph) (tables : List NodeTable) (present : Holds g tables Rule.Pr
       shown true false e h = absurd (both_ways true h refl)
       shown false b e h = absurd (both_ways false refl e)
 
+  -- how long each item lasts
   module _ (lasts : ℕ → Scenario → ℕ) where
-    -- what is over before an item that is always active is over before what comes after that
+    -- if `q` is over before `r`, `r` before `x`, and `r` is always active, then `q` is over before `x`: a column of `r`
+    -- matches in between
     pub before_over : (q r x : ℕ) → r < item_count g → IsUnconditional g r → IsOver lasts g tables q r →
         IsOver lasts g tables r x →
         IsOver lasts g tables q x
@@ -276,17 +286,14 @@ module _ (g : Graph) (tables : List NodeTable) (present : Holds g tables Rule.Pr
         let b : e.0.time + lasts r s ≤ c.time = k s c law here m e.0 e.1 e.2 in
         omega (arith, a, b)
 
-    -- an item at a place of an order: those from a start on are over before it, and the start is always active
-    -- `items`, `place`, `there`: an order and the item at one of its places; `start`, `within`: a place before it or
-    -- there
-    -- `always`: the item at the start, unless that is place 0, is active in each scenario
-    -- `here`: the items from the start on are over before the item at the place
+    -- the step of `are_in_sequence` at `place` of an order: the item at `start`, unless that is 0, is active in every
+    -- scenario (`always`), and the items from there on are over before the item at the place (`here`)
     module _ (items : List ℕ) (place start : ℕ) (there : place < length items) (within : start ≤ place)
         (always : 0 < start →
         (start < place) × IsUnconditional g (get_or items start 0) × (get_or items start 0 < item_count g))
         (here : All (λ y. IsOver lasts g tables y (get_or items place 0))
         (take (place - start) (drop start items))) where
-      -- an item from the start on is over before the one at the place
+      -- each item from the start on is over before the one at the place
       near : (i : ℕ) → start ≤ i → i < place → IsOver lasts g tables (get_or items i 0) (get_or items place 0)
       near i l h =
           let at : get_or (take (place - start) (drop start items)) (i - start) 0 ≡ get_or items i 0 =
@@ -296,7 +303,7 @@ module _ (g : Graph) (tables : List NodeTable) (present : Holds g tables Rule.Pr
           omega (arith, l, h, there, length-take (place - start) (drop start items), length-drop start items) in
           subst (λ y. IsOver lasts g tables y (get_or items place 0)) at (here (i - start) 0 long)
 
-      -- an item before the start is over before the start, and so before the one at the place
+      -- each item before the start is over before the one there, and so before the one at the place
       far : ((i j : ℕ) → i < j → j < place → IsOver lasts g tables (get_or items i 0) (get_or items j 0)) → (i : ℕ) →
           i < start →
           IsOver lasts g tables (get_or items i 0) (get_or items place 0)
@@ -305,7 +312,7 @@ module _ (g : Graph) (tables : List NodeTable) (present : Holds g tables Rule.Pr
           before_over (get_or items i 0) (get_or items start 0) (get_or items place 0) is.2 is.1 (before i start h is.0)
           (near start (omega arith) is.0)
 
-      -- if the items before a place are in sequence, those up to the place are
+      -- so if each item before the place is over before each later one before it, this is so up to the place
       pub in_sequence_more :
           ((i j : ℕ) → i < j → j < place → IsOver lasts g tables (get_or items i 0) (get_or items j 0)) →
           (i j : ℕ) → i < j → j < place + 1 →
@@ -319,7 +326,8 @@ module _ (g : Graph) (tables : List NodeTable) (present : Holds g tables Rule.Pr
             ])
       ]
 
--- the items before a place are in sequence, and the one at the start, if it isn't the first, is active in each scenario
+-- the invariant of `are_in_sequence`: each item before `place` is over before each later one before it (`before`), and
+-- the item at `start`, unless that is 0, is before the place and active in every scenario (`always`)
 pub record IsInSequenceTo (rows : SpannedRows) (items : List ℕ) (place start : ℕ) : Type 0 where
   pub within : start ≤ place
   pub always : (g : Graph) (tables : List NodeTable) (lasts : ℕ → Scenario → ℕ) → AreSpannedRows lasts g tables rows →
@@ -330,7 +338,8 @@ pub record IsInSequenceTo (rows : SpannedRows) (items : List ℕ) (place start :
       Holds g tables Rule.Present → (i j : ℕ) → i < j → j < place →
       IsOver lasts g tables (get_or items i 0) (get_or items j 0)
 
--- if those from the start on are over before the next item, the items up to that are in sequence
+-- the invariant holds after the step: the items from `start` on are over before the one at `place`, and `next` is
+-- `place` only if that one is active in every scenario
 pub sequence_step : (rows : SpannedRows) (items : List ℕ) (place start next : ℕ) (b : Bool) →
     next ≡ cond b place start →
     place < length items
@@ -374,7 +383,7 @@ sequence_step rows items place start next b is there here over now = record {
 
 -- ---- what an order tells
 
--- an item that stands before another in an order in which all follow one another is over before it
+-- if each item of an order is over before each later one, and `x` comes before `y` in it, `x` is over before `y`
 pub before_in : (lasts : ℕ → Scenario → ℕ) (g : Graph) (tables : List NodeTable) (order : List ℕ) (x y : ℕ) →
     IsInSequence lasts g tables order → StandsBefore order x y →
     IsOver lasts g tables x y
@@ -384,7 +393,7 @@ before_in lasts g tables order x y all stands =
     subst (λ a. IsOver lasts g tables a y) stands.is_first
     (subst (λ b. IsOver lasts g tables (get_or order stands.from 0) b) stands.is_second over)
 
--- an order is one of those that are known
+-- an order that is looked up among such orders is one of them
 pub order_at : (lasts : ℕ → Scenario → ℕ) (g : Graph) (tables : List NodeTable) (orders list : List (Vec ℕ Global))
     (node : ℕ) (order : Vec ℕ Global) →
     All (λ o. IsInSequence lasts g tables o.items) orders
@@ -394,7 +403,7 @@ order_at lasts g tables orders list node order all same l is =
     (sym (is ∙ ap (λ (os : List (Vec ℕ Global)). get_or os node order) same))
     (all node order (omega (arith, l, ap length same)))
 
--- an order of items in sequence may be added to such orders
+-- such an order may be added to them
 pub orders_more : (lasts : ℕ → Scenario → ℕ) (g : Graph) (tables : List NodeTable) (orders : List (Vec ℕ Global))
     (order : Vec ℕ Global) →
     All (λ o. IsInSequence lasts g tables o.items) orders →
@@ -405,12 +414,13 @@ orders_more lasts g tables orders order all here =
 
 -- ---- what is left to compare
 
+-- the loop of `untold`, which leaves the items that aren't known to be apart from `x`
 module _ (lasts : ℕ → Scenario → ℕ) (g : Graph) (tables : List NodeTable) (x : ℕ) where
-  -- known, or among those that are left
+  -- item `y` is left, or apart from `x`
   abbrev pub Known : List ℕ → ℕ → Type 0
   Known left y = Contains left y ⊎ IsApart lasts g tables y x
 
-  -- with the next item left, each of one item more is left or known to be apart
+  -- if the next item is left, each of one item more is left or apart
   pub known_push : (left items : List ℕ) (i : ℕ) → i < length items → All (Known left) (take i items) →
       All (Known (left ++ get_or items i 0 ∷ [])) (take (i + 1) items)
   known_push left items i l before = All-more (Known (left ++ get_or items i 0 ∷ [])) items i 0 l

@@ -1,4 +1,4 @@
--- What a node knows by the ends of its own processes.
+-- What the node of an item has heard by the ends of its own processes.
 use Rattle.std.proofs.Common.{ℕ, zero, suc, replicate, true≢false, ◌+◌, ◌<◌, ◌≤◌, ◌≡◌, Bool, true, false, List, All}
 use Rattle.std.proofs.Common.{Contains, get_or, length, sym, ap, ◌∙◌, subst, arith, inl, inr, refl, le-leb}
 use Rattle.std.proofs.Common.{leb-true}
@@ -30,14 +30,17 @@ use Rattle.cpg_check_quick.specs.Order.{IsBefore}
 use Rattle.cpg_check_quick.proofs.Ends.{by_parts, over_ended}
 use Rattle.cpg_check_quick.proofs.HeardLaws.{heard_end, heard_sure}
 
+-- an item of tables that keep V1 to V3
 module _ (g : Graph) (tables : List NodeTable) (rules : AllHold g tables row_rules) (x : ℕ) where
-  -- a process that is always over before an item
+  -- a process that is always over before the item has ended by the item's columns
   pub before_ended : (q : ℕ) → q < process_count g → IsBefore g tables q x → IsEndedBy g tables q x
   before_ended q l before s c law k m a = over_ended g tables rules s law c.time q l a (before s c law k m)
 
+  -- the item is one of the graph
   module _ (lx : x < item_count g) where
+    -- and a send, as its number is no process's
     module _ (send : process_count g ≤ x) where
-      -- the producer of a send that keeps V5
+      -- the producer of a send at which V5 is sure has ended by the send's columns
       pub producer_ended : IsSure g tables Rule.Inputs x → IsEndedBy g tables (producer g x) x
       producer_ended sure s c law k m a =
           let at : get_or (columns_of tables x) k.0 c ≡ c = k.2 in
@@ -51,6 +54,7 @@ module _ (g : Graph) (tables : List NodeTable) (rules : AllHold g tables row_rul
       pub earlier_ended : WellFormed g → (q : ℕ) → q < process_count g → IsBefore g tables q (producer g x) →
           IsSure g tables Rule.Inputs x →
           IsEndedBy g tables q x
+      -- the producer is active where the send is, so it has ended, and the process was over by its start
       earlier_ended formed q l before sure s c law k m a =
           let p : ℕ = producer g x in
           let ended =
@@ -59,16 +63,16 @@ module _ (g : Graph) (tables : List NodeTable) (rules : AllHold g tables row_rul
           over_ended g tables rules s law c.time q l a (λ e h n. let over = before s d.0 law d.1 d.2 e h n in
           omega (arith, over, d.3))
 
-    -- a column of the item, and a literal whose variable a literal of the column bounds at least as closely
+    -- a column of the item, and a literal that it implies
     module _ (few : process_count g ≤ 128) (c : Column) (l : Literal) (k : Contains (columns_of tables x) c)
         (h : IsToldIn c.cube l) where
-      -- the literal's process is active, and its number in range
+      -- where the column matches, the literal's process is active (V1)
       active_here : (s : Scenario) → IsScenario g s → matches c.cube s ≡ true →
           active g s.values (process_of_variable g l.variable) ≡ true
       active_here s law m = subst (λ v. active g s.values (process_of_variable g v) ≡ true) h.variable
           (literal_active g tables s law x lx rules c k m h.by h.there)
 
-      -- the literal holds where the column matches, since a literal of the column lies within it
+      -- where the column matches, the literal holds
       holds_here : (s : Scenario) → matches c.cube s ≡ true → holds s l ≡ true
       holds_here s m =
           let inside = and_parts _ _ (from_all (holds s) c.cube h.by m h.there) in
@@ -79,7 +83,7 @@ module _ (g : Graph) (tables : List NodeTable) (rules : AllHold g tables row_rul
           and_from _ _ (le-leb l.low (number_of s l.variable) (omega (arith, h.low, from)))
           (le-leb (number_of s l.variable) l.high (omega (arith, to, h.high)))
 
-      -- a literal on a variable of a process that has ended
+      -- the literal is heard if its process is on the node and has always ended by the item's columns
       pub ended_heard : IsOwnEnded g tables x l.variable → IsHeardIn g tables (home g x) c l
       ended_heard own s law m =
           let on : active g s.values own.process ≡ true =
@@ -87,7 +91,7 @@ module _ (g : Graph) (tables : List NodeTable) (rules : AllHold g tables row_rul
           heard_end g tables (home g x) c.time s l own.process few own.owner.within own.near
           (own.ended s c law k m on) own.owner.known own.owner.owner (holds_here s m)
 
-      -- a literal on a variable of a process that is over when the column matches
+      -- it is heard in a scenario if its process is on the node and over by the column's time
       pub over_heard : (s : Scenario) → IsScenario g s → matches c.cube s ≡ true →
           IsOwnOver g tables (home g x) l.variable c.time s →
           is_heard g.faults (facts g tables (home g x) s c.time) l ≡ true
@@ -98,7 +102,7 @@ module _ (g : Graph) (tables : List NodeTable) (rules : AllHold g tables row_rul
           (over_ended g tables rules s law c.time own.process own.owner.within on own.over) own.owner.known
           own.owner.owner (holds_here s m)
 
-    -- if all literals are on variables of processes that have ended, the rule holds
+    -- V4 is sure at the item if all literals of its columns are on variables whose processes have always ended
     pub known_sure : process_count g ≤ 128 → (known : List Bool) → AreOwnEnded g tables x known →
         All (λ (c : Column). All (λ (l : Literal). get_or known l.variable false ≡ true) c.cube) (columns_of tables x) →
         IsSure g tables Rule.Heard x
@@ -109,15 +113,17 @@ module _ (g : Graph) (tables : List NodeTable) (rules : AllHold g tables row_rul
         ended_heard few c l k (record { by = l; there = h; variable = refl; low = omega arith; high = omega arith })
         (own l.variable marked))
 
+    -- a column of the item
     module _ (few : process_count g ≤ 128) (c : Column) (k : Contains (columns_of tables x) c) where
-      -- a column's literal on such a variable
+      -- its literals on such variables are heard
       pub known_heard : (known : List Bool) → AreOwnEnded g tables x known → (l : Literal) → Contains c.cube l →
           get_or known l.variable false ≡ true →
           IsHeardIn g tables (home g x) c l
       known_heard known own l h marked = ended_heard few c l k
           (record { by = l; there = h; variable = refl; low = omega arith; high = omega arith }) (own l.variable marked)
 
-      -- the wanted literals, if those that are left are on variables of processes that are over
+      -- the wanted literals are heard, if the processes of those that are left are on the node and over by the column's
+      -- time
       pub left_heard : (wanted left : List Literal) → AreToldIn c.cube wanted →
           AreLeft g tables (home g x) c wanted left
           → ((s : Scenario) → IsScenario g s → matches c.cube s ≡ true →
@@ -129,7 +135,7 @@ module _ (g : Graph) (tables : List NodeTable) (rules : AllHold g tables row_rul
         | inr heard ↦ heard
       ]
 
--- with the next variable marked only if its process has ended, the marks are right
+-- the marks stay right when variable `k` is marked anew, if it is marked only where its process has always ended
 pub own_more : (g : Graph) (tables : List NodeTable) (x : ℕ) (known : List Bool) (k : ℕ) (b : Bool) → k < length known →
     AreOwnEnded g tables x known →
     OnTrue b (IsOwnEnded g tables x k) →

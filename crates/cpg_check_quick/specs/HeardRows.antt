@@ -1,4 +1,4 @@
--- What a node hears of others, and which literals it learns from that.
+-- The rows of items that a node hears, and which literals their frames tell it.
 use Rattle.std.specs.Prelude.{ℕ, ◌+◌, ◌≡◌, ◌≤◌, ◌<◌, ◌⊎◌, true, List, Option, None, Some, IfSome, All, Contains}
 use Rattle.cpg_base.specs.Bus.{slot_length}
 use Rattle.cpg_base.specs.Graph.{Graph, home, is_heard_by, item_at, item_count}
@@ -11,38 +11,42 @@ use Rattle.cpg_cube.specs.Column.{column_at}
 use Rattle.cpg_row_trees.specs.Trees.{IsRowTree}
 use Rattle.cpg_check_quick.specs.declared.heard_rows.HeardRow.{HeardRow}
 
--- an item that a node hears: its columns, their tree, how long its frames take, and the variable of the value that they
--- carry
+-- the row of an item that the node hears
 pub record IsHeardRow (g : Graph) (tables : List NodeTable) (node : ℕ) (row : HeardRow) : Type 0 where
+  -- the item is one of the graph
   pub item : row.item < item_count g
+  -- the node hears its frames
   pub heard : is_heard_by g node (item_at g row.item) ≡ true
+  -- the columns are those of the item in the tables
   pub columns : row.columns.now ≡ columns_of tables row.item
+  -- the tree is made of these columns
   pub tree : IsRowTree g (columns_of tables row.item) row.tree.now
-  -- a frame is there a slot of its node after its column's time
+  -- a frame is there a slot of the sender after its column's time
   pub delay : row.delay ≡ slot_length g (home g row.item)
-  -- if the frames carry a value, it is that of this variable
+  -- if `value` is a variable, each frame carries the scenario's number of it
   pub value : IfSome row.value
       (λ v. (s : Scenario) → Contains (frame_value s (item_at g row.item)) (exactly v (number_of s v)))
 
--- there is a place, and the frame of its column has come by a time
+-- there is a place, and the frame of the column there has come by `time`; it takes `delay`
 abbrev pub HasCome : List Column → ℕ → ℕ → Option ℕ → Type 0
 HasCome columns delay time None = ⊥
 HasCome columns delay time (Some i) = (column_at columns i).time + delay ≤ time
 
--- one of these literals bounds the variable at least as closely as another
+-- one of these literals implies `l`
 pub record IsToldIn (literals : List Literal) (l : Literal) : Type 0 where
-  -- the literal, on the same variable
+  -- that literal
   pub by : Literal
   pub there : Contains literals by
+  -- both literals are on one variable
   pub variable : by.variable ≡ l.variable
-  -- its range lies within the other's
+  -- the range of `by` lies within that of `l`
   pub low : l.low ≤ by.low
   pub high : by.high ≤ l.high
 
--- a frame carries the value that a literal speaks of, or the column at each of these places bounds it as closely
+-- the frames tell a literal: they carry the value that it is about, or the column at each of these places implies it
 abbrev pub IsTold : Option ℕ → List Column → List ℕ → Literal → Type 0
 IsTold value columns places l = (value ≡ Some l.variable) ⊎ All (λ i. IsToldIn (column_at columns i).cube l) places
 
--- one of some literals bounds each of others at least as closely
+-- `literals` imply each of `wanted`, one by one
 abbrev pub AreToldIn : List Literal → List Literal → Type 0
 AreToldIn literals wanted = (l : Literal) → Contains wanted l → IsToldIn literals l

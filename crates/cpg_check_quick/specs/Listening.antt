@@ -8,15 +8,16 @@ use Rattle.cpg_check_quick.specs.HeardRows.{IsHeardRow}
 use Rattle.cpg_check_quick.specs.Sequences.{AreSequences}
 use Rattle.cpg_check_quick.specs.declared.listening.Listener.{Listener}
 
--- the executions of the graph, the item's node, variables of own processes that have always ended, and what the node
--- hears
+-- the listener is that of item `x`
 pub record IsListener (tables : List NodeTable) (x : ℕ) (listener : Listener) : Type 0 where
+  -- the item is one of the graph
   pub item : x < item_count listener.admitted.now.graph
-  -- when the executions of the graph begin and end
+  -- the rows of all executions, and which follow one another
   pub sequences : AreSequences (execution listener.admitted.now.graph) listener.admitted.now.graph tables
       listener.sequences.now
+  -- the node is that of the item
   pub node : listener.node ≡ home listener.admitted.now.graph x
-  -- variables of processes of the node that have ended by the item's columns
+  -- marks of variables whose processes are on the node and have always ended by the item's columns
   pub known : AreOwnEnded listener.admitted.now.graph tables x listener.known
-  -- the rows of the items that the node hears
+  -- rows of items that the node hears
   pub heard_rows : All (IsHeardRow listener.admitted.now.graph tables listener.node) listener.heard_rows.items

@@ -20,12 +20,17 @@ use cpg_row_trees::Test;
 use cpg_tree::Space;
 use std::alloc::Global;
 
-/// Tests whether an item is over by a time from the column at a place, or another from that time by the column's.
+/// Tests whether an item that begins at the column at a place is over by `time`, or another one that begins at `time`
+/// is over by that column.
 #[derive(Drop)]
 struct TimeParts<'a> {
+    /// The columns of the first item.
     columns: &'a [Column],
+    /// How long the first item lasts.
     span: &'a ItemSpan,
+    /// How long the other one lasts.
     other: &'a ItemSpan,
+    /// When the other one begins.
     time: u64,
 }
 
@@ -33,10 +38,13 @@ impl<'a> Test for TimeParts<'a> {
     ghost guarantees = { λ test place s. IfSome place (λ i. IsPast test.span.now (column_at test.columns.now i).time test.time s ⊎
         IsPast test.other.now test.time (column_at test.columns.now i).time s) };
 
+    /// Whether the test passes at a place in all scenarios of a space. False guarantees nothing.
     fn passes(&self, place: Option<u32>, space: &Space) -> bool {
+        // no column matches, so the first item doesn't begin
         let Some(place) = place else {
             return true;
         };
+        // a row's tree has no place beyond the columns
         let Some(column) = self.columns.get(place as usize) else {
             return false;
         };
@@ -48,7 +56,8 @@ impl<'a> Test for TimeParts<'a> {
 }
 
 impl<'a> SpannedRow<'a> {
-    /// Whether all columns are so early or so late that the item and another, which is at a time, are apart.
+    /// Whether the item and another, which begins at `time`, are apart whichever column matches: the last column is so
+    /// early, or the first so late. False guarantees nothing.
     fn is_clear(&self, other: &SpannedRow<'_>, time: u64) -> bool
         ensures { OnTrue result ((g : Graph) (tables : List NodeTable) (lasts : ℕ → Scenario → ℕ) (y x : ℕ) (s : Scenario) →
             IsSpannedRow g tables (lasts y) y self.now → IsSpannedRow g tables (lasts x) x other.now → IsScenario g s →
@@ -57,13 +66,15 @@ impl<'a> SpannedRow<'a> {
         if self.is_early(time) {
             return true;
         }
+        // some column may be before the time
         if self.first < time {
             return false;
         }
         other.span.longest <= self.first - time
     }
 
-    /// Whether the item and another, which is at a time, are apart in the scenarios of a space.
+    /// Whether the item and another, which begins at `time`, are apart in the scenarios of a space. False guarantees
+    /// nothing.
     fn is_apart(&self, other: &SpannedRow<'_>, space: &Space, time: u64) -> bool
         ensures { OnTrue result ((g : Graph) (tables : List NodeTable) (lasts : ℕ → Scenario → ℕ) (y x : ℕ) (s : Scenario) →
             IsSpannedRow g tables (lasts y) y self.now → IsSpannedRow g tables (lasts x) x other.now → IsScenario g s → IsInSpace space.now s →
@@ -72,6 +83,7 @@ impl<'a> SpannedRow<'a> {
         if self.is_clear(other, time) {
             return true;
         }
+        // without a tree it isn't known which columns match in the space
         let Some(tree) = self.tree else {
             return false;
         };
@@ -86,14 +98,15 @@ impl<'a> SpannedRow<'a> {
 }
 
 impl<'a> SpannedRows<'a> {
-    /// Whether all columns of each of these items are so early or so late that it and another, which is at a time, are
-    /// apart.
+    /// Whether each of these items and another, which begins at `time`, are apart whichever columns match. False
+    /// guarantees nothing.
     fn are_clear(&self, items: &[u32], other: &SpannedRow<'_>, time: u64) -> bool
         ensures { OnTrue result ((g : Graph) (tables : List NodeTable) (lasts : ℕ → Scenario → ℕ) (x : ℕ) (s : Scenario) →
             AreSpannedRows lasts g tables self.now → IsSpannedRow g tables (lasts x) x other.now → IsScenario g s →
             All (λ y. IsApartAt tables (lasts y s) y (lasts x s) time s) items.now) }
     {
         for item in items {
+            // nothing is known of an item without a row
             let Some(row) = self.list.get(*item as usize) else {
                 return false;
             };
@@ -104,13 +117,15 @@ impl<'a> SpannedRows<'a> {
         true
     }
 
-    /// Whether each of these items and another, which is at a time, are apart in the scenarios of a space.
+    /// Whether each of these items and another, which begins at `time`, are apart in the scenarios of a space. False
+    /// guarantees nothing.
     fn are_apart_in(&self, items: &[u32], other: &SpannedRow<'_>, space: &Space, time: u64) -> bool
         ensures { OnTrue result ((g : Graph) (tables : List NodeTable) (lasts : ℕ → Scenario → ℕ) (x : ℕ) (s : Scenario) →
             AreSpannedRows lasts g tables self.now → IsSpannedRow g tables (lasts x) x other.now → IsScenario g s → IsInSpace space.now s →
             All (λ y. IsApartAt tables (lasts y s) y (lasts x s) time s) items.now) }
     {
         for item in items {
+            // nothing is known of an item without a row
             let Some(row) = self.list.get(*item as usize) else {
                 return false;
             };
@@ -121,23 +136,26 @@ impl<'a> SpannedRows<'a> {
         true
     }
 
-    /// Whether each of these items and another at one of its columns are apart, wherever that matches.
+    /// Whether each of these items and another, which begins by this column, are apart wherever the column matches.
+    /// False guarantees nothing.
     fn are_apart_at(&self, items: &[u32], other: &SpannedRow<'_>, column: &Column) -> bool
         ensures { OnTrue result ((g : Graph) (tables : List NodeTable) (lasts : ℕ → Scenario → ℕ) (x : ℕ) (s : Scenario) →
             AreSpannedRows lasts g tables self.now → IsSpannedRow g tables (lasts x) x other.now → IsScenario g s →
             matches column.now.cube s ≡ true → All (λ y. IsApartAt tables (lasts y s) y (lasts x s) column.now.time s) items.now) }
     {
+        // mostly the times alone show it
         if self.are_clear(items, other, column.time) {
             return true;
         }
         let mut space = self.everywhere;
+        // no scenario matches the column
         if !space.narrow_to(column.cube.literals()) {
             return true;
         }
         self.are_apart_in(items, other, &space, column.time)
     }
 
-    /// Whether each of these items and another are apart wherever a column of each matches.
+    /// Whether each of these items and another are apart wherever a column of each matches. False guarantees nothing.
     fn are_apart(&self, items: &[u32], other: &SpannedRow<'_>) -> bool
         ensures { OnTrue result ((g : Graph) (tables : List NodeTable) (lasts : ℕ → Scenario → ℕ) (x : ℕ) →
             AreSpannedRows lasts g tables self.now → IsSpannedRow g tables (lasts x) x other.now → All (λ y. IsApart lasts g tables y x) items.now) }
@@ -152,7 +170,7 @@ impl<'a> SpannedRows<'a> {
 }
 
 impl<'a> Sequences<'a> {
-    /// Those of these items of a node that the order doesn't show to be apart from another.
+    /// Those of these items of a node that aren't known to be apart from another by the sequence of the node's items.
     fn untold(
         &self,
         alloc: Global,
@@ -165,6 +183,7 @@ impl<'a> Sequences<'a> {
     {
         let mut left = Vec::new(alloc);
         for item in items {
+            // one of the two is always over before the other begins
             if self.is_before(node, *item, other) {
                 continue;
             }
@@ -176,7 +195,8 @@ impl<'a> Sequences<'a> {
         Ok(left)
     }
 
-    /// Whether each of these items of a node and another are apart wherever a column of each matches.
+    /// Whether each of these items of a node and another are apart wherever a column of each matches. False guarantees
+    /// nothing.
     pub(crate) fn are_apart(
         &self,
         alloc: Global,
@@ -190,6 +210,7 @@ impl<'a> Sequences<'a> {
         let left = self.untold(alloc, node, items, other)?;
         match self.rows.list.get(other as usize) {
             Some(row) => Ok(self.rows.are_apart(left.as_slice(), row)),
+            // nothing is known of an item without a row
             None => Ok(false),
         }
     }

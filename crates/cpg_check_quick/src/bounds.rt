@@ -1,14 +1,15 @@
-//! What a node has to hear of literals: lows and highs, which it may hear from different items.
+//! What a node has to hear of literals: their lows and their highs, which it may hear from different items.
 ghost use Rattle.std.specs.Prelude.{◌≡◌, ◌++◌, if◌then◌else◌, IfOk, [], flat_map};
 ghost use Rattle.cpg_check_quick.specs.Bounds.{bounds_of, high_of, low_of, unknown_bounds};
 
 use cpg_base::{OutOfMemory, top};
 use cpg_cube::{Literal, VARIABLES};
 
-/// Adds the low of a literal, if it isn't 0.
+/// Adds the low of a literal, as the literal of all numbers from it on, unless it is 0.
 fn push_low(k: u8, literal: &Literal, bounds: &mut Vec<Literal>) -> Result<(), OutOfMemory>
     ensures { IfOk result (λ _. bounds.new.items ≡ bounds.old.items ++ low_of k literal.now) }
 {
+    // every number is at least 0
     if literal.low == 0 {
         return Ok(());
     }
@@ -20,10 +21,12 @@ fn push_low(k: u8, literal: &Literal, bounds: &mut Vec<Literal>) -> Result<(), O
     Ok(())
 }
 
-/// Adds its high, if the variable may be above it.
+/// Adds the high of a literal, as the literal of all numbers up to it, if the variable may be above it with at most `k`
+/// faults.
 fn push_high(k: u8, literal: &Literal, bounds: &mut Vec<Literal>) -> Result<(), OutOfMemory>
     ensures { IfOk result (λ _. bounds.new.items ≡ bounds.old.items ++ high_of k literal.now) }
 {
+    // no number is above it
     if top(k, literal.variable) <= literal.high {
         return Ok(());
     }
@@ -35,7 +38,8 @@ fn push_high(k: u8, literal: &Literal, bounds: &mut Vec<Literal>) -> Result<(), 
     Ok(())
 }
 
-/// Adds both, unless a node knows the literal.
+/// Adds the low and the high of a literal, as far as they leave out a number; nothing if the node knows the variable's
+/// number.
 fn push_unknown(
     k: u8,
     is_known: bool,
@@ -52,8 +56,8 @@ fn push_unknown(
     Ok(())
 }
 
-/// Lists the bounds of the literals on variables that aren't marked, in scenarios of at most `k` faults, in place of what the
-/// list held.
+/// Writes to `bounds`, in place of what is there, the lows and highs of the literals on variables that aren't marked as
+/// known, as far as they leave out a number that a variable may have with at most `k` faults.
 pub(crate) fn list_unknown(
     k: u8,
     known: &[bool; VARIABLES],

@@ -1,4 +1,4 @@
-//! Whether what items wait for is there by the times of their columns.
+//! Whether what items wait for is there by the times of their columns, by the rows of executions and frames.
 ghost use Rattle.std.specs.Prelude.{◌≡◌, ◌<◌, ◌⊎◌, ℕ, All, Contains, IfOk, IfSome, List, true};
 ghost use Rattle.std.specs.Bool.{OnTrue};
 ghost use Rattle.cpg_base.specs.Activity.{live};
@@ -20,24 +20,29 @@ use cpg_tree::Space;
 use cpg_violation::is_refused;
 use std::alloc::Global;
 
-/// The inputs of each process, with what is known of executions and of frames.
+/// The inputs of each process, with the rows of what they come by.
 #[derive(Drop)]
 pub(crate) struct InputRows<'a> {
+    /// The graph of the rows.
     pub(crate) admitted: &'a Admitted,
+    /// The inputs of each process.
     pub(crate) links: Links,
+    /// The rows of all executions, and which follow one another on each node.
     pub(crate) sequences: &'a Sequences<'a>,
+    /// The rows of all items, with how long their frames take.
     pub(crate) frames: &'a SpannedRows<'a>,
 }
 
 impl<'a> InputRows<'a> {
-    /// The row of what an input comes from: the message, or the start of the source on the same node.
+    /// The row of what an input comes by: its message if it has one, and otherwise the execution of its source, on the
+    /// same node. `None` only if there are too few rows.
     fn row(&self, edge: u32) -> Option<&SpannedRow<'a>>
         requires edge { edge < edge_count self.now.admitted.now.graph }
         ensures { (tables : List NodeTable) → AreInputRows self.now.admitted.now.graph tables self.now →
             IfSome result (λ c. IsInputRow self.now.admitted.now.graph tables edge c.now) }
     {
         let problem = self.admitted.problem();
-        // the message's item stands behind the starts, at the number of its edge
+        // messages are numbered after the starts
         if problem.is_message(edge) {
             let item = problem.processes().len() + edge as usize;
             return self.frames.list.get(item);
@@ -45,7 +50,8 @@ impl<'a> InputRows<'a> {
         self.sequences.rows.list.get(problem.source(edge) as usize)
     }
 
-    /// Whether what an input comes from is over by a time, by its last column.
+    /// Whether what an input comes by is over by a time even if it begins by its last column and lasts longest. False
+    /// guarantees nothing.
     fn is_early(&self, edge: u32, time: u64) -> bool
         requires edge { edge < edge_count self.now.admitted.now.graph }
         ensures { OnTrue result ((tables : List NodeTable) (s : Scenario) → AreInputRows self.now.admitted.now.graph tables self.now →
@@ -57,14 +63,15 @@ impl<'a> InputRows<'a> {
         }
     }
 
-    /// Whether what an input comes from is over by a time in those scenarios of a space in which the input is live.
+    /// Whether what an input comes by is over by a time in those scenarios of a space in which the input is live. False
+    /// guarantees nothing.
     fn is_over(&self, edge: u32, space: &Space, time: u64) -> bool
         requires edge { edge < edge_count self.now.admitted.now.graph }
         ensures { OnTrue result ((tables : List NodeTable) (s : Scenario) → AreInputRows self.now.admitted.now.graph tables self.now →
             IsScenario self.now.admitted.now.graph s → IsInSpace space.now s → live self.now.admitted.now.graph s.values edge ≡ true →
             IsInputOver self.now.admitted.now.graph tables edge time s) }
     {
-        // the edge isn't live in the space
+        // the edge is live in no scenario of the space
         if is_refused(self.admitted.problem(), edge, space) {
             return true;
         }
@@ -74,7 +81,8 @@ impl<'a> InputRows<'a> {
         }
     }
 
-    /// Whether each of these inputs is there by a time, by its last column.
+    /// Whether what each of these inputs comes by is over by a time even if it begins by its last column and lasts
+    /// longest. False guarantees nothing.
     fn are_early(&self, edges: &[u32], time: u64) -> bool
         requires edges { All (λ e. e < edge_count self.now.admitted.now.graph) edges.now }
         ensures { OnTrue result ((tables : List NodeTable) (s : Scenario) → AreInputRows self.now.admitted.now.graph tables self.now →
@@ -88,7 +96,8 @@ impl<'a> InputRows<'a> {
         true
     }
 
-    /// Whether each of these inputs that is live in the scenarios of a space is there by a time.
+    /// Whether what each of these inputs comes by is over by a time in those scenarios of a space in which the input is
+    /// live. False guarantees nothing.
     fn are_over(&self, edges: &[u32], space: &Space, time: u64) -> bool
         requires edges { All (λ e. e < edge_count self.now.admitted.now.graph) edges.now }
         ensures { OnTrue result ((tables : List NodeTable) (s : Scenario) → AreInputRows self.now.admitted.now.graph tables self.now →
@@ -103,15 +112,16 @@ impl<'a> InputRows<'a> {
         true
     }
 
-    /// Whether these inputs are there by the time of a column wherever it matches and they are live.
+    /// Whether each of these inputs is there by the time of a column wherever the column matches and the input is live.
+    /// False guarantees nothing.
     fn are_there(&self, edges: &[u32], column: &Column) -> bool
         requires edges { All (λ e. e < edge_count self.now.admitted.now.graph) edges.now }
         ensures { OnTrue result ((tables : List NodeTable) → AreInputRows self.now.admitted.now.graph tables self.now →
             AllHold self.now.admitted.now.graph tables row_rules → All (IsInputThere self.now.admitted.now.graph tables column.now) edges.now) }
     {
-        // called for its contract: the graph is admitted
+        // called for its clause alone that the graph is admitted
         let _problem = self.admitted.problem();
-        // known without the column's cube
+        // mostly the times alone show it
         if self.are_early(edges, column.time) {
             return true;
         }
@@ -123,7 +133,8 @@ impl<'a> InputRows<'a> {
         self.are_over(edges, &space, column.time)
     }
 
-    /// Whether each of these columns is no earlier than a release, nor than these inputs.
+    /// Whether each of these columns is no earlier than a release, and each of these inputs is there by then wherever
+    /// the column matches and the input is live. False guarantees nothing.
     pub(crate) fn are_late_enough(&self, edges: &[u32], release: u64, columns: &[Column]) -> bool
         requires edges { All (λ e. e < edge_count self.now.admitted.now.graph) edges.now }
         ensures { OnTrue result ((tables : List NodeTable) → AreInputRows self.now.admitted.now.graph tables self.now →
@@ -140,7 +151,8 @@ impl<'a> InputRows<'a> {
         true
     }
 
-    /// Whether an input of a process comes from the same node, from a process that is always over before.
+    /// Whether an input of a process comes from the same node, and its source is known to be over always before the
+    /// process begins.
     fn is_from_before(&self, edge: u32, process: u32) -> bool
         requires edge { edge < edge_count self.now.admitted.now.graph }
         requires process { process < process_count self.now.admitted.now.graph }
@@ -148,7 +160,7 @@ impl<'a> InputRows<'a> {
             IsFromBefore self.now.admitted.now.graph tables edge process) }
     {
         let problem = self.admitted.problem();
-        // it comes from another node
+        // its source is on another node
         if problem.is_message(edge) {
             return false;
         }
@@ -157,8 +169,8 @@ impl<'a> InputRows<'a> {
             .is_before(node, problem.source(edge), process)
     }
 
-    /// Those of these inputs of a process that aren't known to come from the same node, from a process that is always over
-    /// before.
+    /// Those of these inputs of a process that `is_from_before` doesn't show to be there by every column of the
+    /// process.
     pub(crate) fn others(
         &self,
         alloc: Global,
@@ -173,7 +185,6 @@ impl<'a> InputRows<'a> {
     {
         let mut others = Vec::new(alloc);
         for edge in edges {
-            // this input needs no further test
             if self.is_from_before(*edge, process) {
                 continue;
             }
@@ -182,7 +193,8 @@ impl<'a> InputRows<'a> {
         Ok(others)
     }
 
-    /// Whether the producer of a send is always over before each of its columns.
+    /// Whether the producer of a send has ended by the time of the send, wherever a column of each matches. False
+    /// guarantees nothing.
     pub(crate) fn is_after_producer(&self, item: u32) -> bool
         requires item { item < item_count self.now.admitted.now.graph }
         ensures { OnTrue result ((tables : List NodeTable) → AreInputRows self.now.admitted.now.graph tables self.now →

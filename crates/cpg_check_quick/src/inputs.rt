@@ -1,4 +1,5 @@
-//! V5: at a start the release has come and the live inputs have arrived; at a send the producer has ended.
+//! The quick test of V5: at a start the release has come and the live inputs are there; at a send the producer has
+//! ended.
 ghost use Rattle.std.specs.Prelude.{◌≡◌, ◌<◌, IfOk, List};
 ghost use Rattle.std.specs.Bool.{OnTrue};
 ghost use Rattle.cpg_base.specs.Graph.{item_count, process_count};
@@ -22,7 +23,7 @@ use cpg_rules::Admitted;
 use cpg_table::Tables;
 use std::alloc::Global;
 
-/// Whether the columns of a start are no earlier than its release and its live inputs.
+/// Whether V5 is known to hold at a start, which has these columns. The caller passes its process.
 fn is_start_sure(
     alloc: Global,
     input_rows: &InputRows<'_>,
@@ -41,7 +42,7 @@ fn is_start_sure(
     Ok(input_rows.are_late_enough(others.as_slice(), release, columns))
 }
 
-/// Whether a row keeps the rule.
+/// Whether V5 is known to hold at an item, which has these columns.
 fn is_sure(
     alloc: Global,
     input_rows: &InputRows<'_>,
@@ -54,6 +55,7 @@ fn is_sure(
         AllHold input_rows.now.admitted.now.graph tables row_rules → columns.now ≡ columns_of tables item →
         IsSure input_rows.now.admitted.now.graph tables Rule.Inputs item)) }
 {
+    // a message or a broadcast waits for its producer alone
     if item as usize >= input_rows.admitted.problem().processes().len() {
         return Ok(input_rows.is_after_producer(item));
     }
@@ -61,7 +63,7 @@ fn is_sure(
     Ok(sure)
 }
 
-/// The items that have no column too early for what it waits for.
+/// A mark for each item, by number: whether V5 is known to hold there. It may hold at one that isn't marked, too.
 pub(crate) fn inputs_marks(
     alloc: Global,
     admitted: &Admitted,

@@ -1,5 +1,5 @@
-//! Quick tests by rows, of tables that keep V1 to V3: which items keep a rule of V4 to V9 in every scenario. What isn't marked
-//! may keep it too.
+//! Quick tests, row by row, of tables that keep V1 to V3: at which items a rule from V4 to V9 is known to hold in every
+//! scenario. It may hold at others, too.
 //!
 //! | rule | judged in | with |
 //! |---|---|---|
@@ -10,8 +10,9 @@
 //! | V8, frozen times | `cpg_violation` (`quick_frozen`) | |
 //! | V9, dues | `cpg_violation` (`quick_due`) | |
 //!
-//! `times` has all their marks. `spanned_rows` has the rows, each with the `span` for which its item lasts; `before` says what
-//! is over when another begins, and `sequences` in which order the items of a node follow one another.
+//! `times` puts all marks together. `spanned_rows` has the rows, each with its item's `span`, which says how long that
+//! lasts; `before` says which items are over when others begin, and `sequences` in which order the items of a node
+//! follow one another.
 #![tactic(auto)]
 
 mod apart;

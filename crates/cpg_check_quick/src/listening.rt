@@ -1,4 +1,4 @@
-//! What the node of an item knows by the times of the item's columns.
+//! Whether the node of an item has heard all literals of the item's columns by their times.
 ghost use Rattle.std.specs.Prelude.{◌≡◌, ◌<◌, ℕ, All, Contains, IfOk, IfSome, List, false, get_or, true};
 ghost use Rattle.std.specs.Bool.{OnTrue};
 ghost use Rattle.cpg_base.specs.Graph.{Graph, IsVariable, item_count, process_count};
@@ -27,7 +27,7 @@ use cpg_violation::has_come;
 use std::alloc::Global;
 use std::mem;
 
-/// The process that a variable belongs to.
+/// The process whose count or value a variable is; `None` if it isn't a variable of the graph.
 fn owner(problem: &Problem, variable: u8) -> Option<u32>
     ensures { IfSome result (IsOwner problem.now variable) }
 {
@@ -49,8 +49,9 @@ fn owner(problem: &Problem, variable: u8) -> Option<u32>
     }
 }
 
-/// Whether a process on an item's node has always ended by the item's columns: before it in sequence, or by the end of the
-/// producer of a send that keeps V5.
+/// Whether a process on an item's node is known to have ended by the item's columns: it comes before the item, or
+/// before its producer, in the sequence of the node, or is the producer itself. `is_sent_in_time` is true only if V5 is
+/// known to hold at the item. False guarantees nothing.
 fn has_ended(
     admitted: &Admitted,
     sequences: &Sequences<'_>,
@@ -66,11 +67,11 @@ fn has_ended(
 {
     let problem = admitted.problem();
     let node = problem.node_of(process);
-    // the item is a start: the process has to come before it in sequence
+    // a start: the process has to come before it in the sequence
     if (item as usize) < problem.processes().len() {
         return sequences.is_before(node, process, item);
     }
-    // a send whose producer may end later than its columns says nothing
+    // a send may be before its producer's end
     if !is_sent_in_time {
         return false;
     }
@@ -82,7 +83,8 @@ fn has_ended(
     sequences.is_before(node, process, producer)
 }
 
-/// Whether a variable's process is on an item's node and has always ended by the item's columns.
+/// Whether a variable's process is on an item's node and is known to have ended by the item's columns. False guarantees
+/// nothing.
 fn is_own_ended(
     admitted: &Admitted,
     sequences: &Sequences<'_>,
@@ -96,17 +98,19 @@ fn is_own_ended(
         IsOwnEnded admitted.now.graph tables item variable) }
 {
     let problem = admitted.problem();
+    // not a variable of the graph
     let Some(process) = owner(problem, variable) else {
         return false;
     };
-    // the process is on another node
+    // a node hears only its own processes end
     if problem.node_of(process) != problem.home(item) {
         return false;
     }
     has_ended(admitted, sequences, item, is_sent_in_time, process)
 }
 
-/// Marks of the variables whose process is on an item's node and has always ended by the item's columns, by number.
+/// A mark for each variable, by number: whether its process is on an item's node and is known to have ended by the
+/// item's columns.
 pub(crate) fn own_ended(
     admitted: &Admitted,
     sequences: &Sequences<'_>,
@@ -125,7 +129,8 @@ pub(crate) fn own_ended(
     known
 }
 
-/// Whether all literals are on marked variables. It never stops early, so that the loop is taken in larger steps.
+/// Whether all literals are on known variables. The loop never stops early, so that a compiler can take several at a
+/// step.
 fn are_known(known: &[bool; VARIABLES], literals: &[Literal]) -> bool
     ensures { OnTrue result (All (λ l. get_or known.now l.variable false ≡ true) literals.now) }
 {
@@ -136,7 +141,7 @@ fn are_known(known: &[bool; VARIABLES], literals: &[Literal]) -> bool
     are_known
 }
 
-/// Whether the variables of literals that rise are all below one, by the last.
+/// Whether the variables of these literals, which rise, are all below one: the last is, or there is none.
 fn are_below(literals: &[Literal], variable: usize) -> bool
     requires { IsRising literals.now }
     ensures { OnTrue result (All (λ l. l.variable < variable) literals.now) }
@@ -147,7 +152,7 @@ fn are_below(literals: &[Literal], variable: usize) -> bool
     }
 }
 
-/// How many variables from the first on are marked without a gap.
+/// How many variables, from 0 on, are marked before the first that isn't.
 fn marked_from_start(known: &[bool; VARIABLES]) -> usize
     ensures marked { (v : ℕ) → v < result → get_or known.now v false ≡ true }
     ensures gap { get_or known.now result false ≡ false }
@@ -160,14 +165,13 @@ fn marked_from_start(known: &[bool; VARIABLES]) -> usize
     VARIABLES
 }
 
-/// Whether all literals of a cube are on known variables, the first `first` variables being known. This is found at once
-/// if the last literal is on one of these, as the variables rise.
+/// Whether all literals of a cube are on known variables. The variables below `first` are known, so a look at the last
+/// literal is mostly enough.
 fn is_cube_known(known: &[bool; VARIABLES], first: usize, cube: &Cube) -> bool
     requires { (v : ℕ) → v < first → get_or known.now v false ≡ true }
     ensures { OnTrue result (All (λ l. get_or known.now l.variable false ≡ true) cube.now) }
 {
     let literals = cube.literals();
-    // the last literal is on one of the first variables, so all are
     if are_below(literals, first) {
         return true;
     }
@@ -187,11 +191,12 @@ pub(crate) fn are_all_known(known: &[bool; VARIABLES], columns: &[Column]) -> bo
     true
 }
 
-/// Whether literals begin with others, and those behind them are all on known variables.
+/// Whether `literals` begin with `others`, and all after these are on known variables.
 fn begin_with(known: &[bool; VARIABLES], literals: &[Literal], others: &[Literal]) -> bool
     ensures { OnTrue result (BeginsWith known.now literals.now others.now) }
 {
     let count = others.len();
+    // too few to begin with all the others
     if literals.len() < count {
         return false;
     }
@@ -201,19 +206,23 @@ fn begin_with(known: &[bool; VARIABLES], literals: &[Literal], others: &[Literal
     are_same_literals(&literals[..count], others)
 }
 
-/// What the node of an item knows by the item's columns: the variables of its own processes that have always ended, and
-/// what it hears.
+/// What the node of an item may have heard by the item's columns.
 #[derive(Drop)]
 pub(crate) struct Listener<'a> {
+    /// The graph of the rows.
     pub(crate) admitted: &'a Admitted,
+    /// The rows of all executions, and which follow one another on each node.
     pub(crate) sequences: &'a Sequences<'a>,
+    /// The node of the item.
     pub(crate) node: u32,
+    /// Marks of the variables whose processes have always ended on the node by the item's columns.
     pub(crate) known: [bool; VARIABLES],
+    /// The rows of items that the node hears, in the order in which they are asked.
     pub(crate) heard_rows: Vec<HeardRow<'a>>,
 }
 
 impl<'a> Listener<'a> {
-    /// Whether a process is over by a time in the scenarios of a space.
+    /// Whether a process is over by a time in the scenarios of a space. False guarantees nothing.
     fn is_over(&self, process: u32, space: &Space, time: u64) -> bool
         ensures { OnTrue result ((tables : List NodeTable) (s : Scenario) →
             AreSequences (execution self.now.admitted.now.graph) self.now.admitted.now.graph tables self.now.sequences.now →
@@ -228,13 +237,15 @@ impl<'a> Listener<'a> {
         row.is_over(space, time)
     }
 
-    /// Whether the process of a variable is on the node, and over by a time in the scenarios of a space.
+    /// Whether the process of a variable is on the node, and over by a time in the scenarios of a space. False
+    /// guarantees nothing.
     fn is_own_over(&self, variable: u8, space: &Space, time: u64) -> bool
         ensures { OnTrue result ((tables : List NodeTable) (s : Scenario) →
             AreSequences (execution self.now.admitted.now.graph) self.now.admitted.now.graph tables self.now.sequences.now →
             IsScenario self.now.admitted.now.graph s → IsInSpace space.now s → IsOwnOver self.now.admitted.now.graph tables self.now.node variable time s) }
     {
         let problem = self.admitted.problem();
+        // not a variable of the graph
         let Some(process) = owner(problem, variable) else {
             return false;
         };
@@ -245,8 +256,8 @@ impl<'a> Listener<'a> {
         self.is_over(process, space, time)
     }
 
-    /// Whether the processes of the variables of all these literals are on the node, and over by a time in the scenarios of a
-    /// space.
+    /// Whether the process of each of these literals is on the node, and over by a time in the scenarios of a space.
+    /// False guarantees nothing.
     fn are_over(&self, literals: &[Literal], space: &Space, time: u64) -> bool
         ensures { OnTrue result ((tables : List NodeTable) (s : Scenario) →
             AreSequences (execution self.now.admitted.now.graph) self.now.admitted.now.graph tables self.now.sequences.now →
@@ -261,14 +272,14 @@ impl<'a> Listener<'a> {
         true
     }
 
-    /// Whether the frame of an item's column at a place tells all of a column that the node doesn't know: the column begins with that
-    /// one's literals.
+    /// Whether the frame of a heard row's column at a place has told, by the time of `column`, all of its literals that
+    /// aren't on known variables: `column` begins with the literals of that column. False guarantees nothing.
     fn is_told_by(&self, heard_row: &HeardRow<'_>, place: usize, column: &Column) -> bool
         ensures { OnTrue result ((tables : List NodeTable) (x : ℕ) → IsListener tables x self.now →
             IsHeardRow self.now.admitted.now.graph tables self.now.node heard_row.now → AllHold self.now.admitted.now.graph tables row_rules →
             Contains (columns_of tables x) column.now → IsAllHeard self.now.admitted.now.graph tables self.now.node column.now) }
     {
-        // called for its contract: the graph is admitted
+        // called for its clause alone that the graph is admitted
         let _problem = self.admitted.problem();
         let Some(own) = heard_row.columns.get(place) else {
             return false;
@@ -279,8 +290,9 @@ impl<'a> Listener<'a> {
         begin_with(&self.known, column.cube.literals(), own.cube.literals())
     }
 
-    /// Whether the first item that the node hears tells all of a column that the node doesn't know, by its own column at a place or by
-    /// the next, whose place is then noted: mostly the columns of a message and of its target stand alike.
+    /// Whether the first of the heard rows tells all literals of a column that aren't on known variables, by its own
+    /// column at `place` or by the next one, to which `place` then moves: mostly the columns of a message and of its
+    /// target are in one order. False guarantees nothing.
     fn is_told(&self, column: &Column, place: &mut usize) -> bool
         ensures { OnTrue result ((tables : List NodeTable) (x : ℕ) → IsListener tables x self.now →
             AllHold self.now.admitted.now.graph tables row_rules → Contains (columns_of tables x) column.now →
@@ -300,8 +312,9 @@ impl<'a> Listener<'a> {
         true
     }
 
-    /// Keeps those of the wanted literals, each as wide as one of a column, that the node hasn't been told by others by the
-    /// column's time wherever that matches, in a space that has all these scenarios. `left` is for literals.
+    /// Keeps those of the wanted literals that no heard row is found to tell by a column's time wherever that matches.
+    /// The column has to imply each of them, and the space to have all scenarios that it matches. `places` and `left`
+    /// are lists to work in, and are overwritten.
     fn listen(
         &self,
         column: &Column,
@@ -316,6 +329,7 @@ impl<'a> Listener<'a> {
             AreLeft g tables self.now.node column.now wanted.old.items wanted.new.items) }
     {
         for heard_row in self.heard_rows.as_slice() {
+            // the other rows need not be asked
             if wanted.is_empty() {
                 return Ok(());
             }
@@ -328,8 +342,9 @@ impl<'a> Listener<'a> {
         Ok(())
     }
 
-    /// Whether the node has heard all literals of one of the item's columns by its time, wherever it matches: the low of
-    /// each and its high, which different items may have told. One column of the first item, at a place, may tell all.
+    /// Whether the node has heard all literals of one of the item's columns by its time, wherever it matches: the low
+    /// and the high of each, which different items may have told. `place` is where `is_told` looks first; the three
+    /// lists are to work in, and are overwritten. False guarantees nothing.
     fn hears(
         &self,
         column: &Column,
@@ -342,13 +357,15 @@ impl<'a> Listener<'a> {
             AllHold self.now.admitted.now.graph tables row_rules → Contains (columns_of tables x) column.now →
             IsAllHeard self.now.admitted.now.graph tables self.now.node column.now)) }
     {
+        // mostly a single frame tells all
         if self.is_told(column, place) {
             return Ok(true);
         }
         let literals = column.cube.literals();
         let problem = self.admitted.problem();
-        // in place, since a space is long to copy
+        // narrowed in place, since a space is long to copy
         let mut space = self.sequences.rows.everywhere;
+        // no scenario matches the column
         if !space.narrow_to(literals) {
             return Ok(true);
         }
@@ -357,12 +374,14 @@ impl<'a> Listener<'a> {
         Ok(self.are_over(wanted.as_slice(), &space, column.time))
     }
 
-    /// Whether it has heard all literals of all of the item's columns.
+    /// Whether the node has heard all literals of each of these columns of the item by its time, wherever it matches.
+    /// False guarantees nothing.
     pub(crate) fn hears_all(&self, alloc: Global, columns: &[Column]) -> Result<bool, OutOfMemory>
         ensures { IfOk result (λ all. OnTrue all ((tables : List NodeTable) (x : ℕ) → IsListener tables x self.now →
             AllHold self.now.admitted.now.graph tables row_rules → columns.now ≡ columns_of tables x →
             All (IsAllHeard self.now.admitted.now.graph tables self.now.node) columns.now)) }
     {
+        // where `is_told` looks first, and lists to work in, for all columns
         let mut place = 0;
         let mut places = Vec::new(alloc);
         let mut wanted = Vec::new(alloc);

@@ -1,4 +1,4 @@
-//! V6: no two executions on a processor overlap.
+//! The quick test of V6: no two executions on a processor overlap.
 ghost use Rattle.std.specs.Prelude.{◌≡◌, ◌<◌, ◌==◌, IfOk, List, filter};
 ghost use Rattle.std.specs.Bool.{OnTrue};
 ghost use Rattle.cpg_base.specs.Graph.{node_of, process_count};
@@ -13,7 +13,7 @@ use crate::sequences::Sequences;
 use cpg_base::{OutOfMemory, Problem};
 use std::alloc::Global;
 
-/// The processes of a process's node that have lower numbers.
+/// The processes with lower numbers on the node of a process, by number.
 fn lower_on_node(alloc: Global, problem: &Problem, process: u32) -> Result<Vec<u32>, OutOfMemory>
     requires { process < process_count problem.now }
     ensures { IfOk result (λ lower. lower.items ≡ filter (λ q. node_of problem.now q == node_of problem.now process) (numbers_below process)) }
@@ -28,8 +28,7 @@ fn lower_on_node(alloc: Global, problem: &Problem, process: u32) -> Result<Vec<u
     Ok(lower)
 }
 
-/// Whether the executions of an item are known to overlap with none of a process of a lower number. An item that is no process
-/// has none.
+/// Whether V6 is known to hold at an item: its executions overlap none of a process of a lower number on its node.
 fn is_alone(
     alloc: Global,
     problem: &Problem,
@@ -39,6 +38,7 @@ fn is_alone(
     ensures { IfOk result (λ r. OnTrue r ((tables : List NodeTable) → AreSequences (execution problem.now) problem.now tables sequences.now →
         IsSure problem.now tables Rule.Processor item)) }
 {
+    // a message or a broadcast has no executions
     if item as usize >= problem.processes().len() {
         return Ok(true);
     }
@@ -47,7 +47,7 @@ fn is_alone(
     Ok(is_alone)
 }
 
-/// The items whose executions overlap with none of a process of a lower number, by the executions of each node in sequence.
+/// A mark for each item, by number: whether V6 is known to hold there. It may hold at one that isn't marked, too.
 pub(crate) fn processor_marks(
     alloc: Global,
     problem: &Problem,

@@ -1,4 +1,4 @@
-//! The order in which items of one node act in every scenario.
+//! The order in which the items of a node begin in every scenario, each after the one before it is over.
 ghost use Rattle.std.specs.Prelude.{◌≡◌, if◌then◌else◌, ℕ, All, IfOk, List, length};
 ghost use Rattle.std.specs.Bool.{OnTrue};
 ghost use Rattle.cpg_base.specs.Graph.{Graph, process_count};
@@ -18,14 +18,17 @@ use cpg_rules::Admitted;
 use cpg_table::Tables;
 use std::alloc::Global;
 
-/// The first time of an item's row, then the item's number.
+/// An item, in an order by the first times of rows, and then by number.
 #[derive(Clone, Copy, PartialEq, Eq, PartialOrd, Ord)]
 struct TimeRank {
+    /// A time before which the item's row has no column.
     first: u64,
+    /// The item's number.
     item: u32,
 }
 
-/// From which place on the next item is compared with those before it: from the last that is active in every scenario.
+/// From which place on the item after `place` is compared with those before it: from `place`, if the item there is
+/// active in every scenario, and otherwise from where that item was.
 fn next_start(is_always: bool, place: usize, start: usize) -> usize
     ensures { result ≡ (if is_always then place else start) }
 {
@@ -33,19 +36,21 @@ fn next_start(is_always: bool, place: usize, start: usize) -> usize
 }
 
 impl<'a> SpannedRows<'a> {
-    /// Whether each of these items is over before each later one. Compares only those that stand after the last that
-    /// is active in every scenario: all others are over before it begins.
+    /// Whether each of these items is over before each later one. False guarantees nothing. An item is compared only
+    /// with those from the last before it on that is active in every scenario, since all others are over before that
+    /// one begins.
     fn are_in_sequence(&self, items: &[u32]) -> bool
         ensures { OnTrue result ((g : Graph) (tables : List NodeTable) (lasts : ℕ → Scenario → ℕ) → AreSpannedRows lasts g tables self.now →
             Holds g tables Rule.Present → IsInSequence lasts g tables items.now) }
     {
+        // the place of the last item so far that is known to be active in every scenario; 0 if there is none yet
         let mut start = 0;
         for (place, item) in items.iter().enumerate() {
+            // nothing is known of an item without a row
             let Some(row) = self.list.get(*item as usize) else {
                 return false;
             };
-            // the items from `start` on are compared with this one; those before `start` are over before the item at
-            // `start`
+            // those before `start` are over before the item at `start`, and so before this one
             if !self.precede(&items[start..place], row) {
                 return false;
             }
@@ -55,13 +60,13 @@ impl<'a> SpannedRows<'a> {
     }
 }
 
-/// Whether one item stands before another in an order.
+/// Whether one item comes before another in an order. The order has no item twice.
 fn stands_before(order: &[u32], first: u32, second: u32) -> bool
     ensures { OnTrue result (StandsBefore order.now first second) }
 {
+    // whether the first has been passed
     let mut is_past = false;
     for item in order {
-        // the second comes here: has the first been passed?
         if *item == second {
             return is_past;
         }
@@ -73,11 +78,10 @@ fn stands_before(order: &[u32], first: u32, second: u32) -> bool
 }
 
 impl<'a> SpannedRows<'a> {
-    /// The items by their first times, then by number.
+    /// Those of these items that have a row, by their first times, and then by number.
     fn by_time(&self, alloc: Global, items: &[u32]) -> Result<Vec<u32>, OutOfMemory> {
         let mut ranks = Vec::new(alloc);
         ranks.reserve(items.len())?;
-        // items of which no row is known are left out
         for item in items {
             if let Some(row) = self.list.get(*item as usize) {
                 ranks.push(TimeRank {
@@ -95,29 +99,26 @@ impl<'a> SpannedRows<'a> {
         Ok(sorted)
     }
 
-    /// The items in an order in which each is over before any later one begins: as they are, or by their first times.
-    /// The order is empty if neither is known to be such an order.
+    /// These items in an order in which each is over before each later one: as they are, or by their first times. Empty
+    /// if neither is known to be such an order.
     fn in_sequence(&self, alloc: Global, items: &[u32]) -> Result<Vec<u32>, OutOfMemory>
         ensures { IfOk result (λ order. (g : Graph) (tables : List NodeTable) (lasts : ℕ → Scenario → ℕ) →
             AreSpannedRows lasts g tables self.now → Holds g tables Rule.Present → IsInSequence lasts g tables order.items) }
     {
         let mut order = Vec::new(alloc);
-        // as the items are given
         if self.are_in_sequence(items) {
             order.extend_from_slice(items)?;
             return Ok(order);
         }
-        // by their first times
         let sorted = self.by_time(alloc, items)?;
         if self.are_in_sequence(sorted.as_slice()) {
             return Ok(sorted);
         }
-        // neither: the empty order, which says nothing
+        // still empty
         Ok(order)
     }
 
-    /// Puts each group of items into an order in which each item is over before any later one begins. The order is
-    /// empty if none is known.
+    /// For each of these groups of items what `in_sequence` answers.
     fn orders(&self, alloc: Global, groups: &[Vec<u32>]) -> Result<Vec<Vec<u32>>, OutOfMemory>
         ensures { IfOk result (λ orders. (g : Graph) (tables : List NodeTable) (lasts : ℕ → Scenario → ℕ) →
             AreSpannedRows lasts g tables self.now → Holds g tables Rule.Present → All (λ order. IsInSequence lasts g tables order.items) orders.items) }
@@ -132,15 +133,18 @@ impl<'a> SpannedRows<'a> {
     }
 }
 
-/// The rows of items, and for each node those of its items that are known to follow one another, in this order.
+/// The rows of items, and which of them follow one another on each node.
 #[derive(Drop)]
 pub(crate) struct Sequences<'a> {
+    /// The rows of the items, by number.
     pub(crate) rows: SpannedRows<'a>,
+    /// For each node, by number, its items in an order in which each is over before each later one; empty if none is
+    /// known.
     pub(crate) orders: Vec<Vec<u32>>,
 }
 
 impl<'a> Sequences<'a> {
-    /// These rows, with the items of each node in sequence.
+    /// These rows, with an order of the items of each node. The groups have the items of each node, by its number.
     pub(crate) fn of(
         alloc: Global,
         rows: SpannedRows<'a>,
@@ -154,8 +158,8 @@ impl<'a> Sequences<'a> {
         Ok(Sequences { rows, orders })
     }
 
-    /// Whether of two items of a node the first is known to be over by the second's time, wherever a column of each
-    /// matches.
+    /// Whether the first of two items of a node is known to be over by the time of the second, wherever a column of
+    /// each matches.
     pub(crate) fn is_before(&self, node: u32, first: u32, second: u32) -> bool
         ensures { OnTrue result ((g : Graph) (tables : List NodeTable) (lasts : ℕ → Scenario → ℕ) → AreSequences lasts g tables self.now →
             IsOver lasts g tables first second) }
@@ -167,7 +171,7 @@ impl<'a> Sequences<'a> {
     }
 }
 
-/// The processes of a node, in urgency order.
+/// The processes of a node, in the urgency order.
 pub(crate) fn processes_on(
     alloc: Global,
     admitted: &Admitted,
@@ -185,7 +189,7 @@ pub(crate) fn processes_on(
     Ok(processes)
 }
 
-/// For each node its processes, in urgency order.
+/// For each node, by number, its processes, in the urgency order: mostly they run in that order.
 fn processes_by_node(alloc: Global, admitted: &Admitted) -> Result<Vec<Vec<u32>>, OutOfMemory> {
     let mut groups = Vec::new(alloc);
     for node in 0..admitted.problem().nodes().len() as u32 {
@@ -195,8 +199,8 @@ fn processes_by_node(alloc: Global, admitted: &Admitted) -> Result<Vec<Vec<u32>>
     Ok(groups)
 }
 
-/// The rows of all processes' starts, and for each node the order in which its executions follow one another, if one
-/// is known.
+/// The rows of all processes, with how long they execute, and for each node the order in which its executions follow
+/// one another, if one is known.
 pub(crate) fn execution_sequences<'a>(
     alloc: Global,
     admitted: &Admitted,

@@ -1,4 +1,4 @@
-//! V7: each send is at the start of a slot of its own node, and no two items of a node share one.
+//! The quick test of V7: each send is at the start of a slot of its own node, and no two items of a node share one.
 ghost use Rattle.std.specs.Prelude.{◌≡◌, ◌<◌, ◌==◌, ◌&&◌, All, IfOk, filter, true};
 ghost use Rattle.std.specs.Bool.{OnTrue};
 ghost use Rattle.cpg_base.specs.Bus.{next_slot};
@@ -26,7 +26,7 @@ use cpg_table::Tables;
 use cpg_tree::Space;
 use std::alloc::Global;
 
-/// Whether a node's slot starts at the time of a column, if the column matches.
+/// Whether a slot of a node starts at the time of a column, or no scenario matches the column.
 fn is_in_slot(problem: &Problem, node: u32, column: &Column) -> bool
     requires { HasSlot problem.now node }
     ensures { OnTrue result ((s : Scenario) → IsScenario problem.now s → matches column.now.cube s ≡ true →
@@ -35,14 +35,14 @@ fn is_in_slot(problem: &Problem, node: u32, column: &Column) -> bool
     if is_slot_start(problem, node, column.time) {
         return true;
     }
-    // a column that matches no scenario may be at any time
+    // no scenario matches the column, so its time doesn't matter
     let Some(_space) = Space::of(problem.faults(), column.cube.literals()) else {
         return true;
     };
     false
 }
 
-/// Whether a node's slot starts at the time of each of these columns, if the column matches.
+/// Whether for each of these columns a slot of a node starts at its time, or no scenario matches it.
 fn are_in_slots(problem: &Problem, node: u32, columns: &[Column]) -> bool
     requires { HasSlot problem.now node }
     ensures { OnTrue result (All (λ c. (s : Scenario) → IsScenario problem.now s → matches c.cube s ≡ true →
@@ -56,7 +56,7 @@ fn are_in_slots(problem: &Problem, node: u32, columns: &[Column]) -> bool
     true
 }
 
-/// Adds the items that a process sends.
+/// Adds the messages and broadcasts that a process sends.
 fn push_sent(problem: &Problem, process: u32, items: &mut Vec<u32>) -> Result<(), OutOfMemory> {
     for item in 0..problem.item_count() {
         if problem.is_sent(item) && problem.producer(item) == process {
@@ -66,7 +66,7 @@ fn push_sent(problem: &Problem, process: u32, items: &mut Vec<u32>) -> Result<()
     Ok(())
 }
 
-/// What a node sends, by the urgency order of the senders.
+/// The items that a node sends, by the urgency order of their producers.
 fn sent_by(alloc: Global, admitted: &Admitted, node: u32) -> Result<Vec<u32>, OutOfMemory> {
     let problem = admitted.problem();
     let processes = processes_on(alloc, admitted, node)?;
@@ -77,7 +77,8 @@ fn sent_by(alloc: Global, admitted: &Admitted, node: u32) -> Result<Vec<u32>, Ou
     Ok(items)
 }
 
-/// For each node what it sends, by the urgency order of the senders.
+/// For each node, by number, the items that it sends, by the urgency order of their producers: mostly they are sent in
+/// that order.
 fn sent_by_node(alloc: Global, admitted: &Admitted) -> Result<Vec<Vec<u32>>, OutOfMemory> {
     let mut groups = Vec::new(alloc);
     for node in 0..admitted.problem().nodes().len() as u32 {
@@ -87,7 +88,8 @@ fn sent_by_node(alloc: Global, admitted: &Admitted) -> Result<Vec<Vec<u32>>, Out
     Ok(groups)
 }
 
-/// The sends of all items, with those of each node in sequence.
+/// The rows of all items, each send taken to last 1, and for each node the order in which its sends follow one another,
+/// if one is known.
 fn send_sequences<'a>(
     alloc: Global,
     admitted: &Admitted,
@@ -104,7 +106,7 @@ fn send_sequences<'a>(
     Ok(sequences)
 }
 
-/// Whether a node sends an item.
+/// Whether an item is sent over the bus, and by this node.
 fn is_sent_from(problem: &Problem, node: u32, item: u32) -> bool
     requires { item < item_count problem.now }
     ensures { result ≡ (is_sent problem.now item && (home problem.now item == node)) }
@@ -115,7 +117,7 @@ fn is_sent_from(problem: &Problem, node: u32, item: u32) -> bool
     problem.home(item) == node
 }
 
-/// The items with lower numbers that the home of an item sends.
+/// The items with lower numbers that the node of an item sends, by number.
 fn lower_sent(alloc: Global, problem: &Problem, item: u32) -> Result<Vec<u32>, OutOfMemory>
     requires { item < item_count problem.now }
     ensures { IfOk result (λ lower. lower.items ≡ filter (λ y. is_sent problem.now y && (home problem.now y == home problem.now item)) (numbers_below item)) }
@@ -130,7 +132,7 @@ fn lower_sent(alloc: Global, problem: &Problem, item: u32) -> Result<Vec<u32>, O
     Ok(lower)
 }
 
-/// Whether an item is known to have slots of its own.
+/// Whether V7 is known to hold at an item: each send is at the start of a slot that no item of a lower number shares.
 fn has_own_slots(
     alloc: Global,
     admitted: &Admitted,
@@ -148,17 +150,16 @@ fn has_own_slots(
         return Ok(true);
     }
     let node = problem.home(item);
-    // a column isn't at the start of a slot
     if !are_in_slots(problem, node, tables.columns_of(item)) {
         return Ok(false);
     }
-    // only lower numbers: the rule compares each pair once
+    // of two items that share a slot, the one with the higher number breaks the rule
     let lower = lower_sent(alloc, problem, item)?;
     let is_alone = sequences.are_apart(alloc, node, lower.as_slice(), item)?;
     Ok(is_alone)
 }
 
-/// The items whose sends are at the start of a slot, and in none of an item of a lower number.
+/// A mark for each item, by number: whether V7 is known to hold there. It may hold at one that isn't marked, too.
 pub(crate) fn slot_marks(
     alloc: Global,
     admitted: &Admitted,

@@ -1,4 +1,4 @@
-//! The rows of items, with what is asked about them before their columns are compared.
+//! The rows of items, with how long the items last, bounds of their times, and trees of their columns.
 ghost use Rattle.std.specs.Prelude.{◌≡◌, ◌<◌, ℕ, IfOk, length};
 ghost use Rattle.cpg_base.specs.Graph.{item_count, process_count};
 ghost use Rattle.cpg_base.specs.Scenario.{Scenario};
@@ -16,10 +16,12 @@ use cpg_tree::Space;
 use cpg_violation::{first_time, is_item_running, last_time};
 use std::alloc::Global;
 
-/// The columns of an item with their tree, the range of their times, and how long the item lasts.
+/// The row of an item.
 #[derive(Clone, Copy)]
 pub(crate) struct SpannedRow<'a> {
+    /// The columns of the item.
     pub(crate) columns: &'a [Column],
+    /// The tree of the places of columns, by which it is found which match in a space; `None` if none was made.
     pub(crate) tree: &'a Option<Places>,
     /// No column is at an earlier time.
     pub(crate) first: u64,
@@ -27,19 +29,20 @@ pub(crate) struct SpannedRow<'a> {
     pub(crate) last: u64,
     /// How long the item lasts.
     pub(crate) span: ItemSpan,
-    /// Only if the item is active in every scenario.
+    /// True only if the item is active in every scenario.
     pub(crate) is_always: bool,
 }
 
 /// The rows of the first items, by number.
 #[derive(Drop)]
 pub(crate) struct SpannedRows<'a> {
-    /// All scenarios. The space is made once, since it takes long to make.
+    /// The space of all scenarios, which takes long to make.
     pub(crate) everywhere: Space,
+    /// The row of each item, at its number.
     pub(crate) list: Vec<SpannedRow<'a>>,
 }
 
-/// The row of an item with this span.
+/// The row of an item that lasts this long.
 fn spanned_row_of<'a>(
     admitted: &Admitted,
     tables: &'a Tables,
@@ -63,7 +66,7 @@ fn spanned_row_of<'a>(
     }
 }
 
-/// The rows of all processes, with how long they execute.
+/// The rows of all processes, with how long their executions last.
 pub(crate) fn executions<'a>(
     alloc: Global,
     admitted: &Admitted,
@@ -88,7 +91,8 @@ pub(crate) fn executions<'a>(
     })
 }
 
-/// The rows of all items, each for one time unit.
+/// The rows of all items, each send taken to last one time unit. Starts have rows as well, so that the place of a row
+/// is the number of its item.
 pub(crate) fn sends<'a>(
     alloc: Global,
     admitted: &Admitted,
@@ -112,7 +116,8 @@ pub(crate) fn sends<'a>(
     })
 }
 
-/// The rows of all items, with how long their frames take.
+/// The rows of all items, with how long their frames last. Starts have rows as well, so that the place of a row is the
+/// number of its item.
 pub(crate) fn frames<'a>(
     alloc: Global,
     admitted: &Admitted,

@@ -1,4 +1,4 @@
-//! Items at which V4 to V9 hold.
+//! The marks of V4 to V9.
 ghost use Rattle.std.specs.Prelude.{IfOk};
 ghost use Rattle.cpg_violation.specs.Violation.{AllHold, row_rules};
 ghost use Rattle.cpg_violation.specs.Sure.{AreTimeMarks};
@@ -17,8 +17,9 @@ use cpg_table::Tables;
 use cpg_violation::{TimeMarks, due_marks, frozen_marks};
 use std::alloc::Global;
 
-/// Items at which V4 to V9 hold in every scenario, of tables that keep V1 to V3, by the trees of all rows. No scenario is
-/// looked for: an item that isn't marked may keep the rule too.
+/// For each rule from V4 to V9 a mark for each item: whether the rule is known to hold there in every scenario. The
+/// tables have to keep V1 to V3; `trees` are those of all rows. A rule may hold at an item that isn't marked, too. The
+/// one error is `OutOfMemory`.
 pub fn time_marks(
     alloc: Global,
     admitted: &Admitted,

@@ -1,4 +1,5 @@
--- The least scenario in which an item, or the process of a literal, is inactive.
+-- The least scenario in which a column matches and its item, or the process of one of its literals, is inactive: from
+-- what guards say of a process, from the source of an edge and its value, and from what makes the item active.
 use Rattle.std.proofs.Common.{ℕ, ◌≡◌, ◌<◌, Bool, true, false, not, ◌&&◌, ◌||◌, List, [], get_or, Option, refl, sym, ap}
 use Rattle.std.proofs.Common.{◌∙◌}
 use Rattle.std.specs.Prelude.{IfOk, Result}
@@ -23,24 +24,25 @@ use Rattle.cpg_violation.proofs.ActiveWhere.{value_holds}
 use Rattle.cpg_violation.proofs.Columnwise.{first_either}
 use Rattle.cpg_violation.proofs.Tests.{not_both, with_true}
 
--- a value is the wanted `false` if it isn't true
+-- `false` equals just what isn't true
 same_false : (b : Bool) → same_bool false b ≡ not b
 same_false true = refl
 same_false false = refl
 
--- a value is the other one than wanted if it isn't the wanted one
+-- the other value than `v` equals just what `v` doesn't
 other_bool : (v b : Bool) → same_bool (not v) b ≡ not (same_bool v b)
 other_bool true true = refl
 other_bool true false = refl
 other_bool false true = refl
 other_bool false false = refl
 
--- the other value's literal holds if the value isn't there
+-- the literal that condition `c` has the other value than `v` holds just where it hasn't `v`
 pub other_holds : (s : Scenario) (c : ℕ) (v : Bool) →
     holds s (value_literal c (not v)) ≡ not (same_bool v (get_or s.values c false))
 other_holds s c v = value_holds s c (not v) ∙ other_bool v (get_or s.values c false)
 
--- a process isn't active if its tree comes to no activation
+-- the least scenario in which a cube matches and the guard of process `p` says inactive is the least in which the cube
+-- matches and the process is inactive: a guard says of each scenario whether its process is active there
 pub idle_found : {g : Graph} {order : List ℕ} {guards : Guards} → IsAdmitted g order guards →
     (cube : List Literal) (p : ℕ) → p < process_count g →
     (o : Option Scenario)
@@ -52,8 +54,10 @@ idle_found {g} {order} {guards} a cube p l o f = first_same g order
     ∙ ap (λ b. matches cube s && b) (same_false (is_active (outcome_at (tree_of guards p) s.values))
     ∙ ap (λ t. not (is_active t)) ((a.guards.trees p l).is s.values i.values))) f
 
+-- a cube, and scenarios by an order of processes
 module _ (g : Graph) (order : List ℕ) (cube : List Literal) where
-  -- the first scenario of the part of the cube in which a literal holds
+  -- the least scenario of a part of the cube is the least in which the cube matches and a literal holds, if the part
+  -- matches just there
   pub with_part : (l : Literal) (part : List Literal) (o : Option Scenario) →
       ((s : Scenario) → matches part s ≡ (holds s l && matches cube s)) →
       IsFirst g order (matches part) o →
@@ -61,27 +65,30 @@ module _ (g : Graph) (order : List ℕ) (cube : List Literal) where
   with_part l part o both f = first_same g order (matches part) (λ s. matches cube s && holds s l) o
       (λ s _. both s ∙ and_comm (holds s l) (matches cube s)) f
 
-  -- if the cube never matches together with the literal, no scenario of the cube has it
+  -- if in no scenario a literal holds and the cube matches, there is none in which the cube matches and the literal
+  -- holds
   pub with_none : (l : Literal) → ((s : Scenario) → (holds s l && matches cube s) ≡ false) → (s : Scenario) →
       IsScenario g s →
       (matches cube s && holds s l) ≡ false
   with_none l none s i = and_comm (matches cube s) (holds s l) ∙ none s
 
-  -- if two tests are the same, the first scenario in which one fails is the first in which the other does
+  -- if two tests agree in each scenario, the least in which the cube matches and the one fails is the least in which it
+  -- matches and the other fails
   pub inactive_same : (a b : Scenario → Bool) (o : Option Scenario) → ((s : Scenario) → IsScenario g s → b s ≡ a s) →
       IsFirst g order (λ s. matches cube s && not (a s)) o →
       IsFirst g order (λ s. matches cube s && not (b s)) o
   inactive_same a b o is f = first_same g order (λ s. matches cube s && not (a s)) (λ s. matches cube s && not (b s)) o
       (λ s i. ap (λ t. matches cube s && not t) (sym (is s i))) f
 
-  -- if a test always fails, the first scenario of the cube is the first in which it does
+  -- if a test always fails, the least scenario of the cube is the least in which the cube matches and the test fails
   pub inactive_always : (b : Scenario → Bool) (o : Option Scenario) → ((s : Scenario) → IsScenario g s → b s ≡ false) →
       IsFirst g order (matches cube) o →
       IsFirst g order (λ s. matches cube s && not (b s)) o
   inactive_always b o off f = first_same g order (matches cube) (λ s. matches cube s && not (b s)) o
       (λ s i. sym (ap (λ t. matches cube s && not t) (off s i) ∙ sym (with_true (matches cube s) true refl))) f
 
-  -- an edge that asks for no value isn't live exactly where its source isn't active
+  -- an edge that asks for no value isn't live just where its source isn't active: `whole`, that it is live, is
+  -- `source_active` and `passed`, and this is always true
   pub unlive_idle : (source_active passed whole : Scenario → Bool) (o : Option Scenario) →
       ((s : Scenario) → IsScenario g s → whole s ≡ (source_active s && passed s)) →
       ((s : Scenario) → passed s ≡ true)
@@ -90,7 +97,8 @@ module _ (g : Graph) (order : List ℕ) (cube : List Literal) where
   unlive_idle source_active passed whole o is all f = inactive_same source_active whole o
       (λ s i. is s i ∙ ap (λ b. source_active s && b) (all s) ∙ sym (with_true (source_active s) true refl)) f
 
-  -- an edge that asks for a value isn't live where its source isn't active or has the other value
+  -- an edge that asks for a value isn't live just where its source isn't active or literal `l`, the other value, holds;
+  -- so the least such scenario of the cube is the earlier of the least with each of the two
   pub unlive_either : (source_active passed whole : Scenario → Bool) (l : Literal) (a b : Option Scenario) →
       ((s : Scenario) → IsScenario g s → whole s ≡ (source_active s && passed s)) →
       ((s : Scenario) → holds s l ≡ not (passed s))
@@ -104,7 +112,7 @@ module _ (g : Graph) (order : List ℕ) (cube : List Literal) where
       ∙ ap (λ t. matches cube s && t) (not_both (source_active s) (passed s) ∙ ap not (sym (is s i))))
       (first_either g order (matches cube) (λ s. not (source_active s)) (λ s. holds s l) a b f h)
 
-  -- an item is active as its source is
+  -- if item `x` is active just when its source says so, what is answered of the source is an answer for the item
   pub inactive_as : {E : Type 0} (x : ℕ) (source : ItemSource) →
       ((values : List Bool) → item_active g values (item_at g x) ≡ is_active_by g values source) →
       (r : Result (Option Scenario) E)
@@ -117,7 +125,7 @@ module _ (g : Graph) (order : List ℕ) (cube : List Literal) where
       (IsFirst g order (λ s. matches cube s && not (by_item s)))
       (λ o. inactive_same by_source by_item o (λ s i. is s.values))
 
-  -- an item that nothing makes active is inactive wherever the cube matches
+  -- an item that is never active is inactive wherever the cube matches, so the least scenario of the cube is the answer
   pub inactive_never : {E : Type 0} (x : ℕ) → ((values : List Bool) → item_active g values (item_at g x) ≡ false) →
       (r : Result (Option Scenario) E)
       → IfOk r (λ o. (urgency : List ℕ) → IsFirst g urgency (matches cube) o) →

@@ -1,4 +1,5 @@
--- The least scenario in which a column matches together with one of those before it.
+-- Columns that match together with an earlier one, which breaks V2: by their places, and the least scenario of such a
+-- match from the places that can match with a column.
 use Rattle.std.proofs.Common.{ℕ, ◌<◌, ◌≤◌, ◌≡◌, true, false, ◌&&◌, List, length, get_or, take, Option, Contains, arith}
 use Rattle.std.proofs.Common.{sym, ap, ◌∙◌}
 use Rattle.std.specs.List.{list_any}
@@ -17,22 +18,24 @@ use Rattle.cpg_violation.proofs.SieveLaws.{before_at}
 use Rattle.cpg_violation.proofs.Tests.{same_where}
 use Rattle.cpg_check_rows.specs.Single.{is_double}
 
--- the column at a place is double exactly if it matches together with an earlier one
+-- at a place of the row, `is_double` says just whether the column there matches together with an earlier one: that
+-- column is all that is left of the row from there, cut to one
 pub double_at : (columns : List Column) (i : ℕ) (d : Column) (s : Scenario) → i < length columns →
     (matches (get_or columns i d).cube s && breaks_single s (take i columns)) ≡ is_double columns i s
 double_at columns i d s h = sym (or-false (matches (get_or columns i d).cube s && breaks_single s (take i columns)))
     ∙ sym (ap (λ l. list_any (λ c. matches c.cube s && breaks_single s (take i columns)) (take 1 l))
     (drop_more columns i d h))
 
--- there is no double column past the last place
+-- past the row's last place there is no column, so none that matches together with an earlier one
 pub double_past : (columns : List Column) (i : ℕ) (s : Scenario) → length columns ≤ i → is_double columns i s ≡ false
 double_past columns i s h =
     ap (λ l. list_any (λ c. matches c.cube s && breaks_single s (take i columns)) (take 1 l)) (drop_all i columns h)
 
--- a column at a place of a row
+-- a column, at place `i` of a row, and places of the row; a default `d`, which isn't taken
 module _ (g : Graph) (order : List ℕ) (columns : List Column) (i : ℕ) (d : Column) (h : i < length columns)
     (places : List ℕ) where
-  -- the answer for a column, by places among which each is that matches with it, is that for its place
+  -- if each column that ever matches with the one at `i` is among the places, the least scenario in which this one
+  -- matches with an earlier one of them is the least in which it breaks V2
   pub at_place : (o : Option Scenario) →
       ((s : Scenario) (j : ℕ) → matches (get_or columns i d).cube s ≡ true → j < length columns →
       matches (column_at columns j).cube s ≡ true → Contains places j)

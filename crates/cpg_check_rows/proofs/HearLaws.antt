@@ -1,4 +1,4 @@
--- Hear rows that are all as they are to be are those of V10.
+-- V10 holds if each item is heard well: by the columns that are due, wherever it is heard.
 use Rattle.std.proofs.Common.{ℕ, ◌+◌, ◌<◌, ◌≡◌, List, [], ◌∷◌, length, map, Contains, Some, arith, refl, sym, ap, ap₂}
 use Rattle.std.proofs.Common.{◌∙◌, subst, inl, inr, eq-eqb, ne_eqb}
 use Rattle.std.specs.Prelude.{IfSome}
@@ -19,7 +19,8 @@ use Rattle.cpg_table.proofs.GraphTables.{suits_graph}
 use Rattle.cpg_table.specs.Found.{row_columns}
 use Rattle.cpg_check_rows.specs.Hears.{HearsHold, IsHeardWell, due_columns}
 
--- if items rise, each row is the first of its item
+-- if the items of rows rise, each row has the columns that are looked up by its item: no earlier row has the same item;
+-- by induction on `rows`
 first_of_item : (rows : List Row) → Rises (λ (a b : Row). a.item < b.item) rows → (row : Row) → Contains rows row →
     row_columns rows row.item ≡ Some row.columns
 first_of_item [] h row k = absurd (Contains-nil row k)
@@ -29,19 +30,22 @@ first_of_item (r ∷ rs) h row k = elim (Contains-cases r rs row k) [
   | inr m ↦ cond-false _ _ _ (ne_eqb r.item row.item (λ e. absurd (apart (h.0 row m) e))) ∙ first_of_item rs h.1 row m
 ]
   where
-    -- a lesser number isn't equal
+    -- a number that is less than another isn't equal to it
     apart : {a b : ℕ} → a < b → a ≡ b → ⊥
     apart l e = absurd (omega arith)
 
--- rows that are each given by their item
+-- rows each of which is what a function gives for its item are the function's images of their items; by
+-- induction on the rows
 rows_by_item : (f : ℕ → Row) (rows : List Row) → ((row : Row) → Contains rows row → row ≡ f row.item) →
     rows ≡ map f (items_of rows)
 rows_by_item f [] h = refl
 rows_by_item f (r ∷ rs) h = ap₂ (λ (q : Row) (qs : List Row). q ∷ qs) (h r (Contains-first r rs))
     (rows_by_item f rs (λ row k. h row (Contains-rest r rs row k)))
 
+-- node tables that are formed for the graph, which is within limits
 module _ (g : Graph) (w : IsWithinLimits g) (tables : List NodeTable) (are : AreTablesOf (head_of g) tables) where
-  -- a hear row has the columns at which its item is heard well, so it is the row that is due
+  -- if each item is heard well, each hear row of a node is the one that V10 asks for: the items of the node's hear rows
+  -- rise, as those that it hears do, so the row is the one that is looked up by its item
   row_well : ((x : ℕ) → x < item_count g → IsHeardWell g tables x) → (node : ℕ) → node < length g.nodes → (row : Row) →
       Contains (table_at tables node).hears row →
       row ≡ hear_row g tables row.item
@@ -61,7 +65,8 @@ module _ (g : Graph) (w : IsWithinLimits g) (tables : List NodeTable) (are : Are
       (well row.item inside node l) in
       ap (λ cs. record { item = row.item; columns = cs }) same
 
-  -- if each item is heard at the columns that are due, V10 holds
+  -- if each item is heard well, V10 holds: the hear rows of each node are those that are due for their items, and these
+  -- items are the ones that the node hears
   pub hears_hold : ((x : ℕ) → x < item_count g → IsHeardWell g tables x) → HearsHold g tables
   hears_hold well node t is =
       let inside : node < length g.nodes = omega (arith, slice_get_within tables node t is, are.count) in
@@ -70,7 +75,7 @@ module _ (g : Graph) (w : IsWithinLimits g) (tables : List NodeTable) (are : Are
       (rows_by_item (hear_row g tables) (table_at tables node).hears (row_well well node inside)
       ∙ ap (map (hear_row g tables)) (suits_graph g w tables are node inside).hears)
 
--- if all items before one are heard as they are due, and it is, too, one item more is
+-- if all items below `x` are heard well and `x` is, all below `x + 1` are
 pub heard_more : (g : Graph) (tables : List NodeTable) (x : ℕ) → ((y : ℕ) → y < x → IsHeardWell g tables y) →
     IsHeardWell g tables x → (y : ℕ) → y < x + 1 →
     IsHeardWell g tables y

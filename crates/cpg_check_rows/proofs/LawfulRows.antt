@@ -1,4 +1,4 @@
--- Rows that keep V1: column by column, or since all processes are always active.
+-- V1 is sure at an item: column by column, or since the item and all processes are always active.
 use Rattle.std.proofs.Common.{ℕ, ◌-◌, ◌<◌, ◌≤◌, ◌≡◌, Bool, true, false, not, ◌||◌, List, All, arith, length, take, drop}
 use Rattle.std.proofs.Common.{refl, ap, ap₂, subst, sym, ◌∙◌, inl, inr}
 use Rattle.std.specs.List.{list_all}
@@ -24,15 +24,15 @@ use Rattle.cpg_violation.specs.Sure.{IsSure}
 use Rattle.cpg_violation.specs.Always.{AllAlways, IsUnconditional}
 use Rattle.cpg_violation.proofs.SureLaws.{sure_of}
 
--- the item is active, and no literal's process is inactive
+-- a column doesn't break V1 where its item is active and no process of its literals is inactive (`none`)
 pub both_active : (item none : Bool) → item ≡ true → none ≡ false → (not item || none) ≡ false
 both_active item none e f = ap₂ (λ a b. not a || b) e f
 
--- all elements from a place on are those that are left there
+-- as many elements as are left from a place on are all that are left
 rest_of : {T : Type 0} (at : ℕ) (xs : List T) → take (length xs - at) (drop at xs) ≡ drop at xs
 rest_of at xs = grind (arith, common_steps)
 
--- literals match only if those from a place on do
+-- where literals match, those from a place on match, too
 pub matches_from : (literals : List Literal) (at : ℕ) (s : Scenario) → matches literals s ≡ true →
     matches (take (length literals - at) (drop at literals)) s ≡ true
 matches_from literals at s m = subst (λ ls. matches ls s ≡ true) (sym (rest_of at literals))
@@ -40,15 +40,17 @@ matches_from literals at s m = subst (λ ls. matches ls s ≡ true) (sym (rest_o
     (sym (list_all-append (holds s) (take at literals) (drop at literals))
     ∙ ap (list_all (holds s)) (take-append-drop at literals) ∙ m)).1
 
--- the process of a variable of the graph is one of the graph
+-- the process of a variable of the graph is one of the graph's: itself if the variable is how it fails, and the process
+-- of the condition if it is a condition's value
 process_within : (g : Graph) → process_count g ≤ 128 → (v : ℕ) → IsVariable g v →
     process_of_variable g v < process_count g
 process_within g few v (inl l) = subst (λ p. p < process_count g) (of_count g v few l) l
 process_within g few v (inr r) =
     subst (λ p. p < process_count g) (of_value g v r.0) (process_of_below g (v - 128) (omega (arith, r.0, r.1)))
 
+-- an item
 module _ (g : Graph) (tables : List NodeTable) (x : ℕ) where
-  -- an item none of whose columns is unlawful where it matches keeps V1
+  -- V1 is sure at an item none of whose columns breaks it where it matches
   pub lawful_sure :
       All (λ (c : Column). (s : Scenario) → IsScenario g s → matches c.cube s ≡ true → breaks_activity g s x c ≡ false)
       (columns_of tables x) →
@@ -57,7 +59,8 @@ module _ (g : Graph) (tables : List NodeTable) (x : ℕ) where
       (λ s c earlier law k m. All-contains (λ (c : Column). (s : Scenario) → IsScenario g s → matches c.cube s ≡ true →
       breaks_activity g s x c ≡ false) (columns_of tables x) c all k s law m)
 
-  -- an item that is always active keeps V1 if all processes always are
+  -- V1 is sure at an item that is always active, if all processes are and the literals of its columns are on variables
+  -- of the graph
   pub always_sure : process_count g ≤ 128 → AllAlways g → All (λ (c : Column). IsKnown g c.cube) (columns_of tables x)
       → IsUnconditional g x → IsSure g tables Rule.Activity x
   always_sure few always known item =

@@ -1,4 +1,5 @@
--- When items are active, by the source of an edge and the cube of its value; and the least scenario without a column.
+-- The least scenario in which an item breaks V3: it is active, and none of its columns matches. From what guards say of
+-- a process, from the source of an edge and the cube of its value, and from what makes the item active.
 use Rattle.std.proofs.Common.{ℕ, zero, suc, ◌∷◌, All, ◌+◌, ◌<◌, ◌≡◌, Bool, true, false, not, ◌&&◌, List, [], map}
 use Rattle.std.proofs.Common.{Option, Some, None, arith, refl, sym, ap, ◌∙◌, subst, inl, inr}
 use Rattle.std.specs.Prelude.{IfOk, Result, take, drop}
@@ -27,7 +28,7 @@ use Rattle.cpg_violation.specs.declared.sources.ItemSource.{ItemSource}
 use Rattle.cpg_violation.specs.Activity.{comes_to}
 use Rattle.cpg_violation.proofs.LiveEdges.{live_tested}
 
--- three tests joined by `and` in another order
+-- of three tests joined by `and` the last may come first
 turned : (a m n : Bool) → ((m && n) && a) ≡ ((a && m) && n)
 turned true true true = refl
 turned true true false = refl
@@ -36,8 +37,10 @@ turned false true true = refl
 turned false true false = refl
 turned false false n = refl
 
+-- columns, and scenarios by an order of processes
 module _ (g : Graph) (order : List ℕ) (columns : List Column) where
-  -- the first scenario of the cube without a column, in which the process is active, is the answer for a test of both
+  -- if test `b` passes just where process `p` is active and a cube matches, the least scenario that the columns leave
+  -- of the cube and in which the process is active is the least in which `b` passes and no column matches
   pub absent_from : (b : Scenario → Bool) (p : ℕ) (cube : List Literal) →
       ((s : Scenario) → IsScenario g s → b s ≡ (active g s.values p && matches cube s)) →
       (o : Option Scenario)
@@ -51,7 +54,7 @@ module _ (g : Graph) (order : List ℕ) (columns : List Column) where
       ∙ turned (active g s.values p) (matches cube s) (not (list_any (λ (d : Column). matches d.cube s) columns))
       ∙ ap (λ a. a && not (list_any (λ (d : Column). matches d.cube s) columns)) (sym (is s i))) f
 
-  -- an item is active as its source is
+  -- if item `x` is active just when its source says so, what is answered of the source is an answer for the item
   pub absent_as : {E : Type 0} (x : ℕ) (source : ItemSource) →
       ((values : List Bool) → item_active g values (item_at g x) ≡ is_active_by g values source) →
       (r : Result (Option Scenario) E)
@@ -63,12 +66,13 @@ module _ (g : Graph) (order : List ℕ) (columns : List Column) where
       (λ o. first_same g order by_source (is_absent g columns x) o
       (λ s i. ap (λ a. a && has_none columns s) (sym (is s.values))))
 
-  -- an item that nothing makes active never lacks a column
+  -- an item that is never active breaks V3 in no scenario
   pub absent_never : (x : ℕ) → ((values : List Bool) → item_active g values (item_at g x) ≡ false) →
       IsFirst g order (is_absent g columns x) None
   absent_never x off = λ s i. ap (λ a. a && has_none columns s) (off s.values)
 
--- an edge is live if its source is active and the cube of its value matches
+-- an edge is live just where its source is active and a cube matches, if the cube matches just where the source has the
+-- value that the edge asks for
 pub live_where : {g : Graph} {order : List ℕ} {guards : Guards} → IsAdmitted g order guards → (s : Scenario) →
     IsScenario g s → (e : ℕ) → e < edge_count g →
     (cube : List Literal)
@@ -78,7 +82,8 @@ live_where {g} {order} {guards} a s i e l cube m =
     live_tested g order a.topological guards a.guards s.values i.values e l
     ∙ ap (λ t. active g s.values (source g e) && t) (sym m)
 
--- if no item before one breaks V3 and it is never absent, none of one item more breaks V3
+-- if no item below `x` breaks V3 and `x` doesn't, none below `x + 1` does: at a column of `x` it is never broken, as V3
+-- asks only whether some column matches
 pub present_more : (g : Graph) (tables : List NodeTable) (x : ℕ) →
     ((y : ℕ) (column : Option ℕ) (s : Scenario) → y < x → IsScenario g s →
     breaks Rule.Present g tables s y column ≡ false)
@@ -91,19 +96,20 @@ present_more g tables x before here y column s l i = elim (cases_lt y x) [
       subst (λ z. breaks Rule.Present g tables s z column ≡ false) same (at_item column)
 ]
   where
-    -- at the item itself V3 isn't broken
+    -- `x` breaks V3 neither for lack of a column nor at one
     at_item : (column : Option ℕ) → breaks Rule.Present g tables s x column ≡ false
     at_item None = here s i
     at_item (Some k) = list_any_false (breaks_at Rule.Present g tables s x (take k (columns_of tables x)))
         (take 1 (drop k (columns_of tables x))) (λ c _. and_right (matches c.cube s) false refl)
 
--- what holds for the image of each element holds for all of the mapped list
+-- what holds of each element's image holds of all elements of the mapped list
 pub all_mapped : {X Y : Type 0} (P : Y → Type 0) (f : X → Y) (xs : List X) → All (λ x. P (f x)) xs → All P (map f xs)
 all_mapped P f [] h k d l = absurd (omega arith)
 all_mapped P f (x ∷ xs) h zero d l = h 0 x (omega arith)
 all_mapped P f (x ∷ xs) h (suc k) d l = all_mapped P f xs (λ j e m. h (suc j) e (omega arith)) k d (omega arith)
 
--- a process is active if its tree comes to an activation
+-- the least scenario that cubes leave of a cube and in which the guard of process `p` says active is the least that
+-- they leave of it and in which the process is active
 pub active_found : {g : Graph} {order : List ℕ} {guards : Guards} → IsAdmitted g order guards →
     (by : List (List Literal)) (cube : List Literal) (p : ℕ) → p < process_count g →
     (o : Option Scenario)

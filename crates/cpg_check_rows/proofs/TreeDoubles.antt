@@ -1,4 +1,5 @@
--- Columns that have a tree: none of them matches together with an earlier one.
+-- None of the columns of which a tree was made matches together with an earlier one: a column that matches in a
+-- scenario is at the place that the tree has for it, so only one does.
 use Rattle.std.proofs.Common.{ℕ, ◌<◌, ◌≡◌, false, ◌&&◌, List, [], Option, None, Some, length, get_or, take, arith, sym}
 use Rattle.std.proofs.Common.{ap, ◌∙◌, inl, inr}
 use Rattle.std.specs.Prelude.{IfSome, is_some}
@@ -18,7 +19,8 @@ use Rattle.cpg_row_trees.proofs.TreeLaws.{none_earlier}
 use Rattle.cpg_check_rows.specs.Single.{is_double}
 use Rattle.cpg_check_rows.proofs.Doubles.{double_at, double_past}
 
--- what holds of the first columns by themselves holds of them in the row
+-- if one of the first `n` columns by themselves doesn't match together with an earlier one, neither does it in the row:
+-- the column and those before it are the same
 front_as : (columns : List Column) (n i : ℕ) (s : Scenario) → i < n → is_double (take n columns) i s ≡ false →
     is_double columns i s ≡ false
 front_as columns n i s less none = elim (cases_lt i (length columns)) [

@@ -1,4 +1,4 @@
--- Rows with trees keep V2, and V3 if the tree has no place only when the item is inactive.
+-- At an item whose row has a tree V2 is sure, and so is V3 if the item is inactive wherever the tree has no place.
 use Rattle.std.proofs.Common.{ℕ, ◌<◌, ◌≡◌, false, not, ◌&&◌, List, [], Option, None, Some, length, get_or, take, arith}
 use Rattle.std.proofs.Common.{refl, ap, ◌∙◌, subst, inl, inr}
 use Rattle.std.specs.List.{list_any}
@@ -26,10 +26,10 @@ use Rattle.cpg_violation.proofs.Tests.{off_where}
 use Rattle.cpg_row_trees.specs.Trees.{AreRowTrees}
 use Rattle.cpg_check_rows.specs.Absent.{IsIdleWhere}
 
--- the tree of an item's row
+-- an item whose row has a tree
 module _ (g : Graph) (tables : List NodeTable)
     (x : ℕ) {tree : PlacesState} (is : IsRowTree g (columns_of tables x) tree) where
-  -- a row that has a tree keeps V2
+  -- V2 is sure: no column of the row matches together with an earlier one, as the tree says
   pub single_sure : IsSure g tables Rule.Single x
   single_sure None s law = refl
   single_sure (Some i) s law = elim (cases_lt i (length (columns_of tables x))) [
@@ -43,7 +43,7 @@ module _ (g : Graph) (tables : List NodeTable)
         (drop_all i (columns_of tables x) past)
   ]
 
-  -- a row that has a tree keeps V3 if the item is inactive wherever the tree has no place
+  -- V3 is sure if the item is inactive wherever the tree has no place: elsewhere the column at the tree's place matches
   pub present_sure : ((s : Scenario) → IsScenario g s → IsIdleWhere g x (place_at tree s) s) →
       IsSure g tables Rule.Present x
   present_sure idle (Some i) s law =
@@ -51,7 +51,7 @@ module _ (g : Graph) (tables : List NodeTable)
       (λ c k. and-false (matches c.cube s))
   present_sure idle None s law = go (place_at tree s) refl
     where
-      -- without a place the item is idle, so no column is due; with a place the column there matches
+      -- without a place the item is inactive, so it needs no column; with a place the column there matches
       go : (o : Option ℕ) → place_at tree s ≡ o → breaks_present g tables s x ≡ false
       go None e =
           ap (λ b. b && not (list_any (λ (d : Column). matches d.cube s) (columns_of tables x))) (idle s law e law)
@@ -67,25 +67,26 @@ module _ (g : Graph) (tables : List NodeTable)
           ap (λ b. item_active g s.values (item_at g x) && not b) some
           ∙ and-false (item_active g s.values (item_at g x))
 
+-- row trees, and what they have for item `x`, `o`
 module _ (g : Graph) (tables : List NodeTable) (trees : List (Option PlacesState)) (x : ℕ)
     (o : Option PlacesState) where
-  -- the tree of an item's row is one of its columns, if the row has a tree
+  -- if they have a tree for the item, it is one of its row's columns
   here : x < length trees → o ≡ get_or trees x o → AreRowTrees g tables trees →
       IfSome o (IsRowTree g (columns_of tables x))
   here there is are = tree_of_row g tables trees x are (omega (arith, there, are.count)) o is
 
-  -- the tree found at an item's number is that of the item's row
+  -- the same of a tree that `o` is known to be
   pub tree_at : (tree : PlacesState) → x < length trees → o ≡ get_or trees x o → o ≡ Some tree →
       AreRowTrees g tables trees →
       IsRowTree g (columns_of tables x) tree
   tree_at tree there is some are = subst (λ p. IfSome p (IsRowTree g (columns_of tables x))) some (here there is are)
 
-  -- an item with a tree in the list keeps V2
+  -- V2 is sure at the item if they have a tree for it
   pub single_at : x < length trees → o ≡ get_or trees x o → AreRowTrees g tables trees →
       OnTrue (is_some o) (IsSure g tables Rule.Single x)
   single_at there is are = go o (here there is are)
     where
-      -- a row that has a tree keeps V2
+      -- by whether there is a tree
       go : (o : Option PlacesState) → IfSome o (IsRowTree g (columns_of tables x)) →
           OnTrue (is_some o) (IsSure g tables Rule.Single x)
       go None h = tt

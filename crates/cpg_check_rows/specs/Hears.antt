@@ -1,5 +1,4 @@
--- V10 row by row: where a node hears an item at other columns than those of its sender, each later by the sender's
--- slot.
+-- V10, row by row: which node hears an item by other columns than the sender's, each later by the sender's slot.
 use Rattle.std.specs.Prelude.{ℕ, ◌≡◌, ◌≢◌, ◌<◌, List, Some, length, take, slice_get, IfSome, IsSomeAnd}
 use Rattle.cpg_base.specs.Graph.{Graph, item_count}
 use Rattle.cpg_base.specs.Scenario.{zero_scenario}
@@ -11,30 +10,34 @@ use Rattle.cpg_table.specs.declared.fault.Fault.{Fault}
 use Rattle.cpg_table.specs.declared.rule.Rule.{Rule}
 use Rattle.cpg_table.specs.Found.{row_columns}
 
--- the first place at which two lists differ: the length of the shorter one if it begins the other
+-- `i` is the first place at which two lists differ; if one list begins with the other, it is the length of the other
 pub record DifferFirstAt (xs ys : List Column) (i : ℕ) : Type 0 where
+  -- the lists are the same up to the place
   pub before : take i xs ≡ take i ys
+  -- at the place they differ, or only one of them has an element
   pub here : slice_get xs i ≢ slice_get ys i
 
--- if the node has a hear row of the item, then with these columns
+-- if the node has a hear row of item `x`, it has these columns
 abbrev pub HearsAt : List NodeTable → ℕ → List Column → ℕ → Type 0
 HearsAt tables x columns node = IfSome (row_columns (table_at tables node).hears x) (λ cs. cs ≡ columns)
 
--- the least node that hears the item at other columns, and the first column that differs there
+-- some node hears item `x` by other columns than these, and `place` is the first column that differs at the least such
+-- node
 pub record IsFirstHear (tables : List NodeTable) (nodes x : ℕ) (columns : List Column) (place : ℕ) : Type 0 where
-  -- the node
+  -- that node
   pub node : ℕ
+  -- it is one of the first `nodes` nodes
   pub within : node < nodes
-  -- all nodes before it hear the item at these columns
+  -- all nodes before it hear the item by these columns, if they hear it
   pub earlier : (m : ℕ) → m < node → HearsAt tables x columns m
   -- it has a row of the item, which first differs at this place
   pub differ : IsSomeAnd (row_columns (table_at tables node).hears x) (λ cs. DifferFirstAt cs columns place)
 
--- the columns at which an item is to be heard
+-- the columns by which item `x` is to be heard: the sender's, each later by the sender's slot
 abbrev pub due_columns : Graph → List NodeTable → ℕ → List Column
 due_columns g tables x = (hear_row g tables x).columns
 
--- each node hears the item as it is to
+-- each node that hears item `x` hears it by the columns that are due
 abbrev pub IsHeardWell : Graph → List NodeTable → ℕ → Type 0
 IsHeardWell g tables x = (node : ℕ) → node < length g.nodes → HearsAt tables x (due_columns g tables x) node
 
@@ -42,13 +45,16 @@ IsHeardWell g tables x = (node : ℕ) → node < length g.nodes → HearsAt tabl
 abbrev pub HearsHold : Graph → List NodeTable → Type 0
 HearsHold g tables = (node : ℕ) (t : NodeTable) → slice_get tables node ≡ Some t → t.hears ≡ hear_rows g tables node
 
--- the least item that some node hears at other columns, with the least such node's first column that differs
+-- the fault is the first violation of V10: at the least item that some node hears by other columns than are due, the
+-- first column that differs at the least such node
 pub record IsFirstHearFault (g : Graph) (tables : List NodeTable) (f : Fault) : Type 0 where
-  -- the rule is V10, and the scenario the first of all, since none is to blame
+  -- the fault is one of V10
   pub number : f.rule ≡ number_of_rule Rule.Hears
+  -- the item is one of the graph
   pub item : f.item < item_count g
+  -- the rule is about rows, whatever the scenario, so the first of all is shown
   pub scenario : f.scenario ≡ zero_scenario g
-  -- all lesser items are heard well
+  -- no item before it breaks the rule
   pub items : (x : ℕ) → x < f.item → IsHeardWell g tables x
-  -- the place of the column, at the least node that hears the item otherwise
+  -- it names the column
   pub column : IsSomeAnd f.column (IsFirstHear tables (length g.nodes) f.item (due_columns g tables f.item))

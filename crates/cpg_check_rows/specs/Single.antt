@@ -1,4 +1,4 @@
--- Columns that match together with an earlier column of their row.
+-- Columns that break V2.
 use Rattle.std.specs.Prelude.{ℕ, Bool, ◌&&◌, List, take, drop}
 use Rattle.std.specs.List.{list_any}
 use Rattle.cpg_base.specs.Scenario.{Scenario}
@@ -6,6 +6,7 @@ use Rattle.cpg_cube.specs.Cube.{matches}
 use Rattle.cpg_cube.specs.declared.column.Column.{Column}
 use Rattle.cpg_table.specs.Valid.{breaks_single}
 
--- whether the column at a place of a row matches in a scenario together with an earlier one
+-- whether there is a column at place `i`, and it breaks V2: it matches in the scenario together with an earlier one
+-- (`take 1 (drop i columns)` is that column alone, or nothing)
 abbrev pub is_double : List Column → ℕ → Scenario → Bool
 is_double columns i s = list_any (λ c. matches c.cube s && breaks_single s (take i columns)) (take 1 (drop i columns))

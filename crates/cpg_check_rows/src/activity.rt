@@ -1,4 +1,4 @@
-//! V1: a column that matches has an active item, and the processes of its literals are active.
+//! The check of V1: wherever a column matches, its item and the processes of its literals are active.
 ghost use Rattle.std.specs.Prelude.{◌≡◌, ◌≤◌, ◌<◌, ◌&&◌, ℕ, List, All, IfNone, IfOk, IfSome, false, length, not, true};
 ghost use Rattle.std.specs.List.{list_any};
 ghost use Rattle.cpg_base.specs.declared.limits.TheConstants.{MOST_LOAD};
@@ -24,7 +24,7 @@ use cpg_table::{Fault, Rule, Tables};
 use cpg_violation::{ItemSource, is_marked, item_source, least_at, value_literal};
 use std::alloc::Global;
 
-/// The least scenario that a cube matches and in which a process isn't active, if there is one.
+/// The least scenario that a cube matches and in which a process isn't active. `None` exactly if there is none.
 fn least_idle(
     alloc: Global,
     admitted: &Admitted,
@@ -40,7 +40,7 @@ fn least_idle(
     Ok(found)
 }
 
-/// The literal of the value that an edge doesn't ask for, if it asks for one.
+/// The literal of the value that an edge doesn't ask for. `None` if the edge asks for no value.
 fn other_value(problem: &Problem, edge: u32) -> Option<Literal>
     requires edge { edge < edge_count problem.now }
     requires source { source problem.now edge < process_count problem.now }
@@ -52,7 +52,7 @@ fn other_value(problem: &Problem, edge: u32) -> Option<Literal>
         (edge_at problem.now edge).when) s.values)) }
 {
     let edge = problem.edges()[edge as usize];
-    // the source has no condition, so the edge asks for no value
+    // a source without a condition has no value that could be asked for
     let Some(condition) = problem.condition_of(edge.from) else {
         return None;
     };
@@ -63,7 +63,7 @@ fn other_value(problem: &Problem, edge: u32) -> Option<Literal>
     Some(value_literal(condition, !value))
 }
 
-/// The least scenario that a cube matches and in which a literal holds, if there is one.
+/// The least scenario that a cube matches and in which a literal holds. `None` exactly if there is none.
 fn least_with(
     alloc: Global,
     problem: &Problem,
@@ -74,7 +74,7 @@ fn least_with(
     requires literal { IsVariable problem.now literal.variable }
     ensures { IfOk result (λ r. (order : List ℕ) → IsFirst problem.now order (λ s. matches cube.now s && holds s literal) r) }
 {
-    // the cube leaves no scenario in which the literal holds
+    // no number of the variable is in the ranges of both
     let Some(part) = cube.with(literal)? else {
         return Ok(None);
     };
@@ -82,8 +82,8 @@ fn least_with(
     Ok(found)
 }
 
-/// The least scenario that a cube matches and in which an edge isn't live, if there is one: its source isn't active, or
-/// has the other value.
+/// The least scenario that a cube matches and in which an edge isn't live: its source isn't active, or has the other
+/// value. `None` exactly if there is none.
 fn least_unlive(
     alloc: Global,
     admitted: &Admitted,
@@ -98,7 +98,7 @@ fn least_unlive(
     let order = admitted.order();
     let process = problem.source(edge);
     let idle = least_idle(alloc, admitted, process, cube)?;
-    // without a value asked for, an edge is live if its source is active
+    // if the edge asks for no value, it is live wherever its source is active
     let Some(literal) = other_value(problem, edge) else {
         return Ok(idle);
     };
@@ -106,7 +106,7 @@ fn least_unlive(
     Ok(earlier(problem, order, idle, other))
 }
 
-/// The least scenario that a cube matches and in which an item isn't active, if there is one.
+/// The least scenario that a cube matches and in which an item isn't active. `None` exactly if there is none.
 fn least_inactive(
     alloc: Global,
     admitted: &Admitted,
@@ -120,14 +120,15 @@ fn least_inactive(
 {
     let problem = admitted.problem();
     match item_source(problem, item) {
-        // the item is never sent: it is active in no scenario, so the least that the cube matches is the answer
+        // the item is never sent, so it is active in no scenario
         ItemSource::Nothing => cube.least(alloc, problem),
         ItemSource::Process(process) => least_idle(alloc, admitted, process, cube),
         ItemSource::Edge(edge) => least_unlive(alloc, admitted, edge, cube),
     }
 }
 
-/// The least scenario that a cube matches and in which the process of one of its literals isn't active, if there is one.
+/// The least scenario that a cube matches and in which the process of one of its literals isn't active. `None` exactly
+/// if there is none.
 fn least_unrun(
     alloc: Global,
     admitted: &Admitted,
@@ -140,7 +141,7 @@ fn least_unrun(
 {
     let problem = admitted.problem();
     let order = admitted.order();
-    // goes over the literals, and keeps the least scenario of all
+    // the least scenario of the literals so far
     let mut found: Option<Scenario> = None;
     for literal in cube.literals() {
         let process = problem.process_of_variable(literal.variable);
@@ -150,8 +151,8 @@ fn least_unrun(
     Ok(found)
 }
 
-/// The least scenario that a column matches and in which its item, or the process of one of its literals, isn't active;
-/// if there is one.
+/// The least scenario in which a column breaks V1: it matches, and its item, or the process of one of its literals,
+/// isn't active. `None` exactly if there is none.
 fn least_unlawful(
     alloc: Global,
     admitted: &Admitted,
@@ -168,8 +169,8 @@ fn least_unlawful(
     Ok(earlier(admitted.problem(), admitted.order(), inactive, unrun))
 }
 
-/// The first column of an item's row that matches in a scenario in which the item, or the process of one of its literals,
-/// isn't active; and the least such scenario.
+/// The place of the first column of an item's row that breaks V1 in some scenario, with the least such scenario. `None`
+/// exactly if there is none.
 fn first_idle(
     alloc: Global,
     admitted: &Admitted,
@@ -185,15 +186,15 @@ fn first_idle(
 {
     for (place, column) in columns.iter().enumerate() {
         let unlawful = least_unlawful(alloc, admitted, item, column)?;
-        // columns are met from the first on, so this one is the first
         if let Some(scenario) = unlawful {
+            // `MOST_LOAD` is far below 2^32
             return Ok(Some((place as u32, scenario)));
         }
     }
     Ok(None)
 }
 
-/// The first violation of V1, by item and column, with the least scenario in the urgency order in which it stands: the
+/// The first violation of V1, by item and column, with the least scenario in the urgency order in which it occurs: the
 /// column matches, and the item or the process of one of the column's literals isn't active. `None` exactly if the
 /// rule holds. Items at which it is marked as sure are left out.
 pub(crate) fn check_activity(
@@ -208,7 +209,7 @@ pub(crate) fn check_activity(
     ensures first { IfOk result (λ r. IfSome r (IsFirstViolation admitted.now.graph admitted.now.order tables.now.nodes Rule.Activity)) }
 {
     for item in 0..admitted.problem().item_count() {
-        // a quick check has shown that the item keeps the rule
+        // the rule holds here
         if is_marked(marks, item) {
             continue;
         }

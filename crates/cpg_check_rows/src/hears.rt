@@ -1,4 +1,4 @@
-//! V10: a hear row has the sender's columns, each later by the sender's slot.
+//! The check of V10: a hear row has the sender's columns, each later by the sender's slot.
 ghost use Rattle.std.specs.Prelude.{◌≡◌, ◌≤◌, ◌<◌, ◌↔◌, ◌==◌, ℕ, IfNone, IfOk, IfSome, IsSomeAnd, IsTrue, length, map, position};
 ghost use Rattle.cpg_base.specs.declared.limits.TheConstants.{MOST_LOAD};
 ghost use Rattle.cpg_base.specs.Bus.{slot_length};
@@ -23,11 +23,10 @@ fn is_same(literal: &Literal, other: &Literal) -> bool
     literal.variable == other.variable && literal.low == other.low && literal.high == other.high
 }
 
-/// Whether two lists of literals are the same.
+/// Whether two lists of literals are the same, place by place.
 fn are_same(literals: &[Literal], others: &[Literal]) -> bool
     ensures { IsTrue result ↔ (literals.now ≡ others.now) }
 {
-    // lists of different lengths differ
     if literals.len() != others.len() {
         return false;
     }
@@ -39,43 +38,42 @@ fn are_same(literals: &[Literal], others: &[Literal]) -> bool
     true
 }
 
-/// Whether a column is another, later by a delay.
+/// Whether a column that is heard is the one that is sent, later by a delay: it has the same literals.
 fn is_later(heard: &Column, sent: &Column, delay: u64) -> bool
     ensures { IsTrue result ↔ (heard.now ≡ later_by delay sent.now) }
 {
-    // too early to be anything that was sent
+    // no sent column is heard so early, and there is no difference to take
     if heard.time < delay {
         return false;
     }
-    // another time than that of the sender and the delay
     if heard.time - delay != sent.time {
         return false;
     }
     are_same(heard.cube.literals(), sent.cube.literals())
 }
 
-/// The first column that isn't the sender's, later by the delay: the shorter length if all before it are.
+/// The first place at which the columns that are heard aren't the sender's, each later by the delay: if one list begins
+/// with the other, the length of the shorter one. `None` exactly if there is none.
 fn first_difference(heard: &[Column], sent: &[Column], delay: u64) -> Option<u32>
     requires { length sent.now ≤ MOST_LOAD }
     ensures same { IfNone result (heard.now ≡ map (later_by delay) sent.now) }
     ensures differ { IfSome result (DifferFirstAt heard.now (map (later_by delay) sent.now)) }
 {
-    // goes over the places that both lists have
     let common = heard.len().min(sent.len());
     for place in 0..common {
         if !is_later(&heard[place], &sent[place], delay) {
             return Some(place as u32);
         }
     }
-    // all places agree, and there are as many of them
     if heard.len() == sent.len() {
         return None;
     }
-    // one list goes on: the first place behind the shorter one differs
+    // one list goes on behind the other
     Some(common as u32)
 }
 
-/// The first column of an item's hear row at a node that isn't the sender's, later by the delay.
+/// The first place at which an item's hear row at a node doesn't have the sender's column, later by the delay. `None`
+/// exactly if there is none, or the node has no such row.
 fn difference_at(tables: &Tables, node: u32, item: u32, sent: &[Column], delay: u64) -> Option<u32>
     requires node { node < length tables.now.head.nodes }
     requires few { length sent.now ≤ MOST_LOAD }
@@ -84,21 +82,21 @@ fn difference_at(tables: &Tables, node: u32, item: u32, sent: &[Column], delay: 
         (λ cs. DifferFirstAt cs (map (later_by delay) sent.now) place)) }
 {
     let table = tables.node(node);
-    // the node has no row of the item, so it hears it at no time
+    // the node doesn't hear the item
     let Some(heard) = row_columns(table.hears(), item) else {
         return None;
     };
     first_difference(heard, sent, delay)
 }
 
-/// The first column that differs at the least node that hears the item otherwise.
+/// What `difference_at` answers at the least node at which there is a difference. `None` exactly if there is no such
+/// node.
 fn first_hear(tables: &Tables, nodes: u32, item: u32, sent: &[Column], delay: u64) -> Option<u32>
     requires nodes { nodes ≡ length tables.now.head.nodes }
     requires few { length sent.now ≤ MOST_LOAD }
     ensures same { IfNone result ((node : ℕ) → node < length tables.now.head.nodes → HearsAt tables.now.nodes item (map (later_by delay) sent.now) node) }
     ensures differ { IfSome result (IsFirstHear tables.now.nodes (length tables.now.head.nodes) item (map (later_by delay) sent.now)) }
 {
-    // goes over the nodes, the least first
     for node in 0..nodes {
         if let Some(place) = difference_at(tables, node, item, sent, delay) {
             return Some(place);
@@ -107,9 +105,9 @@ fn first_hear(tables: &Tables, nodes: u32, item: u32, sent: &[Column], delay: u6
     None
 }
 
-/// The first violation of V10: the least item that some node hears at other columns than the sender's, each later by the
-/// sender's slot, with the first column that differs at the least such node, in the scenario without faults in which
-/// every value is false. `None` exactly if the rule holds.
+/// The first violation of V10: the least item that some node hears by other columns than the sender's, each later by
+/// the sender's slot, with the first column that differs at the least such node, and the scenario without faults in
+/// which every value is false. `None` exactly if the rule holds. The one error is `OutOfMemory`.
 pub fn check_hears(
     alloc: Global,
     admitted: &Admitted,

@@ -1,4 +1,4 @@
-//! The rules of valid tables on the rows of each item: V1 to V3, and V10.
+//! The rules of valid tables that are about one row of each item: V1 to V3, and V10.
 //!
 //! | rule | first violation | quick test | with |
 //! |---|---|---|---|
@@ -7,8 +7,8 @@
 //! | V3, a column | `present` | `quick_present` | both |
 //! | V10, hear rows | `hears` | | |
 //!
-//! `rows` has the first violation of V1 to V3. `quick_rows` has their marks: which items keep a rule in every scenario. An
-//! item that isn't marked may keep it too.
+//! `rows` finds the first violation of V1 to V3. `quick_rows` makes their marks: at which items a rule is known to hold
+//! in every scenario. It may hold at others, too.
 #![tactic(auto)]
 
 mod activity;

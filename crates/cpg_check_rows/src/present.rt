@@ -1,4 +1,4 @@
-//! V3: an active item has a column that matches.
+//! The check of V3: an active item has a column that matches.
 ghost use Rattle.std.specs.Prelude.{◌≡◌, ◌<◌, ◌&&◌, ℕ, All, IfNone, IfOk, IfSome, map};
 ghost use Rattle.cpg_base.specs.Activity.{active, live};
 ghost use Rattle.cpg_base.specs.Graph.{edge_count, item_count, process_count};
@@ -20,7 +20,8 @@ use cpg_table::{Fault, Rule, Tables};
 use cpg_violation::{ItemSource, edge_cube, is_marked, item_source, least_at};
 use std::alloc::Global;
 
-/// The least scenario that a cube matches and no column does, and in which a process is active; if there is one.
+/// The least scenario that a cube matches and none of these columns does, and in which a process is active. `None`
+/// exactly if there is none.
 fn least_without(
     alloc: Global,
     admitted: &Admitted,
@@ -40,7 +41,7 @@ fn least_without(
     Ok(found)
 }
 
-/// The least scenario in which an edge is live and no column matches, if there is one.
+/// The least scenario in which an edge is live and none of these columns matches. `None` exactly if there is none.
 fn least_uncarried(
     alloc: Global,
     admitted: &Admitted,
@@ -52,14 +53,14 @@ fn least_uncarried(
     ensures { IfOk result (IsFirst admitted.now.graph admitted.now.order (λ s. live admitted.now.graph s.values edge && has_none columns.now s)) }
 {
     let problem = admitted.problem();
-    // the cube of the value that the edge asks for; the whole cube if it asks for none
+    // an edge is live where its source is active and has the value that the edge asks for
     let cube = edge_cube(alloc, problem, edge)?;
     let process = problem.source(edge);
     let found = least_without(alloc, admitted, process, &cube, columns)?;
     Ok(found)
 }
 
-/// The least scenario in which a process is active and no column matches, if there is one.
+/// The least scenario in which a process is active and none of these columns matches. `None` exactly if there is none.
 fn least_unstarted(
     alloc: Global,
     admitted: &Admitted,
@@ -70,13 +71,12 @@ fn least_unstarted(
     requires columns { All (λ c. IsKnown admitted.now.graph c.cube) columns.now }
     ensures { IfOk result (IsFirst admitted.now.graph admitted.now.order (λ s. active admitted.now.graph s.values process && has_none columns.now s)) }
 {
-    // a process asks for no value, so every scenario counts in which it is active
     let whole = Cube::whole(alloc);
     let found = least_without(alloc, admitted, process, &whole, columns)?;
     Ok(found)
 }
 
-/// The least scenario in which an item is active and no column matches, if there is one.
+/// The least scenario in which an item is active and none of these columns matches. `None` exactly if there is none.
 fn least_absent(
     alloc: Global,
     admitted: &Admitted,
@@ -88,14 +88,14 @@ fn least_absent(
     ensures { IfOk result (IsFirst admitted.now.graph admitted.now.order (is_absent admitted.now.graph columns.now item)) }
 {
     match item_source(admitted.problem(), item) {
-        // active in no scenario, so no column has to be there
+        // the item is never sent, so it is active in no scenario
         ItemSource::Nothing => Ok(None),
         ItemSource::Process(process) => least_unstarted(alloc, admitted, process, columns),
         ItemSource::Edge(edge) => least_uncarried(alloc, admitted, edge, columns),
     }
 }
 
-/// The first violation of V3, by item, with the least scenario in the urgency order in which it stands: the item is
+/// The first violation of V3, by item, with the least scenario in the urgency order in which it occurs: the item is
 /// active and no column of its row matches. `None` exactly if the rule holds. Items at which it is marked as sure are
 /// left out.
 pub(crate) fn check_present(
@@ -111,7 +111,7 @@ pub(crate) fn check_present(
 {
     let problem = admitted.problem();
     for item in 0..problem.item_count() {
-        // a quick check has shown that the item keeps the rule
+        // the rule holds here
         if is_marked(marks, item) {
             continue;
         }

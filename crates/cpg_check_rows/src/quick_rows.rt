@@ -1,4 +1,4 @@
-//! The quick tests of V1 to V3: items at which these hold.
+//! The marks of V1 to V3.
 ghost use Rattle.std.specs.Prelude.{IfOk};
 ghost use Rattle.cpg_violation.specs.Heads.{IsHeadFor};
 ghost use Rattle.cpg_violation.specs.Sure.{AreRowMarks};
@@ -14,8 +14,8 @@ use cpg_table::Tables;
 use cpg_violation::RowMarks;
 use std::alloc::Global;
 
-/// Items at which V1, V2 and V3 hold in every scenario, by the trees of all rows. No scenario is looked for: an item that
-/// isn't marked may keep the rule too.
+/// For each of V1, V2 and V3 a mark for each item: whether the rule is known to hold there in every scenario. `trees`
+/// are those of all rows. A rule may hold at an item that isn't marked, too. The one error is `OutOfMemory`.
 pub fn row_marks(
     alloc: Global,
     admitted: &Admitted,

@@ -10,7 +10,8 @@ use cpg_base::OutOfMemory;
 use cpg_row_trees::Places;
 use std::alloc::Global;
 
-/// The items whose rows have trees: no two of their columns match together.
+/// A mark for each item, by number: whether its row has a tree. Then V2 holds there, as a tree has one place at most
+/// for each scenario. It may hold at one that isn't marked, too.
 pub(crate) fn single_marks(
     alloc: Global,
     trees: &[Option<Places>],

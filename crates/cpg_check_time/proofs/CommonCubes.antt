@@ -1,4 +1,4 @@
--- Cubes narrowed by one literal after another of another cube.
+-- The loop of `common`: a cube that is narrowed by the literals of another one after another.
 use Rattle.std.proofs.Common.{ℕ, ◌+◌, ◌<◌, ◌≡◌, false, ◌&&◌, List, length, get_or, take, drop, Some, sym, ap, ◌∙◌}
 use Rattle.std.proofs.Common.{subst}
 use Rattle.std.specs.List.{list_all}
@@ -17,10 +17,10 @@ use Rattle.cpg_cube.specs.Narrow.{with_literal}
 use Rattle.cpg_cube.proofs.CubeLaws.{with-is}
 use Rattle.cpg_cube.proofs.Narrow.{known-narrowed}
 
--- a part that matches what a cube and the first literals of another match
+-- `part` matches exactly where `cube` and the first `i` literals of `other` do (`d` is only the default of `get_or`)
 module _ (cube other part : List Literal) (i : ℕ) (d : Literal) (l : i < length other)
     (so_far : (s : Scenario) → matches part s ≡ (matches cube s && matches (take i other) s)) where
-  -- the part narrowed by the next literal matches what the cube and one literal more match
+  -- narrowed by the next literal, the part matches exactly where the cube and one literal more do
   pub common_more : (next : List Literal) →
       ((s : Scenario) → matches next s ≡ (holds s (get_or other i d) && matches part s)) →
       (s : Scenario) →
@@ -31,7 +31,8 @@ module _ (cube other part : List Literal) (i : ℕ) (d : Literal) (l : i < lengt
       ∙ and_assoc (matches cube s) (matches (take i other) s) (holds s (get_or other i d))
       ∙ ap (λ b. matches cube s && b) (sym (list_all_more (holds s) other i d l))
 
-  -- if the next literal leaves the part nothing, no scenario matches both cubes
+  -- if the next literal holds nowhere that the part matches, no scenario matches both cubes: it would match the part,
+  -- and the literal would hold
   pub common_none : ((s : Scenario) → (holds s (get_or other i d) && matches part s) ≡ false) → (s : Scenario) →
       (matches cube s && matches other s) ≡ false
   common_none none s = false_from_ne_true (matches cube s && matches other s) (λ t.
@@ -42,7 +43,7 @@ module _ (cube other part : List Literal) (i : ℕ) (d : Literal) (l : i < lengt
       ∙ ap (list_all (holds s)) (take-append-drop i other) ∙ p.1)).0 in
       both_ways _ (none s) (and_from _ _ here (so_far s ∙ and_from _ _ p.0 before)))
 
--- a cube of known variables, narrowed by the next literal of another, has known variables
+-- a cube on variables of the graph stays that when it is narrowed by a literal of another such cube
 pub known_more : (g : Graph) (part other next : List Literal) (i : ℕ) (d : Literal) → i < length other →
     IsKnown g part → IsKnown g other →
     with_literal (get_or other i d) part ≡ Some next →

@@ -1,4 +1,4 @@
--- The least count of faults with which an execution ends after a time, and the part of a cube with it or more.
+-- The least count of faults with which an execution ends after a time, and the cube narrowed to such counts.
 use Rattle.std.proofs.Common.{ℕ, ◌+◌, ◌<◌, ◌≤◌, ◌≡◌, List, Option, Some, None, arith, sym, subst, inl, inr}
 use Rattle.std.specs.Prelude.{IfSome}
 use Rattle.std.proofs.lemmas.Bool.{cases_lt}
@@ -17,7 +17,8 @@ use Rattle.cpg_check_time.specs.Lateness.{IsLeastCount}
 pub duration_some : (g : Graph) → IsWithinLimits g → (p n : ℕ) → p < process_count g → 1 ≤ duration g p n
 duration_some g within p n l = let works : 1 ≤ (process_at g p).wcet = (within.processes p _ l).works in omega arith
 
--- the first count that is enough is the least
+-- the first count with which the execution ends after the time is the least: with each greater count it lasts at least
+-- as long
 pub first_is_least : (g : Graph) (p start time f : ℕ) → ((n : ℕ) → n < f → start + duration g p n ≤ time) →
     time < start + duration g p f →
     IsLeastCount g p start time f
@@ -26,7 +27,7 @@ first_is_least g p start time f below here = λ n. (
   λ m. omega (arith, here, duration_grows g p f n m),
 )
 
--- a cube of the graph narrowed by a count of a process is known to the graph
+-- a cube on variables of the graph stays that when it is narrowed by a range of a process's fault count
 pub part_known : (g : Graph) (p : ℕ) → p < process_count g →
     (cube : List Literal) (low high : ℕ) (o : Option (List Literal)) →
     IsKnown g cube →

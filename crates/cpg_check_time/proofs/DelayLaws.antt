@@ -1,4 +1,4 @@
--- Delays: how long they take, and the columns that are late by them.
+-- Delays: how long they are at most, and which columns are late by them.
 use Rattle.std.proofs.Common.{ℕ, ◌+◌, ◌<◌, ◌≤◌, ◌≡◌, ◌^◌, true, false, ◌&&◌, List, length, Option, arith, ap, inl, inr}
 use Rattle.std.proofs.Common.{lt-ltb, le-ltb, All}
 use Rattle.std.specs.Prelude.{nat_lt}
@@ -24,7 +24,7 @@ use Rattle.cpg_check_time.proofs.Seeking.{both_any}
 use Rattle.cpg_violation.proofs.Tests.{with_true}
 use Rattle.cpg_violation.proofs.Durations.{duration_grows, fault_within}
 
--- the slots of a graph within its limits are short
+-- in a graph within its limits, a node's slot is shorter than 2^40; a node without one has length 0
 pub slot_short : (g : Graph) → IsWithinLimits g → (node : ℕ) → slot_length g node < 2 ^ 40
 slot_short g within node = elim (cases_lt (slot_place g node) (length g.slots)) [
   | inl l ↦ omega (arith, (within.slots (slot_place g node) (record { node = 0; length = 0; bytes = 0 }) l).length)
@@ -33,13 +33,14 @@ slot_short g within node = elim (cases_lt (slot_place g node) (length g.slots)) 
       omega arith
 ]
 
--- an execution takes longest with all faults
+-- an execution ends latest with all faults of the graph
 pub most_faults : (g : Graph) → process_count g ≤ 128 → (p : ℕ) → p < process_count g → (s : Scenario) (time : ℕ) →
     IsScenario g s →
     time + duration g p (fault_of s p) ≤ time + duration g p g.faults
 most_faults g few p l s time i = omega (arith, duration_grows g p (fault_of s p) g.faults (fault_within g few p l s i))
 
--- a frame is late wherever its column matches
+-- if a frame of column `c` is there only after the time, the column is late wherever it matches, so the least scenario
+-- that it and the cube match is the answer
 pub slot_first : (g : Graph) (order : List ℕ) (cube : List Literal) (c : Column) (length time : ℕ) →
     time < c.time + length →
     (o : Option Scenario) →
@@ -49,15 +50,16 @@ slot_first g order cube c length time late o f = first_same g order (λ s. match
     (λ s. matches cube s && (matches c.cube s && nat_lt time (c.time + length))) o
     (λ s _. ap (λ b. matches cube s && b) (with_true (matches c.cube s) _ (lt-ltb time (c.time + length) late))) f
 
+-- the cube that has to match as well, what the columns begin, and the time by which it should be done
 module _ (g : Graph) (cube : List Literal) (delay : Delay) (time : ℕ) where
-  -- a column that delays matches together with the cube
+  -- where `delays` is true, both the cube and the column match
   pub delays_both : (s : Scenario) (d : Column) → delays g cube delay time d s ≡ true →
       (matches cube s ≡ true) × (matches d.cube s ≡ true)
   delays_both s d t =
       let p = and_parts (matches cube s) (is_late g delay time d s) t in
       (p.0, (and_parts (matches d.cube s) (nat_lt time (done_at g s delay d.time)) p.1).0)
 
-  -- the cube's test may be asked once instead of for each column
+  -- whether the cube matches may be asked once instead of for each column, so the answer is the same
   pub first_delay : (order : List ℕ) (columns : List Column) (o : Option Scenario) →
       IsFirst g order (λ s. list_any (λ d. delays g cube delay time d s) columns) o →
       IsFirst g order (λ s. matches cube s && list_any (λ d. is_late g delay time d s) columns) o
@@ -65,7 +67,7 @@ module _ (g : Graph) (cube : List Literal) (delay : Delay) (time : ℕ) where
       (λ s. matches cube s && list_any (λ d. is_late g delay time d s) columns) o
       (λ s _. both_any (matches cube s) (λ d. is_late g delay time d s) columns) f
 
-  -- if the last is early enough, all are
+  -- if no column is after `last`, and what begins then is done by the time even if it takes longest, no column is late
   pub never_delays : (most last : ℕ) → IsMost g delay most → (columns : List Column) →
       All (λ d. d.time ≤ last) columns → last + most ≤ time → (s : Scenario) →
       IsScenario g s →

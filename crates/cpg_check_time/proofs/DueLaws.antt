@@ -1,4 +1,4 @@
--- V9 at one column: the execution ends after the due.
+-- V9 at one column: the execution that it starts ends after the due.
 use Rattle.std.proofs.Common.{ℕ, ◌<◌, ◌≡◌, ◌&&◌, List, ap, sym, lt-ltb, Option, ◌∙◌}
 use Rattle.cpg_base.specs.Graph.{Graph, process_count}
 use Rattle.cpg_base.specs.Duration.{due}
@@ -13,14 +13,14 @@ use Rattle.cpg_table.specs.declared.rule.Rule.{Rule}
 use Rattle.cpg_check_time.specs.Columns.{breaks_column}
 use Rattle.cpg_check_time.specs.Lateness.{ends_after}
 
--- given a process x and a column c of it
+-- a process `x`, and a column
 module _ (g : Graph) (order : List ℕ) (tables : List NodeTable) (x : ℕ) (c : Column) (l : x < process_count g) where
-  -- the column breaks V9 where it matches and its execution ends past the due
+  -- the column breaks V9 exactly where it matches and its execution ends after the due
   due_is : (s : Scenario) →
       (matches c.cube s && ends_after g x c.time (due g x) s) ≡ breaks_column Rule.Due g tables x c s
   due_is s = ap (λ b. matches c.cube s && (b && ends_after g x c.time (due g x) s)) (sym (lt-ltb x (process_count g) l))
 
-  -- the first scenario of the late part of the column is the first in which the column breaks V9
+  -- if a part matches exactly there, its least scenario is the least in which the column breaks V9
   pub due_first : (part : List Literal) →
       ((s : Scenario) → IsScenario g s → matches part s ≡ (matches c.cube s && ends_after g x c.time (due g x) s)) →
       (o : Option Scenario) →

@@ -1,4 +1,5 @@
--- V8 at one column: the item is frozen, and the time another than that of the first possible column.
+-- V8 at one column: the item is frozen, and the column's time isn't that of the first column that matches in any
+-- scenario (the first possible one).
 use Rattle.std.proofs.Common.{ℕ, ◌+◌, ◌<◌, ◌≤◌, ◌≡◌, ◌≢◌, Bool, true, false, cond, not, ◌&&◌, ◌==◌, List, length}
 use Rattle.std.proofs.Common.{get_or, drop, find, map, Option, Some, None, All, refl, sym, ap, ◌∙◌, ne_eqb, eq-eqb}
 use Rattle.std.specs.Prelude.{option_map}
@@ -24,29 +25,28 @@ use Rattle.cpg_check_time.specs.Frozen.{frozen_time, possible_time}
 
 -- ---- the first possible column
 
--- a column at a place of a row of the graph
--- `are`: the columns are columns of the graph. `l`, `is`: d is the column at place i.
+-- the loop of `possible_time`: `d` is the column at place `i` of a row of the graph
 module _ (g : Graph) (few : process_count g ≤ 128) (columns : List Column) (are : All (IsColumn g) columns) (i : ℕ)
     (d : Column) (l : i < length columns) (is : d ≡ get_or columns i d) where
-  -- the column is possible exactly if its cube is met
+  -- the column matches in some scenario exactly if its cube asks for no more faults than there may be
   met_here : is_possible g (get_or columns i d) ≡ is_met g.faults d.cube
   met_here =
       possible-is_met g few (get_or columns i d) (are i d l).cube ∙ ap (λ (c : Column). is_met g.faults c.cube) (sym is)
 
-  -- the first possible column from the place on is this one if it is met, and else one from the next place on
+  -- the first possible column from the place on is this one, if it is possible, and otherwise the first behind it
   found_step : find (is_possible g) (drop i columns)
       ≡ cond (is_met g.faults d.cube) (Some (get_or columns i d)) (find (is_possible g) (drop (i + 1) columns))
   found_step = ap (find (is_possible g)) (drop_more columns i d l)
       ∙ ap (λ b. cond b (Some (get_or columns i d)) (find (is_possible g) (drop (i + 1) columns))) met_here
 
-  -- if the column at the place is met and none before is possible, its time is the possible one
+  -- if no column before is possible and this one is, the possible time is its time
   pub time_here : possible_time g columns ≡ possible_time g (drop i columns) → is_met g.faults d.cube ≡ true →
       Some d.time ≡ possible_time g columns
   time_here so_far met = ap (λ (c : Column). Some c.time) is ∙
       sym (so_far ∙ ap (option_map (λ (c : Column). c.time))
       (found_step ∙ ap (λ b. cond b (Some (get_or columns i d)) (find (is_possible g) (drop (i + 1) columns))) met))
 
-  -- if the column at the place isn't met, the possible time comes later
+  -- if no column up to this one is possible, the possible time is that of the columns behind it
   pub time_later : possible_time g columns ≡ possible_time g (drop i columns) → is_met g.faults d.cube ≡ false →
       possible_time g columns ≡ possible_time g (drop (i + 1) columns)
   time_later so_far met = so_far ∙ ap (option_map (λ (c : Column). c.time))
@@ -54,14 +54,14 @@ module _ (g : Graph) (few : process_count g ≤ 128) (columns : List Column) (ar
 
 -- ---- the rule
 
--- without a frozen time, no column differs from it
+-- an item has no frozen time if it isn't frozen (`b`) or has no possible column (`o`): then V8 isn't broken
 differs_none : (time : ℕ) (b : Bool) (o : Option Column) → cond b (option_map (λ (c : Column). c.time) o) None ≡ None →
     (b && differs_from time o) ≡ false
 differs_none time true None e = refl
 differs_none time true (Some d) e = absurd (none-some d.time (sym e))
 differs_none time false o e = refl
 
--- with one, a column differs from it exactly if its time does
+-- if it has the frozen time `t`, V8 is broken by a column exactly if its time isn't `t`
 differs_some : (time t : ℕ) (b : Bool) (o : Option Column) →
     cond b (option_map (λ (c : Column). c.time) o) None ≡ Some t →
     (b && differs_from time o) ≡ not (t == time)
@@ -69,6 +69,7 @@ differs_some time t true None e = absurd (none-some t e)
 differs_some time t true (Some d) e = ap (λ u. not (u == time)) (same_Some d.time t e)
 differs_some time t false o e = absurd (none-some t e)
 
+-- an item and a column
 module _ (g : Graph) (order : List ℕ) (tables : List NodeTable) (x : ℕ) (c : Column) where
   -- without a frozen time, the column never breaks V8
   pub frozen_none : frozen_time g tables x ≡ None → (s : Scenario) → breaks_column Rule.Frozen g tables x c s ≡ false
@@ -87,7 +88,7 @@ module _ (g : Graph) (order : List ℕ) (tables : List NodeTable) (x : ℕ) (c :
   frozen_other t e other s = with_true (matches c.cube s) _ (differs_some c.time t (is_frozen g x)
       (find (is_possible g) (columns_of tables x)) e ∙ ap not (ne_eqb t c.time other))
 
-  -- the first scenario of a column at another time is the first in which it breaks V8
+  -- so the least scenario that it matches is the least in which it breaks V8
   pub frozen_first : (t : ℕ) → frozen_time g tables x ≡ Some t → t ≢ c.time → (o : Option Scenario) →
       IsFirst g order (matches c.cube) o →
       IsFirst g order (breaks_column Rule.Frozen g tables x c) o

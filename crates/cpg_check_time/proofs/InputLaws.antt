@@ -1,4 +1,4 @@
--- V5 at one column: the release, an input, or the end of the producer comes after its time.
+-- V5 at one column: the release, a live input, or the end of the producer comes only after its time.
 use Rattle.std.proofs.Common.{ℕ, ◌+◌, ◌<◌, ◌≤◌, ◌≡◌, Bool, true, false, cond, not, ◌&&◌, ◌||◌, ◌==◌, List, filter}
 use Rattle.std.proofs.Common.{Contains, Option, refl, sym, ap, ◌∙◌, arith, lt-ltb, le-ltb}
 use Rattle.std.specs.Prelude.{nat_lt}
@@ -39,7 +39,7 @@ use Rattle.cpg_check_time.proofs.Waits.{late_where}
 
 -- ---- live edges
 
--- an edge is live if its source is active and has the value that it asks for
+-- an edge is live exactly if its source is active and has the value that it asks for
 live_asked : {g : Graph} {order : List ℕ} {guards : Guards} → IsAdmitted g order guards → (s : Scenario) →
     IsScenario g s → (e : ℕ) →
     e < edge_count g →
@@ -50,7 +50,7 @@ live_asked {g} {order} {guards} a s i e l = live_tested g order a.topological gu
 module _ {g : Graph} {order : List ℕ} {guards : Guards} (admitted : IsAdmitted g order guards) (tables : List NodeTable)
     (rules : AllHold g tables row_rules) (s : Scenario)
     (law : IsScenario g s) where
-  -- if a process is active and hasn't ended by a time, one of its columns is late
+  -- a process is active and hasn't ended by a time exactly if one of its columns is late
   end_late : (p : ℕ) → p < process_count g → (time : ℕ) →
       (active g s.values p && not (is_by time (ends_of g tables s p)))
       ≡ list_any (λ d. is_late g (Execution p) time d s) (columns_of tables p)
@@ -58,7 +58,7 @@ module _ {g : Graph} {order : List ℕ} {guards : Guards} (admitted : IsAdmitted
       ap (λ i. item_active g s.values i && not (is_by time (ends_of g tables s p))) (sym (item_at-start g p l))
       ∙ late_where g tables s law p (omega arith) rules (λ start. start + duration g p (fault_of s p)) time
 
-  -- if a live input isn't there by a time, it is late
+  -- an input is live and isn't there by a time exactly if it is late
   input_late : (e : ℕ) → e < edge_count g → (time : ℕ) →
       (live g s.values e && not (input_is_there g tables s time e)) ≡ is_input_late g tables time e s
   input_late e l time = go (is_message g e) refl
@@ -89,23 +89,26 @@ module _ {g : Graph} {order : List ℕ} {guards : Guards} (admitted : IsAdmitted
 
   -- ---- the rule at a start
 
+  -- a column of a start
   module _ (p : ℕ) (l : p < process_count g) (c : Column) where
-    -- a column of a start breaks V5 if it matches before the release, or if a live input isn't there
+    -- it breaks V5 exactly where it matches and is before the release or a live input isn't there
     at_start : breaks_column Rule.Inputs g tables p c s ≡
         (matches c.cube s && (nat_lt c.time (process_at g p).release
         || list_any (λ e. not (input_is_there g tables s c.time e)) (filter (live g s.values) (inputs g p))))
     at_start = ap (λ i. matches c.cube s && breaks_inputs_of g tables s c.time i) (item_at-start g p l)
 
-    -- before the release it does so wherever it matches
+    -- if it is before the release, it breaks V5 wherever it matches
     too_early : c.time < (process_at g p).release → matches c.cube s ≡ breaks_column Rule.Inputs g tables p c s
     too_early early = with_true (matches c.cube s) true refl ∙
         sym (at_start ∙ ap (λ b. matches c.cube s
         && (b || list_any (λ e. not (input_is_there g tables s c.time e)) (filter (live g s.values) (inputs g p))))
         (lt-ltb c.time (process_at g p).release early))
 
-    -- once the release has come, an input that is late is all that breaks V5 at a start
+    -- if it isn't, it breaks V5 exactly where it matches and one of the inputs is late
     inputs_only : (process_at g p).release ≤ c.time →
         list_any (λ e. lacks_input g tables c e s) (inputs g p) ≡ breaks_column Rule.Inputs g tables p c s
+    -- whether the column matches is asked once; an input is live and not there exactly if it is late; and the release
+    -- has come
     inputs_only released =
         both_any (matches c.cube s) (λ e. is_input_late g tables c.time e s) (inputs g p)
         ∙ ap (λ b. matches c.cube s && b)
@@ -123,7 +126,8 @@ module _ {g : Graph} {order : List ℕ} {guards : Guards} (admitted : IsAdmitted
   -- a column of a send
   module _ (x : ℕ) (l : x < item_count g) (send : process_count g ≤ x) (c : Column)
       (k : Contains (columns_of tables x) c) where
-    -- a column of a send breaks V5 if it matches and some column of the producer ends late
+    -- it breaks V5 exactly where it matches and some column of the producer ends late: where it matches, the producer
+    -- is active
     at_send : (matches c.cube s && list_any (λ d. is_late g (Execution (producer g x)) c.time d s)
         (columns_of tables (producer g x))) ≡ breaks_column Rule.Inputs g tables x c s
     at_send =
@@ -136,23 +140,24 @@ module _ {g : Graph} {order : List ℕ} {guards : Guards} (admitted : IsAdmitted
 
 -- ---- an input by its kind
 
+-- a column of a start, and an input of its process
 module _ (g : Graph) (order : List ℕ) (tables : List NodeTable) (c : Column) (e : ℕ) (o : Option Scenario) where
-  -- what is asked of a frame, and of the end of a source on the node
+  -- some column of the input's message arrives after the column's time
   abbrev frame_late : Scenario → Bool
   frame_late s = list_any (λ d. is_late g (Slot (slot_length g (home g (message_item g e)))) c.time d s)
       (columns_of tables (message_item g e))
 
-  -- some column of the source ends after the column's time
+  -- some column of the input's source ends after the column's time
   abbrev source_late : Scenario → Bool
   source_late s = list_any (λ d. is_late g (Execution (source g e)) c.time d s) (columns_of tables (source g e))
 
-  -- the first scenario in which the frame of a message is late is the first that lacks the input
+  -- if the input is a message, the least scenario in which its frame is late is the least that lacks the input
   pub lacks_frame : is_message g e ≡ true → IsFirst g order (λ s. matches c.cube s && frame_late s) o →
       IsFirst g order (lacks_input g tables c e) o
   lacks_frame m f = first_same g order (λ s. matches c.cube s && frame_late s) (lacks_input g tables c e) o
       (λ s _. sym (ap (λ b. matches c.cube s && cond b (frame_late s) (is_asked g e s && source_late s)) m)) f
 
-  -- the first scenario in which the source has the value asked for and ends late is the first that lacks the input
+  -- if it isn't, that is the least scenario in which the source has the asked value and ends late
   pub lacks_source : is_message g e ≡ false → (part : List Literal) →
       ((s : Scenario) → matches part s ≡ (matches c.cube s && is_asked g e s)) →
       IsFirst g order (λ s. matches part s && source_late s) o → IsFirst g order (lacks_input g tables c e) o
@@ -162,17 +167,17 @@ module _ (g : Graph) (order : List ℕ) (tables : List NodeTable) (c : Column) (
 
 -- ---- the least scenario
 
--- tables of an admitted graph that keep V1 to V3, a column, and an answer
+-- tables of an admitted graph that keep V1 to V3, a column, and the answer of a search
 module _ {g : Graph} {order : List ℕ} {guards : Guards} (admitted : IsAdmitted g order guards) (tables : List NodeTable)
     (rules : AllHold g tables row_rules) (x : ℕ) (c : Column)
     (o : Option Scenario) where
-  -- a column of a start before its release breaks V5 wherever it matches
+  -- before the release of a start, the least scenario that the column matches is the least in which it breaks V5
   pub first_released : x < process_count g → c.time < (process_at g x).release → IsFirst g order (matches c.cube) o →
       IsFirst g order (breaks_column Rule.Inputs g tables x c) o
   first_released l early f = first_same g order (matches c.cube) (breaks_column Rule.Inputs g tables x c) o
       (λ s i. too_early admitted tables rules s i x l c early) f
 
-  -- the first scenario in which an input is missing is the first in which a column from the release on breaks V5
+  -- from the release on, that is the least scenario in which it lacks one of the inputs
   pub first_input : x < process_count g → (process_at g x).release ≤ c.time →
       IsFirst g order (λ s. list_any (λ e. lacks_input g tables c e s) (inputs g x)) o →
       IsFirst g order (breaks_column Rule.Inputs g tables x c) o
@@ -180,7 +185,7 @@ module _ {g : Graph} {order : List ℕ} {guards : Guards} (admitted : IsAdmitted
       (breaks_column Rule.Inputs g tables x c) o
       (λ s i. inputs_only admitted tables rules s i x l c released) f
 
-  -- the first scenario in which the producer ends after a column of a send is the first in which that breaks V5
+  -- for a send, it is the least scenario in which the column matches and its producer ends late
   pub first_send : x < item_count g → process_count g ≤ x → Contains (columns_of tables x) c →
       IsFirst g order (λ s. matches c.cube s
       && list_any (λ d. is_late g (Execution (producer g x)) c.time d s) (columns_of tables (producer g x))) o →

@@ -1,4 +1,4 @@
--- A rule that each column keeps or breaks by itself: column by column, and what is known of each column.
+-- A rule that judges each column by itself, at one column after another; and what is known of each column.
 use Rattle.std.proofs.Common.{ℕ, ◌+◌, ◌<◌, ◌≤◌, ◌≡◌, true, false, ◌&&◌, List, [], ◌++◌, length, get_or, take, Some}
 use Rattle.std.proofs.Common.{None, Contains, All, arith, sym, ap, ◌∙◌, subst, inl, inr, refl, true≢false}
 use Rattle.std.specs.List.{list_any}
@@ -28,31 +28,32 @@ use Rattle.cpg_violation.specs.Violation.{IsFirstColumn}
 use Rattle.cpg_violation.proofs.Violations.{columns_known}
 use Rattle.cpg_check_time.specs.Columns.{breaks_column, is_alone, IsColumn}
 
--- ---- rules that don't ask which columns stand before
+-- ---- rules that don't ask which columns come before
 
--- of these rules only V3 would ask for a column
+-- a rule that judges each column by itself isn't V3, so it doesn't ask for a column
 never_asks : (rule : Rule) → is_alone rule ≡ true → asks_for_one rule ≡ false
 never_asks Present e = absurd (true≢false (sym e))
 never_asks rule e = refl
 
--- and only V2 about earlier columns
+-- nor is it V2, so it doesn't ask which columns come before
 same_rule : (rule : Rule) → is_alone rule ≡ true →
     (g : Graph) (tables : List NodeTable) (s : Scenario) (x : ℕ) (earlier : List Column) (c : Column) →
     breaks_rule rule g tables s x earlier c ≡ breaks_rule rule g tables s x [] c
 same_rule Single e g tables s x earlier c = absurd (true≢false (sym e))
 same_rule rule e g tables s x earlier c = refl
 
+-- such a rule, and an item
 module _ (rule : Rule) (alone : is_alone rule ≡ true) (g : Graph) (tables : List NodeTable) (x : ℕ) where
-  -- the rule asks nothing about earlier columns
+  -- a column breaks it whatever columns come before
   pub same_earlier : (earlier : List Column) (c : Column) (s : Scenario) →
       breaks_at rule g tables s x earlier c ≡ breaks_column rule g tables x c s
   same_earlier earlier c s = ap (λ b. matches c.cube s && b) (same_rule rule alone g tables s x earlier c)
 
-  -- the rule is never broken for the lack of a column
+  -- it is never broken for lack of a column
   pub never_missing : (s : Scenario) → breaks rule g tables s x None ≡ false
   never_missing s = ap (λ b. b && breaks_present g tables s x) (never_asks rule alone)
 
-  -- the item breaks the rule at a place exactly if the column there breaks it
+  -- it is broken at a place of the item's row exactly if the column there breaks it
   pub breaks_here : (i : ℕ) (d : Column) (s : Scenario) → i < length (columns_of tables x) →
       breaks_column rule g tables x (get_or (columns_of tables x) i d) s ≡ breaks rule g tables s x (Some i)
   breaks_here i d s h =
@@ -61,17 +62,16 @@ module _ (rule : Rule) (alone : is_alone rule ≡ true) (g : Graph) (tables : Li
       ∙ sym (ap (λ l. list_any (breaks_at rule g tables s x (take i (columns_of tables x))) (take 1 l))
       (drop_more (columns_of tables x) i d h))
 
-  -- no rule is broken at a place past the last column
+  -- it isn't broken at a place past the last column
   pub breaks_past : (i : ℕ) (s : Scenario) → length (columns_of tables x) ≤ i →
       breaks rule g tables s x (Some i) ≡ false
   breaks_past i s h = ap (λ l. list_any (breaks_at rule g tables s x (take i (columns_of tables x))) (take 1 l))
       (drop_all i (columns_of tables x) h)
 
-  -- the column of a step of a loop over the columns
-  -- `all`: these are the columns of the item's row. `l`, `is`: d is the column at place i.
+  -- a step of a loop over the columns of the item's row: `d` is the column at place `i`
   module _ (order : List ℕ) (columns : List Column) (all : columns ≡ columns_of tables x) (i : ℕ) (d : Column)
       (l : i < length columns) (is : d ≡ get_or columns i d) where
-    -- the column breaks the rule just as the item does at this place
+    -- the column breaks the rule exactly where the rule is broken at this place
     place_is : (s : Scenario) → breaks_column rule g tables x d s ≡ breaks rule g tables s x (Some i)
     place_is s = ap (λ c. breaks_column rule g tables x c s) (is ∙ ap (λ cs. get_or cs i d) all)
         ∙ breaks_here i d s (omega (arith, ap length all))
@@ -80,7 +80,8 @@ module _ (rule : Rule) (alone : is_alone rule ≡ true) (g : Graph) (tables : Li
     pub place_there : Contains (columns_of tables x) d
     place_there = subst (λ cs. Contains cs d) all (i, l, sym is)
 
-    -- if no earlier column breaks the rule, the first scenario in which this one does is the item's first violation
+    -- if no column before breaks the rule, the least scenario in which this one does is that of the first column that
+    -- does
     pub first_here : (s : Scenario) →
         ((j : ℕ) (t : Scenario) → j < i → IsScenario g t → breaks rule g tables t x (Some j) ≡ false) →
         IsFirst g order (breaks_column rule g tables x d) (Some s)
@@ -91,7 +92,7 @@ module _ (rule : Rule) (alone : is_alone rule ≡ true) (g : Graph) (tables : Li
       columns = λ j t m k. before j t m k;
     }
 
-    -- if no earlier column breaks the rule and this one doesn't, none up to the next place does
+    -- if no column before breaks the rule and this one doesn't, none before the next place does
     pub none_here : ((j : ℕ) (t : Scenario) → j < i → IsScenario g t → breaks rule g tables t x (Some j) ≡ false) →
         ((t : Scenario) → IsScenario g t → breaks_column rule g tables x d t ≡ false)
         → (j : ℕ) (t : Scenario) → j < i + 1 → IsScenario g t → breaks rule g tables t x (Some j) ≡ false
@@ -113,13 +114,16 @@ in_rows_of t row k = elim (Contains-append_cases t.starts t.sends row k) [
 -- tables of an admitted graph
 module _ {g : Graph} {order : List ℕ} {guards : Guards} (admitted : IsAdmitted g order guards) (tables : List NodeTable)
     (are : AreTablesOf (head_of g) tables) where
-  -- the row of the column stands at the item's node, and all columns of the node's rows are lawful
+  -- each column of an item is lawful: it is in the item's row at the item's node, and all rows of a node's table are
+  -- lawful
   lawful_column : (x : ℕ) (c : Column) → Contains (columns_of tables x) c → IsLawfulColumn (space_of (head_of g)) c
   lawful_column x c k =
+      -- the row, at the item's node
       let shape = has_shape g admitted.limits tables are in
       let has = has_row admitted.well_formed shape x c k in
       let node : home g x < length g.nodes = home_within admitted.well_formed shape x has.within in
       let r = row_of admitted.well_formed shape (home g x) x node has in
+      -- it has the column, and is lawful
       let there : Contains r.0.columns c = subst (λ cs. Contains cs c)
       (ap (columns_of tables) (sym r.2) ∙ row_columns admitted.well_formed shape (home g x) node r.0 r.1) k in
       let row : IsLawfulRow (space_of (head_of g)) r.0 = All-contains (IsLawfulRow (space_of (head_of g)))
@@ -127,7 +131,7 @@ module _ {g : Graph} {order : List ℕ} {guards : Guards} (admitted : IsAdmitted
       (in_rows_of (table_at tables (home g x)) r.0 r.1) in
       All-contains (IsLawfulColumn (space_of (head_of g))) r.0.columns c row.columns there
 
-  -- the columns of tables of an admitted graph have its variables, and leave room for an execution
+  -- each column of an item is one as tables of the graph have it
   pub column_is : (x : ℕ) (c : Column) → Contains (columns_of tables x) c → IsColumn g c
   column_is x c k =
       let lawful = lawful_column x c k in
@@ -140,7 +144,7 @@ module _ {g : Graph} {order : List ℕ} {guards : Guards} (admitted : IsAdmitted
         early = lawful.time;
       }
 
-  -- all columns of an item have the graph's variables, and leave room for an execution
+  -- so all columns of an item are
   pub columns_are : (x : ℕ) → All (IsColumn g) (columns_of tables x)
   columns_are x = All-weaker (Contains (columns_of tables x)) (IsColumn g) (column_is x) (columns_of tables x)
       (All-contains_itself (columns_of tables x))

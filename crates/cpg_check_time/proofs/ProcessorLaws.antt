@@ -1,4 +1,4 @@
--- V6 at one column: another execution on the processor overlaps that of the column.
+-- V6 at one column: an execution of a lower process of the node overlaps the one that the column starts.
 use Rattle.std.proofs.Common.{ℕ, ◌+◌, ◌<◌, ◌≤◌, ◌≡◌, Bool, true, false, ◌&&◌, ◌==◌, List, filter, All, Option, arith}
 use Rattle.std.proofs.Common.{sym, ap, ◌∙◌, lt-ltb, le-ltb, ltb, eq-eqb}
 use Rattle.std.specs.List.{list_any}
@@ -28,10 +28,11 @@ use Rattle.cpg_check_time.proofs.Seeking.{and_swap, any_at, both_any}
 
 -- ---- two columns
 
--- a column of a process, and one of another
+-- column `c` of process `p`, and column `d` of process `q`
 module _ (g : Graph) (within : IsWithinLimits g) (p : ℕ) (l : p < process_count g) (c : Column) (q : ℕ)
     (d : Column) where
-  -- if the other execution starts first, they overlap exactly if it ends after this one starts
+  -- if `d` isn't later, the least scenario in which its execution ends after `c` is the least in which the two overlap:
+  -- an execution takes some time, so `d` is before the end of the other
   pub overlap_after : d.time ≤ c.time → (order : List ℕ) (o : Option Scenario) →
       IsFirst g order (λ s. matches c.cube s && (matches d.cube s && ends_after g q d.time c.time s)) o →
       IsFirst g order (overlaps g p c q d) o
@@ -42,7 +43,7 @@ module _ (g : Graph) (within : IsWithinLimits g) (p : ℕ) (l : p < process_coun
       (lt-ltb d.time (c.time + duration g p (fault_of s p))
       (omega (arith, duration_some g within p (fault_of s p) l))))) f
 
-  -- if the other execution starts later, they overlap exactly if this one ends after that starts
+  -- if `d` is later, it is the least in which the execution of `c` ends after `d`
   pub overlap_before : c.time < d.time → (order : List ℕ) (o : Option Scenario) →
       IsFirst g order (λ s. matches d.cube s && (matches c.cube s && ends_after g p c.time d.time s)) o →
       IsFirst g order (overlaps g p c q d) o
@@ -52,7 +53,7 @@ module _ (g : Graph) (within : IsWithinLimits g) (p : ℕ) (l : p < process_coun
       ∙ ap (λ b. matches c.cube s && (matches d.cube s && (b && ends_after g p c.time d.time s)))
       (sym (lt-ltb c.time (d.time + duration g q (fault_of s q)) (omega arith)))) f
 
-  -- executions that overlap are of columns that match together
+  -- where the two overlap, both columns match
   pub overlaps_both : (s : Scenario) → overlaps g p c q d s ≡ true →
       (matches c.cube s ≡ true) × (matches d.cube s ≡ true)
   overlaps_both s t =
@@ -61,8 +62,9 @@ module _ (g : Graph) (within : IsWithinLimits g) (p : ℕ) (l : p < process_coun
 
 -- ---- the columns of another process
 
+-- column `c` of process `p`, and process `q`
 module _ (g : Graph) (tables : List NodeTable) (p : ℕ) (c : Column) (q : ℕ) where
-  -- on the same node, the first scenario in which two executions overlap is the first in which the other item clashes
+  -- if `q` is on the same node, the least scenario in which one of its columns overlaps `c` is the least of a clash
   pub other_node : node_of g q ≡ node_of g p → (order : List ℕ) (o : Option Scenario) →
       IsFirst g order (λ s. list_any (λ d. overlaps g p c q d s) (columns_of tables q)) o →
       IsFirst g order (overlaps_some g tables p c q) o
@@ -71,8 +73,9 @@ module _ (g : Graph) (tables : List NodeTable) (p : ℕ) (c : Column) (q : ℕ) 
       (λ s _. sym (ap (λ b. b && list_any (λ d. overlaps g p c q d s) (columns_of tables q))
       (eq-eqb (node_of g q) (node_of g p) same))) f
 
+  -- a scenario of a graph within limits
   module _ (few : process_count g ≤ 128) (s : Scenario) (i : IsScenario g s) where
-    -- no execution overlaps if all of the other item start once the longest of this column is over
+    -- if `c`'s execution is over before `q`'s first column even if it lasts longest, none of `q` overlaps it
     pub starts_late : p < process_count g → (first : ℕ) → All (λ d. first ≤ d.time) (columns_of tables q) →
         c.time + duration g p g.faults ≤ first →
         overlaps_some g tables p c q s ≡ false
@@ -84,7 +87,7 @@ module _ (g : Graph) (tables : List NodeTable) (p : ℕ) (c : Column) (q : ℕ) 
         (and_right (ltb c.time (d.time + duration g q (fault_of s q))) _
         (le-ltb d.time (c.time + duration g p (fault_of s p)) (omega arith))))))
 
-    -- no execution overlaps if even the longest of the other item's last column is over before this one starts
+    -- if the execution of `q`'s last column is over by `c` even if it lasts longest, none of `q` overlaps that of `c`
     pub ends_early : q < process_count g → (last : ℕ) → All (λ d. d.time ≤ last) (columns_of tables q) →
         last + duration g q g.faults ≤ c.time →
         overlaps_some g tables p c q s ≡ false
@@ -97,12 +100,13 @@ module _ (g : Graph) (tables : List NodeTable) (p : ℕ) (c : Column) (q : ℕ) 
 
 -- ---- the rule
 
+-- column `c` of process `p`
 module _ (g : Graph) (order : List ℕ) (tables : List NodeTable) (p : ℕ) (l : p < process_count g) (c : Column) where
-  -- whether a start of a process overlaps
+  -- whether an execution of `q` that starts at `start` overlaps the one that `c` starts
   abbrev at_start : Scenario → ℕ → ℕ → Bool
   at_start s q start = overlap c.time (c.time + duration g p (fault_of s p)) start (start + duration g q (fault_of s q))
 
-  -- another process of the node overlaps the column where both match and the executions do
+  -- process `q` clashes with `c` exactly where `c` matches, `q` is on the same node, and one of its starts overlaps
   of_process : (s : Scenario) (q : ℕ) →
       overlaps_some g tables p c q s
       ≡ (matches c.cube s && ((node_of g q == node_of g p) && list_any (at_start s q) (at tables q s)))
@@ -112,9 +116,11 @@ module _ (g : Graph) (order : List ℕ) (tables : List NodeTable) (p : ℕ) (l :
       ∙ ap (λ b. matches c.cube s && b) (sym (any_at tables q s (at_start s q))))
       ∙ and_swap (node_of g q == node_of g p) (matches c.cube s) (list_any (at_start s q) (at tables q s))
 
-  -- for each lower process: one of its columns overlaps exactly if one of its starts does
+  -- some lower process clashes with `c` exactly where `c` breaks V6
   processor_is : (s : Scenario) →
       list_any (λ q. overlaps_some g tables p c q s) (numbers_below p) ≡ breaks_column Rule.Processor g tables p c s
+  -- for each lower process it is a start on the same node that overlaps; whether `c` matches is asked once; and V6
+  -- keeps the processes of the node first
   processor_is s =
       same_any (λ q. overlaps_some g tables p c q s)
       (λ q. matches c.cube s && ((node_of g q == node_of g p) && list_any (at_start s q) (at tables q s)))
@@ -126,7 +132,7 @@ module _ (g : Graph) (order : List ℕ) (tables : List NodeTable) (p : ℕ) (l :
       ∙ sym (ap (λ b. matches c.cube s && (b && list_any (λ q. list_any (at_start s q) (at tables q s))
       (filter (λ q. node_of g q == node_of g p) (numbers_below p)))) (lt-ltb p (process_count g) l))
 
-  -- the first scenario in which an execution of a lower number overlaps is the first in which the column breaks V6
+  -- so the least scenario in which some lower process clashes is the least in which `c` breaks V6
   pub first_overlap : (o : Option Scenario) →
       IsFirst g order (λ s. list_any (λ q. overlaps_some g tables p c q s) (numbers_below p)) o →
       IsFirst g order (breaks_column Rule.Processor g tables p c) o

@@ -1,4 +1,4 @@
--- V7 at one column: the time is no start of a slot, or a lower item of the node has it too.
+-- V7 at one column: no slot of the node starts at its time, or a lower item of the node is sent at that time, too.
 use Rattle.std.proofs.Common.{ℕ, ◌<◌, ◌≤◌, ◌≡◌, ◌≢◌, Bool, true, false, not, ◌&&◌, ◌||◌, ◌==◌, List, All, Contains}
 use Rattle.std.proofs.Common.{Option, arith, sym, ap, ◌∙◌, eq-eqb, ne_eqb}
 use Rattle.std.specs.List.{list_any}
@@ -22,7 +22,7 @@ use Rattle.cpg_check_time.proofs.Seeking.{and_swap, any_at, both_any}
 
 -- ---- two columns, and those of another item
 
--- if they have one time, they share a slot wherever both match
+-- two columns of one time share a slot wherever both match, so the least scenario that both match is the answer
 pub share_where : (g : Graph) (c d : Column) → d.time ≡ c.time → (order : List ℕ) (o : Option Scenario) →
     IsFirst g order (λ s. matches c.cube s && matches d.cube s) o →
     IsFirst g order (shares c d) o
@@ -30,15 +30,17 @@ share_where g c d same order o f = first_same g order (λ s. matches c.cube s &&
     (λ s _.
     ap (λ b. matches c.cube s && b) (with_true (matches d.cube s) (d.time == c.time) (eq-eqb d.time c.time same))) f
 
--- columns that share a slot both match
+-- where two columns share a slot, both match
 pub shares_both : (c : Column) (s : Scenario) (d : Column) → shares c d s ≡ true →
     (matches c.cube s ≡ true) × (matches d.cube s ≡ true)
 shares_both c s d t =
     let r = and_parts (matches c.cube s) (matches d.cube s && (d.time == c.time)) t in
     (r.0, (and_parts (matches d.cube s) (d.time == c.time) r.1).0)
 
+-- column `c` of item `x`, and item `y`
 module _ (g : Graph) (tables : List NodeTable) (x : ℕ) (c : Column) (y : ℕ) where
-  -- if the node sends the other item, the first scenario in which columns share a slot is the first of a clash
+  -- if the node of `x` sends `y`, the least scenario in which one of its columns shares the slot is the least of a
+  -- clash
   pub other_item : is_sent g y ≡ true → home g y ≡ home g x → (order : List ℕ) (o : Option Scenario) →
       IsFirst g order (λ s. list_any (λ d. shares c d s) (columns_of tables y)) o →
       IsFirst g order (shares_some g tables x c y) o
@@ -47,20 +49,20 @@ module _ (g : Graph) (tables : List NodeTable) (x : ℕ) (c : Column) (y : ℕ) 
       (λ s _. sym (ap (λ b. (b && (home g y == home g x)) && list_any (λ d. shares c d s) (columns_of tables y)) sent ∙
       ap (λ b. b && list_any (λ d. shares c d s) (columns_of tables y)) (eq-eqb (home g y) (home g x) node))) f
 
-  -- none has the time
+  -- if no column of `y` has the time of `c`, the two never clash
   never_shares : ((d : Column) → Contains (columns_of tables y) d → d.time ≢ c.time) → (s : Scenario) →
       shares_some g tables x c y s ≡ false
   never_shares none s = and_right (is_sent g y && (home g y == home g x)) _
       (list_any_false (λ d. shares c d s) (columns_of tables y) (λ d k.
       and_right (matches c.cube s) _ (and_right (matches d.cube s) _ (ne_eqb d.time c.time (none d k)))))
 
-  -- an item whose columns are all later shares no slot with the column
+  -- so it is if all columns of `y` are later
   pub all_later : (first : ℕ) → All (λ d. first ≤ d.time) (columns_of tables y) → c.time < first → (s : Scenario) →
       shares_some g tables x c y s ≡ false
   all_later first all early = never_shares (λ d k e. let from : first ≤ d.time =
       All-contains (λ (d : Column). first ≤ d.time) (columns_of tables y) d all k in omega arith)
 
-  -- an item whose columns are all earlier shares no slot with the column
+  -- and if all are earlier
   pub all_earlier : (last : ℕ) → All (λ d. d.time ≤ last) (columns_of tables y) → last < c.time → (s : Scenario) →
       shares_some g tables x c y s ≡ false
   all_earlier last all late = never_shares (λ d k e. let by : d.time ≤ last =
@@ -68,18 +70,20 @@ module _ (g : Graph) (tables : List NodeTable) (x : ℕ) (c : Column) (y : ℕ) 
 
 -- ---- the rule
 
+-- column `c` of item `x`
 module _ (g : Graph) (order : List ℕ) (tables : List NodeTable) (x : ℕ) (c : Column) where
-  -- an item with a lower number that the node sends at that time
+  -- whether item `y` is sent by the same node, and at the time of `c`, in a scenario
   abbrev other_at : Scenario → ℕ → Bool
   other_at s y = (is_sent g y && (home g y == home g x)) && list_any (λ t. t == c.time) (at tables y s)
 
-  -- an item that isn't sent never breaks V7
+  -- if `x` isn't sent, `c` never breaks V7
   pub not_sent : is_sent g x ≡ false → (s : Scenario) → breaks_column Rule.Slot g tables x c s ≡ false
   not_sent e s = and_right (matches c.cube s) _
       (ap (λ b. b && (not (next_slot g (home g x) c.time == c.time) || list_any (other_at s) (numbers_below x))) e)
 
+  -- an item that is sent
   module _ (sent : is_sent g x ≡ true) where
-    -- if the time is no start of a slot, the column breaks V7 wherever it matches
+    -- if no slot of the node starts at its time, `c` breaks V7 wherever it matches
     no_start : next_slot g (home g x) c.time ≢ c.time → (s : Scenario) →
         matches c.cube s ≡ breaks_column Rule.Slot g tables x c s
     no_start n s =
@@ -89,15 +93,16 @@ module _ (g : Graph) (order : List ℕ) (tables : List NodeTable) (x : ℕ) (c :
         b && (not (next_slot g (home g x) c.time == c.time) || list_any (other_at s) (numbers_below x))) sent ∙
         ap (λ b. not b || list_any (other_at s) (numbers_below x)) starts)
 
-    -- a column that is at no start of a slot breaks V7 wherever it matches
+    -- so the least scenario that it matches is the least in which it breaks V7
     pub first_no_start : next_slot g (home g x) c.time ≢ c.time → (o : Option Scenario) →
         IsFirst g order (matches c.cube) o →
         IsFirst g order (breaks_column Rule.Slot g tables x c) o
     first_no_start n o f =
         first_same g order (matches c.cube) (breaks_column Rule.Slot g tables x c) o (λ s _. no_start n s) f
 
+    -- a slot of its node starts at its time
     module _ (start : next_slot g (home g x) c.time ≡ c.time) where
-      -- if it is one, the column breaks V7 where it matches together with a lower item of the node at that time
+      -- then `c` breaks V7 exactly where it matches and a lower item is sent by the node at the same time
       others_only : (s : Scenario) →
           breaks_column Rule.Slot g tables x c s ≡ (matches c.cube s && list_any (other_at s) (numbers_below x))
       others_only s = ap (λ b. matches c.cube s
@@ -105,7 +110,7 @@ module _ (g : Graph) (order : List ℕ) (tables : List NodeTable) (x : ℕ) (c :
           ∙ ap (λ b. matches c.cube s && (not b || list_any (other_at s) (numbers_below x)))
           (eq-eqb (next_slot g (home g x) c.time) c.time start)
 
-      -- a lower item shares the slot in such scenarios
+      -- item `y` clashes with `c` exactly where `c` matches and `y` is sent by the node at the same time
       of_item : (s : Scenario) (y : ℕ) → shares_some g tables x c y s ≡ (matches c.cube s && other_at s y)
       of_item s y =
           ap (λ b. (is_sent g y && (home g y == home g x)) && b)
@@ -114,7 +119,7 @@ module _ (g : Graph) (order : List ℕ) (tables : List NodeTable) (x : ℕ) (c :
           ∙ and_swap (is_sent g y && (home g y == home g x)) (matches c.cube s)
           (list_any (λ t. t == c.time) (at tables y s))
 
-      -- the first scenario in which a lower item shares the slot is the first in which the column breaks V7
+      -- so the least scenario in which some lower item clashes is the least in which `c` breaks V7
       pub first_shared : (o : Option Scenario) →
           IsFirst g order (λ s. list_any (λ y. shares_some g tables x c y s) (numbers_below x)) o →
           IsFirst g order (breaks_column Rule.Slot g tables x c) o

@@ -1,4 +1,4 @@
--- What V1, V2 and V3 say of columns that match: if an item is active, and done after a time, one of its columns is
+-- What V1 to V3 say of an item that is waited for: it is active and not done by a time exactly if one of its columns is
 -- late.
 use Rattle.std.proofs.Common.{ℕ, ◌<◌, ◌≡◌, true, false, not, ◌&&◌, List, length, get_or, take, map, Contains, arith}
 use Rattle.std.proofs.Common.{sym, ap, ◌∙◌, inl, inr, lt-ltb, length-take}
@@ -21,11 +21,10 @@ use Rattle.cpg_violation.specs.Violation.{AllHold, row_rules}
 use Rattle.cpg_violation.proofs.Matching.{at_rule, active_where, match_where}
 use Rattle.cpg_violation.proofs.Moments.{in_at, at_parts}
 
--- tables that keep V1 to V3, a scenario and an item
--- V1: what matches is active. V2: no two columns of a row match. V3: what is active has a column that matches.
+-- tables that keep V1 to V3, a scenario and an item of the graph
 module _ (g : Graph) (tables : List NodeTable) (s : Scenario) (law : IsScenario g s) (x : ℕ) (l : x < item_count g)
     (rules : AllHold g tables row_rules) where
-  -- of two columns that match the later would break V2
+  -- two columns at different places don't both match: the one behind would break V2
   not_after : (c d : Column) (i j : ℕ) → i < length (columns_of tables x) → j < i →
       get_or (columns_of tables x) i c ≡ c → get_or (columns_of tables x) j d ≡ d →
       matches c.cube s ≡ true →
@@ -36,7 +35,7 @@ module _ (g : Graph) (tables : List NodeTable) (s : Scenario) (law : IsScenario 
       (j, omega (arith, length-take i (columns_of tables x)), get_or-take i (columns_of tables x) j d k ∙ f) in
       both_ways _ none (list_any_true (λ (q : Column). matches q.cube s) (take i (columns_of tables x)) d there n)
 
-  -- two columns of an item that match are one
+  -- two columns of the item that match are the same: they are at one place
   pub match_once : (c d : Column) → Contains (columns_of tables x) c → Contains (columns_of tables x) d →
       matches c.cube s ≡ true → matches d.cube s ≡ true → c ≡ d
   match_once c d k q m n = elim (cases_order k.0 q.0) [
@@ -46,13 +45,14 @@ module _ (g : Graph) (tables : List NodeTable) (s : Scenario) (law : IsScenario 
     | inr (inr above) ↦ absurd (not_after c d k.0 q.0 k.1 above k.2 q.2 m n)
   ]
 
-  -- if it is active and not done by a time, a column that matches is done later
+  -- `done` says when what begins at a time is done. The item is active and not done by `time` exactly if some column
+  -- matches and what it begins is done only later.
   pub late_where : (done : ℕ → ℕ) (time : ℕ) →
       (item_active g s.values (item_at g x) && not (is_by time (map done (at tables x s))))
       ≡ list_any (λ d. matches d.cube s && nat_lt time (done d.time))
       (columns_of tables x)
   late_where done time = same_truth _ _
-      -- active and not done: the column that matches is done too late
+      -- if it is active and not done, it has a column that matches (V3), which isn't done by the time
       (λ t.
       let p = and_parts (item_active g s.values (item_at g x)) (not (is_by time (map done (at tables x s)))) t in
       let d = match_where g tables s law x l rules p.0 in
@@ -60,7 +60,8 @@ module _ (g : Graph) (tables : List NodeTable) (s : Scenario) (law : IsScenario 
       (Contains-map done (at tables x s) d.0.time (in_at tables x s d.0 d.1 d.2)) in
       list_any_true (λ d. matches d.cube s && nat_lt time (done d.time)) (columns_of tables x) d.0 d.1
       (and_from _ _ d.2 (lt-ltb time (done d.0.time) (leb-false (done d.0.time) time not_by))))
-      -- a column that matches and is done too late: the item is active, and no other column matches that would be done
+      -- if a column matches and is done too late, the item is active (V1), and no other column matches (V2) that is
+      -- done by the time
       (λ t.
       let d = list_any_parts (λ d. matches d.cube s && nat_lt time (done d.time)) (columns_of tables x) t in
       let p = and_parts (matches d.0.cube s) (nat_lt time (done d.0.time)) d.2 in

@@ -1,4 +1,4 @@
--- A rule on one column.
+-- Rules that are about single columns, and what is known of each column.
 use Rattle.std.specs.Prelude.{ℕ, ◌<◌, ◌^◌, Bool, true, false, List, []}
 use Rattle.cpg_base.specs.Graph.{Graph}
 use Rattle.cpg_base.specs.Scenario.{Scenario}
@@ -9,17 +9,19 @@ use Rattle.cpg_table.specs.Valid.{breaks_at}
 use Rattle.cpg_table.specs.declared.rule.Rule.{Rule}
 use Rattle.cpg_table.specs.declared.rule.Rule.TheVariants.{Single, Present}
 
--- whether a rule asks neither which columns stand before a column, nor whether there is one
+-- whether a rule judges each column by itself: V2 asks which columns come before it, and V3 whether there is one
 abbrev pub is_alone : Rule → Bool
 is_alone Single = false
 is_alone Present = false
 is_alone rule = true
 
--- whether a column of an item breaks a rule on single columns in a scenario
+-- whether column `c` of item `x` breaks a rule in a scenario, if the rule judges it by itself (`[]`: no columns before)
 abbrev pub breaks_column : Rule → Graph → List NodeTable → ℕ → Column → Scenario → Bool
 breaks_column rule g tables x c s = breaks_at rule g tables s x [] c
 
--- a column on the graph's variables, at a time that leaves room for an execution
+-- a column as tables of the graph have it
 pub record IsColumn (g : Graph) (c : Column) : Type 0 where
+  -- its literals are on variables of the graph, which rise
   pub cube : IsCube g c.cube
+  -- it is so early that the end of an execution or of a slot is a number of 64 bits
   pub early : c.time < 2 ^ 60

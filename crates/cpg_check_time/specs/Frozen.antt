@@ -9,6 +9,7 @@ use Rattle.cpg_table.specs.Valid.{is_possible}
 abbrev pub possible_time : Graph → List Column → Option ℕ
 possible_time g columns = option_map (λ c. c.time) (find (is_possible g) columns)
 
--- the time of a frozen item: that of its first column that matches in any scenario; none of another item
+-- the time that a frozen item has to have: that of its first column that matches in any scenario, if there is one;
+-- `None` for an item that isn't frozen
 abbrev pub frozen_time : Graph → List NodeTable → ℕ → Option ℕ
 frozen_time g tables x = if is_frozen g x then possible_time g (columns_of tables x) else None

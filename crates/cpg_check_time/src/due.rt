@@ -14,7 +14,7 @@ use cpg_rules::Admitted;
 use cpg_table::{Fault, Rule, Tables};
 use std::alloc::Global;
 
-/// The rule that every execution ends by its due.
+/// Judges V9. It needs to know nothing of the tables.
 struct Due;
 
 impl TimeJudge for Due {
@@ -22,8 +22,8 @@ impl TimeJudge for Due {
 
     ghost suits = { λ _ _ _. ⊤ };
 
-    /// The least scenario in which the execution that a column starts ends past its due, if there is one. The contract alone
-    /// names `tables`.
+    /// The least scenario in which the execution that a column starts ends after its process's due. `None` exactly if
+    /// there is none. Only the contract names `tables`.
     fn least(
         &self,
         alloc: Global,
@@ -33,10 +33,12 @@ impl TimeJudge for Due {
         column: &Column,
     ) -> Result<Option<Scenario>, OutOfMemory> {
         let problem = admitted.problem();
+        // a message or a broadcast, which has no due
         if item as usize >= problem.processes().len() {
             return Ok(None);
         }
         let due = problem.due(item);
+        // no scenario of the column has enough faults to end after the due
         let Some(part) = late_part(problem, &column.cube, item, column.time, due)? else {
             return Ok(None);
         };
@@ -47,9 +49,9 @@ impl TimeJudge for Due {
     ghost alone = { refl };
 }
 
-/// The first violation of V9, by item and column, with the least scenario in the urgency order in which it stands: the
-/// column matches, and the execution that it starts ends after the lesser of the deadline and the process's own. `None`
-/// exactly if the rule holds. Items at which it is marked as sure are left out.
+/// The first violation of V9, by item and column, with the least scenario in the urgency order in which it occurs: the
+/// column matches, and the execution that it starts ends after the lesser of the graph's deadline and the process's
+/// own. `None` exactly if the rule holds. Items at which it is marked as sure are left out.
 pub(crate) fn check_due(
     alloc: Global,
     admitted: &Admitted,

@@ -18,13 +18,13 @@ use cpg_rules::Admitted;
 use cpg_table::{Fault, Rule, Tables};
 use std::alloc::Global;
 
-/// The time of the first column that matches in any scenario, if there is one.
+/// The time of the first column that matches in some scenario; `None` exactly if none does.
 fn possible_time(problem: &Problem, columns: &[Column]) -> Option<u64>
     requires { All (IsColumn problem.now) columns.now }
     ensures { result ≡ possible_time problem.now columns.now }
 {
     for column in columns {
-        // a column that no scenario matches says nothing
+        // a column that asks for too many faults matches in no scenario
         if column.cube.is_met(problem.faults()) {
             return Some(column.time);
         }
@@ -32,7 +32,8 @@ fn possible_time(problem: &Problem, columns: &[Column]) -> Option<u64>
     None
 }
 
-/// The time of a frozen item's first column that matches in any scenario, if there is one.
+/// The time that an item has to have if it is frozen: that of its first column that matches in some scenario. `None` if
+/// it isn't frozen, or no column matches in any.
 fn frozen_time(admitted: &Admitted, tables: &Tables, item: u32) -> Option<u64>
     requires head { IsHeadFor admitted.now.graph tables.now.head }
     requires item { item < item_count admitted.now.graph }
@@ -46,13 +47,14 @@ fn frozen_time(admitted: &Admitted, tables: &Tables, item: u32) -> Option<u64>
     possible_time(problem, tables.columns_of(item))
 }
 
-/// The rule that a frozen item has one time: for each item, what that time is.
+/// Judges V8, by the one time that each frozen item has to have.
 #[derive(Drop)]
 struct FrozenStarts {
+    /// What `frozen_time` says of each item, by number.
     times: Vec<Option<u64>>,
 }
 
-/// The times of frozen items.
+/// What `frozen_time` says of each item, by number.
 fn frozen_times(
     alloc: Global,
     admitted: &Admitted,
@@ -75,8 +77,8 @@ impl TimeJudge for FrozenStarts {
 
     ghost suits = { λ judge g tables. judge.times.items ≡ map (frozen_time g tables) (numbers_below (item_count g)) };
 
-    /// The least scenario that a column of an item matches, if its time isn't the frozen one of the item. The contract alone
-    /// names `tables`.
+    /// The least scenario that a column of an item matches, if its time isn't the one that the item has to have. `None`
+    /// exactly if the column keeps V8. Only the contract names `tables`.
     fn least(
         &self,
         alloc: Global,
@@ -85,15 +87,14 @@ impl TimeJudge for FrozenStarts {
         item: u32,
         column: &Column,
     ) -> Result<Option<Scenario>, OutOfMemory> {
-        // not frozen, or no column matches anywhere: every time is right
+        // the item isn't frozen, or none of its columns matches in any scenario
         let Some(time) = self.times[item as usize] else {
             return Ok(None);
         };
-        // the column has the frozen time
         if time == column.time {
             return Ok(None);
         }
-        // another time: the rule breaks in each scenario that the column matches
+        // it breaks the rule in each scenario that it matches
         let least = column.cube.least(alloc, admitted.problem())?;
         Ok(least)
     }
@@ -101,9 +102,9 @@ impl TimeJudge for FrozenStarts {
     ghost alone = { refl };
 }
 
-/// The first violation of V8, by item and column, with the least scenario in the urgency order in which it stands: the
-/// item is frozen, the column matches, and its time is another than that of the row's first column that matches in any
-/// scenario. `None` exactly if the rule holds. Items at which it is marked as sure are left out.
+/// The first violation of V8, by item and column, with the least scenario in the urgency order in which it occurs: the
+/// item is frozen, the column matches, and its time isn't that of the row's first column that matches in any scenario.
+/// `None` exactly if the rule holds. Items at which it is marked as sure are left out.
 pub(crate) fn check_frozen(
     alloc: Global,
     admitted: &Admitted,

@@ -1,4 +1,4 @@
-//! Scenarios in which an execution ends after a time. It ends later the more faults it has.
+//! Scenarios in which an execution ends after a time. The more faults it has, the later it ends.
 ghost use Rattle.std.specs.Prelude.{◌≡◌, ◌≤◌, ◌<◌, ◌+◌, ◌^◌, ◌&&◌, ℕ, IfNone, IfOk, IfSome, List, false, nat_lt};
 ghost use Rattle.cpg_base.specs.Duration.{duration};
 ghost use Rattle.cpg_base.specs.Graph.{process_count};
@@ -14,8 +14,8 @@ use cpg_base::{OutOfMemory, Problem, Scenario};
 use cpg_cube::{Column, Cube, Literal};
 use cpg_violation::met;
 
-/// The least count of faults with which an execution that starts at a time ends after another; `None` if even the
-/// greatest is too few.
+/// The least count of faults with which an execution that starts at `start` ends after `time`. `None` exactly if it
+/// doesn't even with all faults.
 fn least_count(problem: &Problem, process: u32, start: u64, time: u64) -> Option<u8>
     requires process { process < process_count problem.now }
     requires start { start < 2 ^ 60 }
@@ -23,6 +23,7 @@ fn least_count(problem: &Problem, process: u32, start: u64, time: u64) -> Option
     ensures few { IfSome result (λ f. f ≤ problem.now.faults) }
     ensures none { IfNone result ((n : ℕ) → n ≤ problem.now.faults → start + duration problem.now process n ≤ time) }
 {
+    // one more than the most faults, of which there are at most 8
     let end = problem.faults() + 1;
     for faults in 0..end {
         if start + problem.duration(process, faults) > time {
@@ -32,7 +33,8 @@ fn least_count(problem: &Problem, process: u32, start: u64, time: u64) -> Option
     None
 }
 
-/// The scenarios of a cube in which an execution that starts at a time ends after another; `None` if there are none.
+/// The part of a cube in whose scenarios an execution that starts at `start` ends after `time`. `None` only if it does
+/// in no scenario that the cube matches.
 pub(crate) fn late_part(
     problem: &Problem,
     cube: &Cube,
@@ -53,6 +55,7 @@ pub(crate) fn late_part(
         return Ok(None);
     };
     let high = problem.faults();
+    // the variable of a fault count has the number of its process
     let part = cube.with(Literal {
         variable: process as u8,
         low,
@@ -61,8 +64,8 @@ pub(crate) fn late_part(
     Ok(part)
 }
 
-/// The least scenario that a cube and a column match, and in which the execution that the column starts ends after a
-/// time; if there is one.
+/// The least scenario that a cube and a column match, and in which the execution that the column starts ends after
+/// `time`. `None` exactly if there is none. Any scenario of the graph may be passed as `room`, and is overwritten.
 pub(crate) fn least_late(
     problem: &Problem,
     cube: &Cube,
@@ -79,10 +82,11 @@ pub(crate) fn least_late(
     ensures first { IfOk result (λ r. (order : List ℕ) → IsFirst problem.now order (λ s. matches cube.now s
         && (matches column.now.cube s && ends_after problem.now process column.now.time time s)) r) }
 {
-    // most columns never match together, and no part is made of them
+    // most pairs match no scenario together, and then no part need be made
     if !cube.meets(&column.cube, problem, room) {
         return Ok(None);
     }
+    // the execution always ends by then
     let Some(part) = late_part(problem, &column.cube, process, column.time, time)? else {
         return Ok(None);
     };

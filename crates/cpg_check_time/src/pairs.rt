@@ -1,4 +1,4 @@
-//! Columns of two items of a node that clash.
+//! The least scenario in which a column clashes with one of another item of its node: V6 and V7 ask for it.
 ghost use Rattle.std.specs.Prelude.{◌<◌, ℕ, Bool, IfOk, List};
 ghost use Rattle.std.specs.List.{list_any};
 ghost use Rattle.cpg_base.specs.First.{IsFirst};
@@ -18,16 +18,19 @@ use cpg_rules::Admitted;
 use cpg_table::Tables;
 use std::alloc::Global;
 
-/// A rule on pairs of items of a node, with what its questions need to know of the tables.
+/// Judges whether the columns of two items clash.
 pub(crate) trait ColumnPairs {
+    // what the judge has to know of a graph and its tables
     ghost fits: { Self → Graph → List NodeTable → Type 0 };
 
+    // how many of the items, from the first on, it is for
     ghost count: { Graph → ℕ };
 
+    // whether a column of the first item clashes with one of the second in a scenario
     ghost clash: { Graph → List NodeTable → ℕ → Column → ℕ → Scenario → Bool };
 
-    /// The least scenario in which a column of an item clashes with one of another item, if there is one. The contract alone
-    /// names `tables`.
+    /// The least scenario in which a column of `item` clashes with some column of `other`. `None` exactly if there is
+    /// none. Only the contract names `tables`.
     fn least_with(
         &self,
         alloc: Global,
@@ -45,7 +48,8 @@ pub(crate) trait ColumnPairs {
         ensures { IfOk result (IsFirst admitted.now.graph admitted.now.order (clash admitted.now.graph tables.now.nodes item column.now other)) };
 }
 
-/// The least scenario in which a column of an item clashes with one of an item with a lower number, if there is one.
+/// The least scenario in which a column of an item clashes with some column of an item with a lower number. `None`
+/// exactly if there is none.
 pub(crate) fn least_of_lower<P: ColumnPairs>(
     alloc: Global,
     admitted: &Admitted,
@@ -63,6 +67,7 @@ pub(crate) fn least_of_lower<P: ColumnPairs>(
 {
     let problem = admitted.problem();
     let order = admitted.order();
+    // the least scenario of the lower items so far
     let mut found: Option<Scenario> = None;
     for other in 0..item {
         let next = pairs.least_with(alloc, admitted, tables, item, column, other)?;

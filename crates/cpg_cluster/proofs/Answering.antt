@@ -27,7 +27,7 @@ module _ (p : Playing) (is : IsPlaying p) (a : ℕ) (l : a < length p.graph.node
   done_all : answer p.graph p.cluster a ≡ Done → HasDoneAll p a
   done_all e acts due = whole k p.cluster r a acts l due e
 
--- The same of the state as code sees it.
+-- The same for `now`, the play as code sees it, which is p.
 
 -- a node with the least next instant takes its turn
 pub takes_at : (p now : Playing) → p ≡ now → IsPlaying p → (a : ℕ) → a < length now.graph.nodes →

@@ -15,7 +15,7 @@ use Rattle.cpg_cube.specs.declared.column.Column.{Column}
 use Rattle.cpg_node.specs.Dispatcher.{zip_with}
 use Rattle.cpg_cluster.specs.Keeping.{waits_until, waits_by, times_by, arrival_times, IsIndex, AreIndexed}
 
--- a test of mapped elements is a test of the elements
+-- a test of mapped elements is a test of the elements; by induction on `xs`
 any_of_map : {X : Type 0} (p : ℕ → Bool) (f : X → ℕ) (xs : List X) → list_any p (map f xs) ≡ list_any (λ x. p (f x)) xs
 any_of_map p f [] = refl
 any_of_map p f (x ∷ xs) = ap (λ b. p (f x) || b) (any_of_map p f xs)
@@ -25,7 +25,8 @@ any_if : (p : ℕ → Bool) (b : Bool) (xs : List ℕ) → list_any p (cond b xs
 any_if p true xs = refl
 any_if p false xs = refl
 
--- rows and their senders say it as the times of that sender do
+-- One of the arrival times of a sender is waited for exactly if a row of this sender has such a column. By induction on
+-- the rows with their senders.
 any_times : (time : ℕ) (comes : Option ℕ) (slot other : ℕ) (rows : List Row) (senders : List ℕ) →
     list_any (waits_until time comes slot) (arrival_times other rows senders)
     ≡ list_any (λ w. w) (zip_with (waits_by other time comes slot) rows senders)
@@ -37,7 +38,7 @@ any_times time comes slot other (r ∷ rs) (s ∷ ss) =
     ∙ ap (λ b. (s == other) && b) (any_of_map (waits_until time comes slot) (λ (c : Column). c.time) r.columns))
     (any_times time comes slot other rs ss)
 
--- the times of a sender say whether it is waited on, as the rows and their senders do
+-- the same for these times in another order
 pub any_index : (time : ℕ) (comes : Option ℕ) (slot other : ℕ) (rows : List Row) (senders times : List ℕ) →
     IsIndex rows senders other times →
     list_any (waits_until time comes slot) times
@@ -46,7 +47,7 @@ any_index time comes slot other rows senders times i =
     sym (list_any-IsPermutation (waits_until time comes slot) (arrival_times other rows senders) times i.same) ∙
     any_times time comes slot other rows senders
 
--- what may not be sent any more to arrive at a time may not be sent to arrive before
+-- if a frame that arrives at b may not be sent any more, neither may one that arrives before
 sent_before : (comes : Option ℕ) (slot a b : ℕ) → a ≤ b →
     list_any (λ u. nat_le (u + slot) b) (option_to_list comes) ≡ false →
     list_any (λ u. nat_le (u + slot) a) (option_to_list comes) ≡ false
@@ -59,7 +60,7 @@ sent_before (Some u) slot a b l h = ap (λ x. x || false)
     or_false true = refl
     or_false false = refl
 
--- what may not be sent any more to arrive by the time isn't waited for
+-- if a frame that arrives at the time may not be sent any more, none of those that arrive by it is waited for
 pub none_sent : (time : ℕ) (comes : Option ℕ) (slot : ℕ) (times : List ℕ) →
     list_any (λ u. nat_le (u + slot) time) (option_to_list comes) ≡ false →
     false ≡ list_any (waits_until time comes slot) times
@@ -81,7 +82,8 @@ none_until time comes slot times past = sym
     (λ i d l. ap (λ b. b && list_any (λ u. nat_le (u + slot) (get_or times i d)) (option_to_list comes))
     (lt-leb (get_or times i d) time (past i d l))))
 
--- the last arrival by the time decides whether a sender is waited on
+-- The last arrival by the time, at `place`, decides whether the sender is waited on. If it may still be sent, it is
+-- waited for. If not, neither may those before it be sent, and those after it arrive too late.
 pub last_until : (time : ℕ) (comes : Option ℕ) (slot : ℕ) (times : List ℕ) (place x : ℕ) →
     IsNonDecreasingBy (λ (t : ℕ). t) times →
     place < length times →
@@ -96,7 +98,7 @@ last_until time comes slot times place x rises l before past is =
     p : ℕ → Bool
     p = waits_until time comes slot
 
-    -- the time at place is by then, so only what may be sent decides
+    -- the time at `place` is by then, so it is waited for exactly if it may still be sent
     here : p (get_or times place x) ≡ list_any (λ u. nat_le (u + slot) x) (option_to_list comes)
     here = ap (λ b. b && list_any (λ u. nat_le (u + slot) (get_or times place x)) (option_to_list comes))
         (le-leb (get_or times place x) time (before place x (omega arith)))
@@ -114,7 +116,7 @@ last_until time comes slot times place x rises l before past is =
           ∙ and_right (nat_le (get_or times i d) time) false refl
     ]))
 
--- one more sender is indexed
+-- with the times of one more sender at its place, the times of all senders up to it are indexed
 pub index_more : (rows : List Row) (senders : List ℕ) (n : ℕ) (index : List (Vec ℕ)) (v : Vec ℕ) →
     AreIndexed rows senders n index →
     IsIndex rows senders n v.items →
@@ -129,7 +131,7 @@ index_more rows senders n index v a o = record {
   ];
 }
 
--- the times of one sender
+-- the times at the place of a sender are those of this sender, in order
 pub index_at : (rows : List Row) (senders : List ℕ) (n : ℕ) (index : List (Vec ℕ)) (b : ℕ) (v : Vec ℕ) (seen : List ℕ) →
     AreIndexed rows senders n index → b < n →
     v ≡ get_or index b v →

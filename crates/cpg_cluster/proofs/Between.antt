@@ -1,4 +1,5 @@
--- What code sees of members is what the state of the cluster says.
+-- What code computes of members is what is defined of the state of the cluster: whom a node waits on, and which frames
+-- arrive.
 use Rattle.std.proofs.Common.{◌≡◌, ℕ, ◌<◌, ◌+◌, Bool, ◌&&◌, ◌||◌, ◌==◌, List, [], ◌∷◌, ◌++◌, length, map, filter}
 use Rattle.std.proofs.Common.{get_or, Option, refl, sym, ap, ◌∙◌, subst, arith, inl, inr}
 use Rattle.std.specs.Prelude.{option_to_list, nat_le}
@@ -24,12 +25,12 @@ use Rattle.cpg_cluster.specs.Keeping.{waits_by, waits_between, frames_of_sender,
 use Rattle.cpg_cluster.specs.Kept.{cluster_of}
 use Rattle.cpg_cluster.specs.declared.member.Member.{Member}
 
--- one of the mapped values is true if and only if one of the elements passes
+-- one of the mapped values is true if and only if one of the elements passes; by induction on `xs`
 pub any_map : {X : Type 0} (f : X → Bool) (xs : List X) → list_any (λ w. w) (map f xs) ≡ list_any f xs
 any_map f [] = refl
 any_map f (x ∷ xs) = ap (λ b. f x || b) (any_map f xs)
 
--- to map a list and to join the results is one flat map
+-- to map a list and to join the results is one flat map; by induction on `xs`
 pub flat_id : {X Y : Type 0} (f : X → List Y) (xs : List X) → flat_map (λ l. l) (map f xs) ≡ flat_map f xs
 flat_id f [] = refl
 flat_id f (x ∷ xs) = ap (λ l. f x ++ l) (flat_id f xs)
@@ -52,7 +53,8 @@ module _ (g : Graph) (ms : List Member) (fits : AllFit g ms) (a : ℕ) (m : Memb
   table_is : (dispatcher_at (cluster_of ms) a).table ≡ m.node.dispatcher.table
   table_is = ap (λ (d : Dispatcher). d.table) (dispatcher_is ms a m l ∙ ap (λ (m : Member). m.node.dispatcher) (here m))
 
-  -- a node waits on another exactly if its rows say so
+  -- By the members, node a waits on b exactly if it does by the state: member b has the next instant and the slot
+  -- length of its node, and member a the hear rows of its node with their senders.
   waits_is : (time b : ℕ) (d : Member) → b < length ms →
       waits_between time m b (get_or ms b d) ≡ waits_on g (cluster_of ms) a time b
   waits_is time b d k =
@@ -98,7 +100,7 @@ module _ (g : Graph) (ms : List Member) (fits : AllFit g ms) (a : ℕ) (m : Memb
     frame_is (Message e) act = refl
     frame_is (Broadcast c) act = refl
 
-    -- the frames of a row are those of its sender's acts
+    -- by the members, the frames of a row are those by the state: its sender's acts are those of its node
     row_frames : (row : Row) →
         frames_of_sender g w.scenario.values ms time row (home g row.item) ≡ frames_of_row g w (cluster_of ms) time row
     row_frames row = elim (cases_lt (home g row.item) (length ms)) [
@@ -125,7 +127,7 @@ module _ (g : Graph) (ms : List Member) (fits : AllFit g ms) (a : ℕ) (m : Memb
             (get_or ms (home g row.item) m).acts.items ≡ get_or (cluster_of ms).acts (home g row.item) []
         sent k = sym (get_or-map (λ (m : Member). m.acts.items) ms (home g row.item) m [] k)
 
-    -- the frames that the members give are those of the state of the cluster
+    -- by the members, the frames that arrive at the time are those by the state
     pub frames_are : (d : Dispatcher) → d.table ≡ m.node.dispatcher.table →
         frames_by g w.scenario.values ms time m.node.dispatcher.table.hears m.senders.items
         ≡ frames_now g w (cluster_of ms) d time

@@ -48,12 +48,12 @@ own_few_ends g node within =
       within.faults,
     ))
 
--- the processes of a node stand in rising order
+-- the processes of a node are in rising order
 own_rise : (g : Graph) (node : ℕ) → DoRise (own_of_node g node)
 own_rise g node = mapped (processes_on g node) (Rises-filter (λ x y. x < y) (λ p. node_of g p == node)
     (numbers_below (process_count g)) (numbers_go_up (process_count g)))
   where
-    -- so they do with what the node knows of each
+    -- so they do with what the node knows of each; by induction on `ps`
     mapped : (ps : List ℕ) → Rises (λ x y. x < y) ps → DoRise (map (own_process g) ps)
     mapped [] h = tt
     mapped (p ∷ ps) h = (
@@ -61,7 +61,8 @@ own_rise g node = mapped (processes_on g node) (Rises-filter (λ x y. x < y) (λ
       mapped ps h.1,
     )
 
--- a turn leaves a node fewer instants
+-- A turn leaves a node fewer instants. Its processes are few, rise, and may each end at few times, which is what
+-- `instants_left` counts on.
 pub less_turn : (g : Graph) (w : World) (node : ℕ) (d : Dispatcher) (time : ℕ) (frames : List Frame) →
     IsWithinLimits g → d.table.own ≡ own_of_node g node →
     next d ≡ Some time →
@@ -73,11 +74,12 @@ less_turn g w node d time frames within own comes =
     (subst DoRise (sym same) (own_rise g node)) (subst HaveFewEnds (sym same) (own_few_ends g node within)) in
     omega (arith, less, reported_left d es)
 
--- what a table says of a node's processes
+-- a dispatcher has at most 128 processes, each of which may end at 9 times at most
 abbrev HasFew : Dispatcher → Type 0
 HasFew d = (length d.table.own ≤ 128) × HaveFewEnds d.table.own
 
--- dispatchers that have few processes and ends have few instants left together
+-- The instants that such dispatchers have left together are at most 10 for each column and 1153 (128 * 9 + 1) for each
+-- of them. By induction on `ds`.
 most_of : (ds : List Dispatcher) → All HasFew ds →
     sum_by instants_left ds ≤ sum_by (λ (t : NodeTable). column_count (rows_of t))
     (map (λ (d : Dispatcher). d.table) ds) * 10 + length ds * 1153
@@ -92,7 +94,8 @@ most_of (d ∷ ds) h =
       most_of ds (All-tail HasFew d ds h),
     )
 
--- all nodes together have at most this many instants left
+-- All nodes together have at most 5,261,328 instants left: 10 for each of 524,288 columns, and 1153 for each of 16
+-- nodes.
 pub most_remaining : (g : Graph) (c : Cluster) → IsWithinLimits g → length c.nodes ≤ 16 →
     ((i : ℕ) → i < length c.nodes → (dispatcher_at c i).table.own ≡ own_of_node g i) →
     sum_by (λ (t : NodeTable). column_count (rows_of t)) (map (λ (d : Dispatcher). d.table) c.nodes) ≤ MOST_LOAD →
@@ -110,7 +113,7 @@ most_remaining g c within few own columns = omega (
       )),
 )
 
--- no more nodes wait than a choice asks
+-- in a choice no more nodes wait than may be asked; by induction on the nodes
 pub few_waits : (g : Graph) (w : World) (c : Cluster) (xs : List ℕ) → (choose g w c xs).waits ≤ length xs
 few_waits g w c [] = omega arith
 few_waits g w c (x ∷ xs) = go (answer g c x) (few_waits g w c xs)

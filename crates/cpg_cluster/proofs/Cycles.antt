@@ -1,4 +1,4 @@
--- All of a cycle is over at its end.
+-- The least cycle; all of a cycle is over at its end; and cycles are apart.
 use Rattle.std.proofs.Common.{◌≡◌, ℕ, suc, ◌+◌, ◌-◌, ◌*◌, ◌<◌, ◌≤◌, max, true, ◌==◌, List, [], ◌∷◌, length, take}
 use Rattle.std.proofs.Common.{get_or, Contains, Option, Some, None, refl, sym, ap, ◌∙◌, arith, inl, inr, eq-eqb}
 use Rattle.std.proofs.Common.{ne_eqb, mul-le-mul_right, ltb-true}
@@ -39,16 +39,15 @@ use Rattle.cpg_cluster.proofs.Plays.{played_of}
 
 -- The least cycle.
 
--- a bound within a whole number of steps takes no more steps than that
+-- if a bound is at most so many steps, rounding it up to whole steps takes no more
 below_turns : (bound step rounds : ℕ) → 0 < step → bound ≤ rounds * step → div_ceil bound step ≤ rounds
 below_turns bound step rounds h k = elim (cases_lt rounds (div_ceil bound step)) [
   | inl l ↦ absurd (omega (arith, div_ceil_times bound step h, mul-le-mul_right step l))
   | inr l ↦ l
 ]
 
--- The least cycle is a cycle, and no cycle is shorter.
--- A cycle is a whole number of steps that holds the deadline, the last arrival and one unit; the least one rounds
--- these up.
+-- `least_cycle` is a cycle time, and none is less. A cycle time is a whole number of steps that is at least the
+-- deadline, the last arrival and 1, and `least_cycle` is the greatest of these, rounded up.
 pub least_cycles : LeastCyclesAreLeast
 least_cycles g tables =
     let step : ℕ = cycle_step g in
@@ -74,14 +73,14 @@ least_cycles g tables =
 
 -- Each frame has a node that hears it.
 
--- a node that hears the item
+-- some node hears the item
 record Hearer (g : Graph) (x : ℕ) : Type 0 where
   node : ℕ
   within : node < length g.nodes
   hears : is_heard_by g node (item_at g x) ≡ true
 
--- Each frame is heard by some node.
--- A message is heard by the node of its target. A broadcast is heard by each other node, and there are two at least.
+-- Each item that is sent is heard by some node: a message by the node of its target, a broadcast by each node but its
+-- own, and there are two nodes at least.
 hearer : (g : Graph) → WellFormed g → (x : ℕ) → x < item_count g → is_sent g x ≡ true → Hearer g x
 hearer g f x l sent = elim (item_cases g x l) [
   | inl q ↦ absurd (not_both g x q.0 sent)
@@ -121,7 +120,8 @@ lesser deadline (Some own) = omega arith
 -- given a play of valid tables and the time of a cycle
 module _ {g : Graph} {tables : List NodeTable} {w : World} (k : Played g tables w) (time : ℕ)
     (cycle : IsCycle g tables time) where
-  -- what a node hears arrives in the cycle
+  -- a column of an item that is sent arrives by the cycle time: some node hears it, so its arrival isn't after the last
+  -- one
   arrives : (x : ℕ) (c : Column) → x < item_count g → is_sent g x ≡ true → Contains (columns_of tables x) c →
       c.time + slot_length g (home g x) ≤ time
   arrives x c l sent m =
@@ -137,7 +137,7 @@ module _ {g : Graph} {tables : List NodeTable} {w : World} (k : Played g tables 
       (Contains-get_or tables h.node empty_table (omega (arith, k.setting.shape.count, h.within))) here in
       omega (arith, greatest_above _ (c.time + slot_length g (home g x)) all, cycle.arrivals)
 
-  -- each execution has ended in the cycle, as planned
+  -- the planned end of an execution is within the cycle, as it is by the due, and this by the deadline
   planned_end : (p : ℕ) (c : Column) → Match tables w.scenario p c → p < process_count g →
       c.time + duration g p (fault_of w.scenario p) ≤ time
   planned_end p c m l =
@@ -148,9 +148,8 @@ module _ {g : Graph} {tables : List NodeTable} {w : World} (k : Played g tables 
   known node p m = numbers-Contains (process_count g) p
       (Contains-filter_parts (λ p. node_of g p == node) (numbers_below (process_count g)) p m).0
 
-  -- All that the nodes do in a play is over at the end of the cycle.
-  -- Each start, send, end and report is one of the tables in its scenario: starts, ends and reports are over by the
-  -- due time, and sends have arrived by the cycle's end.
+  -- In every state of a play all that nodes have done is over by the cycle time. Each start, send, end and report comes
+  -- from a column that matches: `planned_end` bounds starts, ends and reports, and `arrives` bounds sends.
   pub over : (turns : List ℕ) → IsOverBy g w.scenario (play g w (initial_cluster g tables) turns) time
   over turns =
       let c : Cluster = play g w (initial_cluster g tables) turns in
@@ -200,14 +199,15 @@ front_sum (s ∷ slots) (suc n) d l = omega (
   front_sum slots n d (omega arith),
 )
 
--- over plain numbers
+-- a multiple of r with an offset below r, which is at least another multiple of r, is at least as many times r
 fewer_rounds : (a b r off t : ℕ) → off < r → a * r + t ≡ b * r + off → a ≤ b
 fewer_rounds a b r off t l e = elim (cases_lt b a) [
   | inr le ↦ le
   | inl lt ↦ absurd (let m : suc b * r ≤ a * r = mul-le-mul_right r lt in omega (arith, m, l, e))
 ]
 
--- a node's slots have the same places in a later cycle as in the first
+-- The occurrences of a node's slot have the same times in every cycle, counted from its begin. The cycle begins after a
+-- whole number of rounds (`all`), so an occurrence is the one that many rounds later, and conversely.
 pub same_slots : CyclesHaveTheSameSlots
 same_slots g tables time cycle node f c has = record {
   later = λ t at. (all + at.0, omega (arith, at.1, begin, parts all at.0 (round g)));
@@ -248,7 +248,8 @@ same_slots g tables time cycle node f c has = record {
 
 -- Cycles.
 
--- what nodes do in a cycle is over before they do anything in a later one
+-- What nodes do in a cycle is over before they do anything in a later one: it is over by the end of the cycle (`over`),
+-- and the later one doesn't begin before that.
 pub cycles_are_apart : CyclesAreApart
 cycles_are_apart g tables time f h v cycle w z turns others one later is iz less =
     let o = over (played_of g tables f h v w is) time cycle turns in

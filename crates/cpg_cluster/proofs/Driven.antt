@@ -1,5 +1,4 @@
--- Choices: a node is asked after another until one takes its turn, and choices follow each other until all nodes are
--- done.
+-- Choices: nodes are asked one after another until one takes its turn.
 use Rattle.std.proofs.Common.{◌≡◌, ℕ, zero, suc, ◌+◌, ◌<◌, ◌≤◌, ◌%◌, true, false, List, [], ◌∷◌, length, drop, get_or}
 use Rattle.std.proofs.Common.{set, refl, sym, ap, ap₂, ◌∙◌, arith, true≢false, drop-cons, add-one}
 use Rattle.std.specs.Prelude.{sum_by}
@@ -30,7 +29,9 @@ circle_at nodes first i l =
     drop-cons (circle nodes first) i 0 long ∙ ap₂ ◌∷◌ (get_or-map-below (λ i. (first + i) % nodes) nodes i 0 l)
     (ap (λ m. drop m (circle nodes first)) (sym (add-one i)))
 
--- what is left of a choice after some asks without a turn, in some of which the node waited
+-- A choice round the circle after `asked` asks without a turn, of which `waits` were answered by waiting: what is left
+-- of it leads to the same state, with those waits to the same number of waits, and takes a turn exactly if the whole
+-- does.
 pub record IsChoosing (g : Graph) (w : World) (c : Cluster) (nodes first asked waits : ℕ) : Type 0 where
   pub cluster : (choose g w c (drop asked (circle nodes first))).cluster ≡ (choose g w c (circle nodes first)).cluster
   pub waits' : waits + (choose g w c (drop asked (circle nodes first))).waits
@@ -45,7 +46,7 @@ choosing_none g w c nodes first = record { cluster = refl; waits' = omega arith;
 -- given a choice under way, in which not all nodes have been asked
 module _ (g : Graph) (w : World) (c : Cluster) (nodes first asked waits : ℕ)
     (h : IsChoosing g w c nodes first asked waits) (l : asked < nodes) where
-  -- the choice goes on as the next node answers
+  -- what is left of the choice goes on as the next node answers
   here : (ans : Answer) → answer g c ((first + asked) % nodes) ≡ ans →
       choose g w c (drop asked (circle nodes first)) ≡ chosen g w c ((first + asked) % nodes) ans
       (choose g w c (drop (asked + 1) (circle nodes first)))
@@ -87,7 +88,7 @@ drop_all (suc n) [] l = refl
 drop_all zero (x ∷ xs) l = absurd (omega arith)
 drop_all (suc n) (x ∷ xs) l = drop_all n xs (omega arith)
 
--- a choice in which every node was asked leaves the state as it was, and nobody took a turn
+-- a choice in which every node was asked without a turn leaves the state as it was, has these waits, and takes no turn
 pub chosen_none : (g : Graph) (w : World) (c : Cluster) (nodes first asked waits : ℕ) →
     IsChoosing g w c nodes first asked waits → nodes ≤ asked →
     ((choose g w c (circle nodes first)).cluster ≡ c) × ((choose g w c (circle nodes first)).waits ≡ waits) ×
@@ -114,7 +115,7 @@ still_done g w c a e = λ i. step_by g w c a (sym e i) (next (dispatcher_at c a)
 module _ (old now new : Playing) (nodes first asked waits : ℕ) (count : nodes ≡ length old.graph.nodes)
     (same : now ≡ old) (stepped' : new ≡ stepped now ((first + asked) % nodes))
     (h : IsChoosing old.graph old.world old.cluster nodes first asked waits) (l : asked < nodes) where
-  -- the answer, of the state before the choice
+  -- an answer in the state after the asks is one in the state before the choice
   answered : (ans : Answer) → ans ≡ answer now.graph now.cluster ((first + asked) % nodes) →
       ans ≡ answer old.graph old.cluster ((first + asked) % nodes)
   answered ans e = e ∙ ap (λ (p : Playing). answer p.graph p.cluster ((first + asked) % nodes)) same

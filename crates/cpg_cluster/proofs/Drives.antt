@@ -1,4 +1,5 @@
--- A play that is driven: someone takes a turn in each choice while not all are done, and choices follow each other.
+-- A play that is driven: while not all nodes are done, a node takes its turn in each choice; and choices follow each
+-- other.
 use Rattle.std.proofs.Common.{◌≡◌, ℕ, zero, suc, ◌+◌, ◌-◌, ◌<◌, ◌≤◌, ◌%◌, true, false, ◌||◌, List, [], ◌∷◌, length, map}
 use Rattle.std.proofs.Common.{get_or, Contains, Option, Some, None, refl, sym, ap, ◌∙◌, subst, arith, inl}
 use Rattle.std.proofs.Common.{inr, ◌⊎◌, true≢false}
@@ -29,7 +30,8 @@ use Rattle.cpg_cluster.proofs.Passed.{played_reached}
 use Rattle.cpg_cluster.proofs.Plays.{played_of, never_done}
 use Rattle.cpg_cluster.proofs.Stepping.{tables_of, play_of}
 
--- a node with a next instant that no other is before, or there is none
+-- Of n nodes with next instants f, one has the least, or none has any. By induction on n: node n is compared with the
+-- least of those before it.
 least_node : (f : ℕ → Option ℕ) (n : ℕ) →
     ((a : ℕ) × (a < n) × (time : ℕ) × (f a ≡ Some time) ×
     ((other moment : ℕ) → other < n → f other ≡ Some moment → time ≤ moment)) ⊎
@@ -41,7 +43,7 @@ least_node f (suc n) = go (f n) refl (least_node f n)
     all : f n ≡ None → ((a : ℕ) → a < n → f a ≡ None) → (a : ℕ) → a < suc n → f a ≡ None
     all e none a l = elim (cases_eq a n) [ inl s ↦ ap f s ∙ e | inr ne ↦ none a (omega arith) ]
 
-    -- by induction on the number of nodes: node n is compared with the least of the nodes before it, if there is one
+    -- by whether node n has a next instant, and whether a node before it has
     go : (o : Option ℕ) → f n ≡ o →
         ((a : ℕ) × (a < n) × (time : ℕ) × (f a ≡ Some time) ×
         ((other moment : ℕ) → other < n → f other ≡ Some moment → time ≤ moment)) ⊎ ((a : ℕ) → a < n → f a ≡ None) →
@@ -95,7 +97,7 @@ least_node f (suc n) = go (f n) refl (least_node f n)
       )
     ]
 
--- in a choice without a turn nobody would take one
+-- if a choice takes no turn, none of its nodes would take one; by induction on the nodes
 not_took : (g : Graph) (w : World) (c : Cluster) (xs : List ℕ) → (choose g w c xs).took ≡ false → (a : ℕ) →
     Contains xs a → answer g c a ≡ Took → ⊥
 not_took g w c [] f a h e = Contains-nil a h
@@ -127,7 +129,7 @@ circle_all n first a f l = elim (cases_lt a first) [
     at i k e = subst (Contains (circle n first)) e
         (Contains-map (λ i. (first + i) % n) (numbers_below n) i (Contains-numbers n i k))
 
--- a member that has a next instant
+-- if some member has a next instant, there is a node with one; by induction on the members
 left_node : (ms : List Member) → list_any (λ (m : Member). is_some (next m.node.dispatcher)) ms ≡ true →
     (b : ℕ) × (b < length ms) × (time : ℕ) × (next (dispatcher_at (cluster_of ms) b) ≡ Some time)
 left_node [] e = absurd (true≢false (sym e))
@@ -142,7 +144,7 @@ left_node (m ∷ ms) e = go (next m.node.dispatcher) refl e (left_node ms)
     go (Some t) i h ih = (0, omega arith, t, i)
     go None i h ih = let r = ih h in (suc r.0, omega (arith, r.1), r.2, r.3)
 
--- an option that is nothing is None
+-- an option without a value is `None`
 none_is : (o : Option ℕ) → is_some o ≡ false → o ≡ None
 none_is None e = refl
 none_is (Some t) e = absurd (true≢false e)
@@ -163,7 +165,7 @@ module _ (g : Graph) (w : World) (ms : List Member) (p : IsPlaying (play_of g w 
       (from_any_false (λ (m : Member). is_some (next m.node.dispatcher)) ms (get_or ms b d) e
       (Contains-get_or ms b d k)))
     where
-      -- some member, which stands as the default of `get_or`
+      -- the member at a place, which serves as the default of `get_or`
       member : (ms : List Member) (i : ℕ) → i < length ms → Member
       member [] i l = absurd (omega arith)
       member (m ∷ ms) i l = m
@@ -173,7 +175,8 @@ module _ (g : Graph) (w : World) (ms : List Member) (p : IsPlaying (play_of g w 
   not_done e d = let q = left_node ms e in
       never_done _ (sym (ap (answer_at g (cluster_of ms) q.0) q.3) ∙ d q.0 (omega (arith, q.1, count)))
 
-  -- if some member has a next instant, someone takes a turn in a choice
+  -- If some member has a next instant, a node takes its turn in each choice: a node with the least next instant would
+  -- take it, and each node is on the circle.
   pub someone_takes : list_any (λ (m : Member). is_some (next m.node.dispatcher)) ms ≡ true → (first : ℕ) →
       first < length g.nodes →
       (choose g w (cluster_of ms) (circle (length g.nodes) first)).took ≡ true
@@ -189,7 +192,7 @@ module _ (g : Graph) (w : World) (ms : List Member) (p : IsPlaying (play_of g w 
     ]
   ]
 
--- the number that comes this many choices after a number
+-- the number that is drawn for the n-th choice after a number
 abbrev pub number_after : ℕ → ℕ → ℕ
 number_after zero x = x
 number_after (suc n) x = number_after n (next_number x)
@@ -199,7 +202,8 @@ number_more : (n x : ℕ) → number_after (suc n) x ≡ next_number (number_aft
 number_more zero x = refl
 number_more (suc n) x = number_more n (next_number x)
 
--- one choice more adds its waits
+-- a drive of one choice more goes on from the state of the drive before, and adds the waits of that choice; by
+-- induction on the choices
 driven_more : (g : Graph) (w : World) (n x : ℕ) (c now : Cluster) (total : ℕ) → driven g w n x c ≡ (now, total) →
     driven g w (suc n) x c ≡ (
       (choice g w now (next_number (number_after n x))).cluster,
@@ -217,7 +221,9 @@ driven_more g w (suc n) x c now total e =
     -- the first of the choices, and the others after it
     let one = choice g w c (next_number x) in
     let rest = driven g w n (next_number x) one.cluster in
+    -- by induction, the others with one choice more go on from where they led
     let r = driven_more g w n (next_number x) one.cluster rest.0 rest.1 refl in
+    -- they led to `now`, and the waits of all add up to `total`
     let a : rest.0 ≡ now = ap (λ (q : Cluster × ℕ). q.0) e in
     let b : one.waits + rest.1 ≡ total = ap (λ (q : Cluster × ℕ). q.1) e in
     ap (λ (q : Cluster × ℕ). (q.0, one.waits + q.1)) r
@@ -230,7 +236,8 @@ driven_more g w (suc n) x c now total e =
     ≡ total + (choice g w now (next_number (number_after n (next_number x)))).waits =
     omega (arith, b) in z)
 
--- a drive on the way: the number is that of the last choice
+-- A drive on the way, after some choices: `number` is the one that was drawn for the last choice, and not all nodes
+-- were done before it.
 pub record IsDriving (g : Graph) (w : World) (x : ℕ) (before now : Cluster) (number waits : ℕ) : Type 0 where
   pub turns : ℕ
   pub is : driven g w turns x before ≡ (now, waits)
@@ -268,9 +275,9 @@ pub driving_done : (g : Graph) (w : World) (x : ℕ) (c now : Cluster) (number w
     IsDriven g w x c now waits
 driving_done g w x c now number waits h d = record { turns = h.turns; is = h.is; done = d; needed = h.needed }
 
--- The same of the state as code sees it.
+-- The same for `now`, the play as code sees it, which is that of the members.
 
--- if some member has a next instant, someone takes a turn in a choice
+-- if some member has a next instant, a node takes its turn in each choice
 pub takes_at : (g : Graph) (w : World) (ms : List Member) (now : Playing) → play_of g w ms ≡ now →
     IsPlaying (play_of g w ms) →
     list_any (λ (m : Member). is_some (next m.node.dispatcher)) ms ≡ true →
@@ -295,13 +302,13 @@ pub done_at : (g : Graph) (w : World) (ms : List Member) (now : Playing) → pla
     AllDone now.graph now.cluster
 done_at g w ms now view p e = subst (λ (now : Playing). AllDone now.graph now.cluster) view (all_done g w ms p e)
 
--- the tables of the dispatchers are those of the members
+-- the tables of the dispatchers are those of the members; by induction on `ms`
 tables_twice : (ms : List Member) →
     map (λ (d : Dispatcher). d.table) (map (λ (m : Member). m.node.dispatcher) ms) ≡ tables_of ms
 tables_twice [] = refl
 tables_twice (m ∷ ms) = ap (λ (ts : List NodeTable). m.node.dispatcher.table ∷ ts) (tables_twice ms)
 
--- the nodes of a play may still come to at most 5261328 instants
+-- the nodes of a play have at most 5,261,328 instants left together
 pub most_at : (g : Graph) (w : World) (ms : List Member) (now : Playing) → play_of g w ms ≡ now →
     IsPlaying (play_of g w ms) → length ms ≤ 16 →
     remaining now.cluster ≤ 5261328
@@ -318,7 +325,7 @@ most_at g w ms now view p few =
       ap (λ (ts : List NodeTable). sum_by (λ (t : NodeTable). column_count (rows_of t)) ts) (tables_twice ms),
     )))
 
--- a choice that the next number makes takes the drive one choice further
+-- A choice that the next number makes takes the drive one choice further, and changes the state of the nodes alone.
 pub drive_step : (old now new : Playing) (x drawn waits drawn' first more : ℕ) →
     now ≡ record old { cluster = now.cluster } →
     IsDriving old.graph old.world x old.cluster now.cluster drawn waits →

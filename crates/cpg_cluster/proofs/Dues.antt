@@ -1,4 +1,4 @@
--- A play that came to its end did what is due: the due lists exist, and all that was done is orderly as they are.
+-- A play that came to its end has done what is due, and this is orderly.
 use Rattle.std.proofs.Common.{ℕ, suc, ◌≡◌, ◌<◌, ◌∙◌, Bool, true, false, not, cond, ◌==◌, List, [], ◌∷◌, ◌++◌, All}
 use Rattle.std.proofs.Common.{AllPairs, Contains, IsPermutation, filter, get_or, length, refl, sym, ap, subst}
 use Rattle.std.proofs.Common.{arith}
@@ -30,36 +30,37 @@ use Rattle.cpg_cluster.proofs.Ends.{valid_tables_end_as_planned}
 
 -- ---- a sort by keys
 
+-- given keys by which a list is to be sorted
 module _ {X : Type 0} (key : X → List ℕ) where
-  -- whether an element may stand before another: the other's key is not below its own
+  -- whether an element may come before another: the other's key is not below its own
   abbrev pub precedes : X → X → Bool
   precedes x y = not (is_below (key y) (key x))
 
-  -- the second isn't to stand before the first
+  -- the key of the second isn't below that of the first
   abbrev InOrder : X → X → Type 0
   InOrder a b = is_below (key b) (key a) ≡ false
 
-  -- a fact of x and of all elements holds of all once x is inserted
+  -- if a fact holds of x and of all elements, it holds of all once x is inserted; by induction on `ys`
   all_inserted : (P : X → Type 0) (x : X) (ys : List X) → P x → All P ys → All P (inserted precedes x ys)
   all_inserted P x [] p h = All-cons P x [] p h
   all_inserted P x (y ∷ ys) p h = go (precedes x y) (all_inserted P x ys p (λ k d l. h (suc k) d (omega arith)))
     where
-      -- whether x stands before y or further on
+      -- whether x comes before y or further on
       go : (b : Bool) → All P (inserted precedes x ys) → All P (cond b (x ∷ y ∷ ys) (y ∷ inserted precedes x ys))
       go true ih = All-cons P x (y ∷ ys) p h
       go false ih = All-cons P y (inserted precedes x ys) (h 0 y (omega arith)) ih
 
-  -- a list that is in order stays so once x is inserted
+  -- a list that is in order stays so once x is inserted; by induction on `ys`
   in_order_inserted : (x : X) (ys : List X) → AllPairs InOrder ys → AllPairs InOrder (inserted precedes x ys)
   in_order_inserted x [] r = AllPairs-cons InOrder x [] (All-nil (InOrder x)) (AllPairs-nil InOrder)
   in_order_inserted x (y ∷ ys) r =
       go (is_below (key y) (key x)) refl (in_order_inserted x ys (AllPairs-rest InOrder y ys r))
     where
-      -- y stands before all that follow it
+      -- y comes before all that follow it
       after : All (InOrder y) ys
       after = λ k d l. r 0 (suc k) d (omega arith) (omega arith)
 
-      -- whether x stands before y, and so before all, or further on
+      -- whether x comes before y, and so before all, or further on
       go : (b : Bool) → is_below (key y) (key x) ≡ b → AllPairs InOrder (inserted precedes x ys) →
           AllPairs InOrder (cond (not b) (x ∷ y ∷ ys) (y ∷ inserted precedes x ys))
       go false e ih = AllPairs-cons InOrder x (y ∷ ys) (All-cons (InOrder x) y ys e
@@ -67,14 +68,14 @@ module _ {X : Type 0} (key : X → List ℕ) where
       go true e ih = AllPairs-cons InOrder y (inserted precedes x ys)
           (all_inserted (InOrder y) x ys (below_one_way (key y) (key x) e) after) ih
 
-  -- what is sorted by its keys is in the order of its keys
+  -- a sorted list is in the order of its keys; by induction on the list
   pub in_order_sorted : (xs : List X) → AllPairs (λ a b. is_below (key b) (key a) ≡ false) (sorted precedes xs)
   in_order_sorted [] = AllPairs-nil InOrder
   in_order_sorted (x ∷ xs) = in_order_inserted x (sorted precedes xs) (in_order_sorted xs)
 
 -- ---- what is done in another order is as orderly
 
--- if each piece is reordered, all pieces together are
+-- if h gives what f gives in another order, for each element, so it does for all together; by induction on `xs`
 pieces_permuted : {X : Type 0} (f h : ℕ → List X) (xs : List ℕ) →
     ((x : ℕ) → Contains xs x → IsPermutation (f x) (h x)) →
     IsPermutation (flat_map f xs) (flat_map h xs)
@@ -85,7 +86,7 @@ pieces_permuted f h (x ∷ xs) each =
     (IsPermutation-append (f x) (h x) (flat_map f xs) (flat_map h xs) (each x (Contains-first x xs))
     (pieces_permuted f h xs (λ y m. each y (Contains-rest x xs y m)))))
 
--- as many elements pass of a list in another order
+-- as many elements of a list pass a test in another order
 length_filter_permuted : {X : Type 0} (p : X → Bool) (xs ys : List X) → IsPermutation xs ys →
     length (filter p ys) ≡ length (filter p xs)
 length_filter_permuted p xs ys same =
@@ -105,7 +106,7 @@ module _ (g : Graph) (s : Scenario) (xs ys : List Act) (same : IsPermutation xs 
   sends_back : (a : Act) → IsSendAct g ys a → IsSendAct g xs a
   sends_back a m = (back a m.0, m.1)
 
-  -- acts that are orderly are so in every order
+  -- acts that are orderly are so in another order, as each clause is of single acts, of pairs, or of how many there are
   pub orderly_permuted : IsOrderly g s xs → IsOrderly g s ys
   orderly_permuted o = record {
     once = λ x l. length_filter_permuted (λ (a : Act). a.item == x) xs ys same ∙ o.once x l;
@@ -180,7 +181,7 @@ module _ (p : Playing) (playing : IsPlaying p) (done : AllDone p.graph p.cluster
   ends_done node l =
       subst (AreDueEnds p.graph p.tables p.world.scenario node) (sym (ends_are_due node l)) (planned node)
 
-  -- so the play is whole
+  -- The play is whole. What was done on all nodes is what is due on them in another order, so it is orderly.
   pub done_whole : IsWholePlay p.graph p.tables p.world p.cluster
   done_whole = record {
     played = playing.played;
@@ -194,7 +195,7 @@ module _ (p : Playing) (playing : IsPlaying p) (done : AllDone p.graph p.cluster
         (correct.orderly p.world.scenario playing.world.scenario);
   }
 
--- nothing but the state changes in a play
+-- the same for a play of which the state at the beginning is known too, as nothing else changes
 pub whole_play : (old new : Playing) → new ≡ record old { cluster = new.cluster } → IsPlaying new →
     AllDone old.graph new.cluster →
     IsWholePlay old.graph old.tables old.world new.cluster
@@ -202,7 +203,7 @@ whole_play old new same playing done = subst (λ (p : Playing). IsWholePlay p.gr
     (done_whole new playing
     (subst (λ (g : Graph). AllDone g new.cluster) (sym (ap (λ (p : Playing). p.graph) same)) done))
 
--- what is due does not depend on how a play came to its end
+-- Two plays of one world that came to their ends did the same: what is due, sorted, which doesn't depend on the play.
 pub plays_that_end_are_alike : PlaysThatEndAreAlike
 plays_that_end_are_alike p other one two done over = record {
   acts = λ node l. acts_are_due p one done node l ∙ sym (acts_are_due (record p { cluster = other }) two over node l);

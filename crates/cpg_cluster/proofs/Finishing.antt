@@ -1,4 +1,4 @@
--- What a node's turn asks for holds in every state that a play reaches.
+-- What a turn requires of a node holds in every state that a play reaches: it may take its reports, and then its turn.
 use Rattle.std.proofs.Common.{◌≡◌, ◌≢◌, ℕ, ◌+◌, ◌<◌, ◌≤◌, Bool, true, false, cond, ◌&&◌, ◌==◌, List, [], ◌∷◌, ◌++◌}
 use Rattle.std.proofs.Common.{length, map, fold, get_or, Contains, Option, Some, None, refl, sym, ap, ◌∙◌, subst}
 use Rattle.std.proofs.Common.{arith, inl, inr, eq-eqb, ne_eqb, leb, leb-true, true≢false}
@@ -34,17 +34,17 @@ use Rattle.cpg_cluster.proofs.Between.{flat_id}
 
 -- Reports change nothing but what runs.
 
--- reports do not change a node's next instant
+-- reports do not change a node's next instant; by induction on `es`
 pub next_finished : (d : Dispatcher) (es : List Ended) → next (fold finished d es) ≡ next d
 next_finished d [] = refl
 next_finished d (e ∷ es) = next_finished (finished d e) es ∙ next_reported e d.table d.heard d.running d.last
 
--- reports do not change a node's table
+-- reports do not change a node's table; by induction on `es`
 pub table_finished : (d : Dispatcher) (es : List Ended) → (fold finished d es).table ≡ d.table
 table_finished d [] = refl
 table_finished d (e ∷ es) = table_finished (finished d e) es
 
--- the execution of a process is found if the processes of a node are all different
+-- the execution of a process is found if the processes of a node are all different; by induction on `ps`
 running_found : (g : Graph) (h : Own → Option Running) (ps : List ℕ) → Rises (λ x y. x < y) ps → (p : ℕ) →
     Contains ps p →
     running_in (map (own_process g) ps) (map h (map (own_process g) ps)) p ≡ h (own_process g p)
@@ -66,18 +66,18 @@ module _ {g : Graph} {tables : List NodeTable} {w : World} (k : Played g tables 
   abbrev table : OwnTable
   table = own_table g node (table_at tables node)
 
-  -- its processes stand in rising order
+  -- its processes are in rising order
   processes_rise : Rises (λ x y. x < y) (processes_on g node)
   processes_rise = Rises-filter (λ x y. x < y) (λ p. node_of g p == node) (numbers_below (process_count g))
       (numbers_go_up (process_count g))
 
-  -- the state in which these executions run
+  -- the node's state, in which each process runs what h says
   abbrev state : (Own → Option Running) → Dispatcher
   state h = record { table = table; heard = heard; running = map h (own_of_node g node); last = last }
 
-  -- A report of an execution that is over by the time.
-  -- What the record of such a report asks: the process runs without a report, the faults are few, the execution has
-  -- taken some time and no longer than planned, and the report comes after the last turn and before the next.
+  -- The report of an execution that is over by the time may be taken: the process runs without a report, the faults are
+  -- few, the execution has taken some time and no longer than planned, and the report comes after the last turn and not
+  -- after the next.
   may : (h : Own → Option Running) → next (state h) ≡ Some time → (p : ℕ) → Contains (processes_on g node) p →
       (run : Running) →
       h (own_process g p) ≡ Some run →
@@ -107,7 +107,7 @@ module _ {g : Graph} {tables : List NodeTable} {w : World} (k : Played g tables 
         before = subst (λ o. IfSome o (λ n. run.start + get_or w.lengths p 0 ≤ n)) (sym n) over;
       }
 
-  -- what runs after the report of a process
+  -- what each process runs after the report of process p
   after : (Own → Option Running) → ℕ → Own → Option Running
   after h p o = with_report (ended_of g w (own_process g p)) o (h o)
 
@@ -139,7 +139,7 @@ module _ {g : Graph} {tables : List NodeTable} {w : World} (k : Played g tables 
   no_report None t = refl
   no_report (Some r) t = absurd (true≢false (sym t))
 
-  -- the report of one more process
+  -- If the reports of the later processes may be taken, so may that of p, if it has one, and then theirs.
   one_more : (h : Own → Option Running) → next (state h) ≡ Some time → (p : ℕ) → Contains (processes_on g node) p →
       h (own_process g p) ≡ planned g tables w last (own_process g p) →
       (rest : List (ℕ × Ended)) →
@@ -164,7 +164,8 @@ module _ {g : Graph} {tables : List NodeTable} {w : World} (k : Played g tables 
                 subst (λ d. AllFinish d rest) (sym (state_after h p)) then,
               )
 
-  -- what is left of the processes, each as it runs
+  -- The reports of rising processes, each of which runs as planned, may be taken one after another. By induction on the
+  -- processes: a report of the first changes nothing of the others.
   all_from : (h : Own → Option Running) → next (state h) ≡ Some time → (ps : List ℕ) → Rises (λ x y. x < y) ps →
       ((p : ℕ) → Contains ps p → Contains (processes_on g node) p) →
       ((p : ℕ) → Contains ps p → h (own_process g p) ≡ planned g tables w last (own_process g p)) →
@@ -185,7 +186,7 @@ module _ {g : Graph} {tables : List NodeTable} {w : World} (k : Played g tables 
       flat_id (λ o. report_of g w time o (planned g tables w last o)) (own_of_node g node)))
       (all_from (planned g tables w last) comes (processes_on g node) processes_rise (λ p c. c) (λ p c. refl))
 
--- the same in a state that a play reaches
+-- given a node with its next instant in a state that a play reaches
 module _ {g : Graph} {tables : List NodeTable} {w : World} (k : Played g tables w) (c : Cluster)
     (r : Reached g tables w c) (a : ℕ) (l : a < length g.nodes) (time : ℕ)
     (e : next (dispatcher_at c a) ≡ Some time) where
@@ -206,7 +207,8 @@ module _ {g : Graph} {tables : List NodeTable} {w : World} (k : Played g tables 
       table_finished (dispatcher_at c a) (map (λ (r : ℕ × Ended). r.1) (reports_now g w (dispatcher_at c a) time))
       ∙ ap (λ (d : Dispatcher). d.table) (r.holds a l).is
 
-  -- after these reports it may take its turn, with the frames that arrive
+  -- After these reports it may take its turn with the frames that arrive: they are of items and columns that it hears,
+  -- and aren't strange.
   pub may_turn : MayTurn (reported g w (dispatcher_at c a) time) []
       (frames_now g w c (reported g w (dispatcher_at c a) time) time)
   may_turn =

@@ -1,4 +1,4 @@
--- What nodes have noted of items is what they have done of them.
+-- What nodes have noted of items is what they have done of them, so frames can be gathered from the notes.
 use Rattle.std.proofs.Common.{◌≡◌, ◌≢◌, ℕ, ◌+◌, ◌<◌, Bool, true, false, cond, ◌&&◌, ◌==◌, List, [], ◌∷◌, length, map}
 use Rattle.std.proofs.Common.{filter, fold, get_or, replicate, Contains, Option, Some, None, refl, sym, ap, ◌∙◌}
 use Rattle.std.proofs.Common.{subst, arith, inl, inr, eq-eqb, ne_eqb}
@@ -25,14 +25,15 @@ use Rattle.cpg_cluster.proofs.Rooms.{acts_apart}
 use Rattle.cpg_cluster.proofs.Stepping.{tables_of, play_of}
 use Rattle.cpg_cluster.proofs.Opening.{hears_items}
 
--- acts of other items leave what is noted of an item
+-- acts of other items change nothing of what is noted of item x; by induction on the acts
 others_noted : (x : ℕ) (acts : List Act) (noted : List (Option Act)) → ((a : Act) → Contains acts a → a.item ≢ x) →
     get_or (fold note noted acts) x None ≡ get_or noted x None
 others_noted x [] noted h = refl
 others_noted x (a ∷ acts) noted h = others_noted x acts (note noted a) (λ b m. h b (Contains-rest a acts b m)) ∙
     get_or-set_other noted a.item x (Some a) None (λ e. h a (Contains-first a acts) (sym e))
 
--- the act of an item is noted, if all acts are of different items
+-- if acts are of different items and nothing is noted of item x, then after them its act, if there is one, is noted; by
+-- induction on the acts
 noted_once : (x : ℕ) (acts : List Act) (noted : List (Option Act)) → Rises (λ (a b : Act). a.item ≢ b.item) acts →
     x < length noted →
     get_or noted x None ≡ None →
@@ -50,12 +51,13 @@ noted_once x (a ∷ acts) noted r l n = elim (cases_eq a.item x) [
       (get_or-set_other noted a.item x (Some a) None (λ e. ne (sym e)) ∙ n)
 ]
   where
-    -- the act that is noted stands at its own item
+    -- the notes have the act at its item
     here : a.item ≡ x → get_or (note noted a) x None ≡ Some a
     here e = ap (λ z. get_or (note noted a) z None) (sym e)
         ∙ get_or-set_same noted a.item (Some a) None (omega (arith, l, e))
 
--- both tests keep the same of all elements as of those that pass the first
+-- the elements that pass both tests are the same among all and among those that pass the first; by induction on the
+-- list
 both_pass : {X : Type 0} (p q : X → Bool) (xs : List X) →
     filter (λ x. p x && q x) (filter p xs) ≡ filter (λ x. p x && q x) xs
 both_pass p q [] = refl
@@ -68,7 +70,7 @@ both_pass p q (x ∷ xs) = go (p x) refl (both_pass p q xs)
     go true e ih = λ i. cond (e i && q x) (x ∷ ih i) (ih i)
     go false e ih = ih
 
--- frames come from what is noted
+-- if what is noted of item x is its act among all acts, the frames of all acts of x are that of the noted one
 frames_noted : (value : Bool) (x slot time : ℕ) (acts : List Act) (noted : Option Act) →
     filter (λ (a : Act). a.item == x) acts ≡ option_to_list noted →
     frames_from value x slot time (option_to_list noted) ≡ frames_from value x slot time acts
@@ -89,7 +91,7 @@ sender_frames ms sender m value x time noted l at has is =
 
 -- given a play
 module _ (g : Graph) (w : World) (ms : List Member) (p : IsPlaying (play_of g w ms)) where
-  -- in a play each node has noted what it has done
+  -- In a play each node has noted what it has done: its notes are those of its acts, which are of different items.
   pub all_noted : AllFit g ms → (i x : ℕ) (d : Member) → i < length ms → x < item_count g → HasNoted (get_or ms i d) x
   all_noted fits i x d l within =
       let k = played_of g (tables_of ms) p.formed p.shape p.valid w p.world in
@@ -105,7 +107,7 @@ module _ (g : Graph) (w : World) (ms : List Member) (p : IsPlaying (play_of g w 
       (get_or-replicate (item_count g) x None None within)
       ∙ ap (λ (s : List (Option Act)). option_to_list (get_or s x None)) (sym (fits i d l).noted)
 
-  -- what a node hears is of items that there are
+  -- a node hears only items of the graph
   pub hears_there : (a : ℕ) (m : Member) → m ≡ get_or ms a m → a < length ms →
       All (λ (row : Row). row.item < item_count g) m.node.dispatcher.table.hears
   hears_there a m at l =

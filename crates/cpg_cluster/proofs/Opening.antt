@@ -35,12 +35,12 @@ use Rattle.cpg_cluster.proofs.Plays.{valid_tables_are_correct}
 use Rattle.cpg_cluster.proofs.Reached.{dispatchers_at, dispatchers_count}
 use Rattle.cpg_cluster.proofs.Stepping.{tables_of, play_of}
 
--- some member, if there is one
+-- the member at a place of the list
 get_member : (ms : List Member) (i : ℕ) → i < length ms → Member
 get_member [] i l = absurd (omega arith)
 get_member (m ∷ ms) i l = m
 
--- one more node is open
+-- with one more node that is open, the first nodes up to it are open
 pub open_more : (g : Graph) (tables : List NodeTable) (n : ℕ) (ms : List Member) (m : Member) → AreOpen g tables n ms →
     IsOpen g n (table_at tables n) m →
     AreOpen g tables (n + 1) (ms ++ m ∷ [])
@@ -54,7 +54,8 @@ open_more g tables n ms m a o = record {
   ];
 }
 
--- the first of the tables that are left is the next node's
+-- if t is the first of the tables that are left, and its node is open, the nodes up to it are open, and the rest of the
+-- tables is left
 pub open_next : (g : Graph) (tables : List NodeTable) (n number after : ℕ) (t : NodeTable) (rest : List NodeTable)
     (ms : List Member) (m : Member) → AreOpen g tables n ms →
     drop n tables ≡ t ∷ rest →
@@ -69,7 +70,7 @@ open_next g tables n number after t rest ms m a left is next o =
       ap (λ k. drop k tables) next ∙ (sym (drop-drop 1 n tables) ∙ ap (drop 1) left),
     )
 
--- by valid tables a node hears only items that there are
+-- by valid tables a node hears only items of the graph
 pub hears_items : (g : Graph) (tables : List NodeTable) → IsValid g tables → (i : ℕ) → i < length tables →
     HearsItems g (table_at tables i)
 hears_items g tables v i l = subst (All (λ (row : Row). row.item < item_count g))
@@ -108,7 +109,8 @@ module _ (g : Graph) (tables : List NodeTable) (w : World) (within : IsWithinLim
       ∙ ap initial_dispatcher (sym (own_is g tables within of i t)) ∙
       sym (dispatchers_at g 0 tables i i d empty_table t (omega arith)))
 
-  -- nothing has been done
+  -- if each member has an empty list, for example of acts, the lists of all are those of the state before the first
+  -- turns
   none_are : {X : Type 0} (f : Member → List X) → ((i : ℕ) (d : Member) → i < length tables → f (get_or ms i d) ≡ []) →
       map f ms ≡ replicate (length tables) []
   none_are f h = same_lists (map f ms) (replicate (length tables) [])
@@ -118,7 +120,7 @@ module _ (g : Graph) (tables : List NodeTable) (w : World) (within : IsWithinLim
       get_or-map f ms i (get_member ms i k) d k ∙ h i (get_member ms i k) t
       ∙ sym (get_or-replicate (length tables) i [] d t))
 
-  -- their state is the one before the first turns
+  -- the members' state is the one before the first turns
   pub cluster_is : cluster_of ms ≡ initial_cluster g tables
   cluster_is = λ i. record {
     nodes = nodes_are i;
@@ -127,7 +129,7 @@ module _ (g : Graph) (tables : List NodeTable) (w : World) (within : IsWithinLim
     reports = none_are (λ (m : Member). m.reports.items) (λ i d l. (open'.each i d l).reports) i;
   }
 
-  -- their play is the one before the first turn
+  -- the members' play is the one before the first turn
   pub play_is : play_of g w ms ≡ opened g tables w
   play_is = λ i. record { graph = g; tables = tables_are i; world = w; cluster = cluster_is i }
 
@@ -159,7 +161,7 @@ pub correct_open : (g : Graph) (tables : List NodeTable) → IsWithinLimits g �
     IsCorrect g tables
 correct_open g tables within of f v = valid_tables_are_correct g tables f (has_shape g within tables of) v
 
--- full lengths are lawful
+-- a scenario with its full lengths is a world, as a duration is at least 1
 pub full_world : (g : Graph) (s : Scenario) → WellFormed g → IsScenario g s →
     IsWorld g (record { scenario = s; lengths = full_lengths g s })
 full_world g s f is = record {

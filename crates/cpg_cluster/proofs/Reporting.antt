@@ -1,4 +1,4 @@
--- What a node has reported in a play: each process once at most, at its actual end.
+-- What a node has reported in a play: each process at most once, at its actual end.
 use Rattle.std.proofs.Common.{◌≡◌, ◌≢◌, ℕ, ◌+◌, ◌<◌, ◌≤◌, Bool, true, false, cond, ◌&&◌, ◌==◌, List, [], ◌∷◌, ◌++◌}
 use Rattle.std.proofs.Common.{length, map, get_or, Contains, Option, Some, None, refl, sym, ap, ◌∙◌, subst, arith}
 use Rattle.std.proofs.Common.{inl, inr, true≢false, leb, leb-true, le-leb}
@@ -27,7 +27,7 @@ use Rattle.cpg_cluster.proofs.Lawful.{runs_since, unreported}
 use Rattle.cpg_cluster.proofs.Reached.{Reached, reached_open, reached_step, free_from, turn_is}
 use Rattle.cpg_cluster.proofs.Between.{flat_id}
 
--- the report of an execution
+-- the report is that of an execution of a process of the node, with its actual end
 pub record OneReport (g : Graph) (tables : List NodeTable) (w : World) (node : ℕ) (q : ℕ × Ended) : Type 0 where
   pub process : ℕ
   pub on : Contains (processes_on g node) process
@@ -55,7 +55,7 @@ single g w time o (Some run) = go (is_none run.report && leb (run.start + get_or
     go true = (λ y m. absurd (Contains-nil y m), tt)
     go false = tt
 
--- what one of them says
+-- the report q is that of an execution that runs, is over by the time and hasn't been reported
 record Told (g : Graph) (w : World) (time : ℕ) (o : Own) (run : Option Running) (q : ℕ × Ended) : Type 0 where
   it : Running
   runs : run ≡ Some it
@@ -63,7 +63,7 @@ record Told (g : Graph) (w : World) (time : ℕ) (o : Own) (run : Option Running
   over : it.start + get_or w.lengths o.process 0 ≤ time
   is : q ≡ (it.start + get_or w.lengths o.process 0, ended_of g w o)
 
--- a report comes from an execution that is over and has not reported
+-- each report of a process is such a report
 told : (g : Graph) (w : World) (time : ℕ) (o : Own) (run : Option Running) (q : ℕ × Ended) →
     Contains (report_of g w time o run) q →
     Told g w time o run q
@@ -97,7 +97,7 @@ told g w time o (Some run) q h = go (is_none run.report && leb (run.start + get_
 -- given a node of a play and a time
 module _ {g : Graph} {tables : List NodeTable} {w : World} (k : Played g tables w) (node : ℕ) (last : Option ℕ)
     (time : ℕ) where
-  -- the reports by the time
+  -- the reports that the node takes before its turn at the time
   abbrev now : List (ℕ × Ended)
   now = flat_map (λ o. report_of g w time o (planned g tables w last o)) (own_of_node g node)
 
@@ -130,7 +130,7 @@ module _ {g : Graph} {tables : List NodeTable} {w : World} (k : Played g tables 
       q.1.process ≡ o.process
   of_own o q h = ap (λ (q : ℕ × Ended). q.1.process) (told g w time o (planned g tables w last o) q h).is
 
-  -- two processes of a node never report the same process
+  -- the reports of different processes of a node are of different processes; by induction on the processes
   own_apart : (ps : List ℕ) → Rises (λ x y. x < y) ps →
       Rises (λ (x y : Own). (a b : ℕ × Ended) → Contains (report_of g w time x (planned g tables w last x)) a →
       Contains (report_of g w time y (planned g tables w last y)) b →
@@ -155,7 +155,8 @@ module _ {g : Graph} {tables : List NodeTable} {w : World} (k : Played g tables 
       (own_apart (processes_on g node) (Rises-filter (λ x y. x < y) (λ p. node_of g p == node)
       (numbers_below (process_count g)) (numbers_go_up (process_count g))))
 
-  -- before its next turn a node has reported at most one execution of each process, all by that instant
+  -- With the reports before its next turn a node has reported at most one execution of each process, all by that
+  -- instant. What was reported by the last turn isn't reported now.
   pub reports_more : (heard : List Range) → NextIs (node_state g tables w node heard last) time →
       (reports : List (ℕ × Ended)) →
       HasReported g tables w node last reports →
@@ -177,8 +178,9 @@ module _ {g : Graph} {tables : List NodeTable} {w : World} (k : Played g tables 
         true≢false (sym x.1 ∙ ap (by last) times ∙ y.1));
   }
 
+-- given valid tables and a world
 module _ {g : Graph} {tables : List NodeTable} {w : World} (k : Played g tables w) where
-  -- each node of the state has reported so
+  -- each node of the state has reported at most one execution of each process, all by its last turn
   pub record ReportsHold (c : Cluster) : Type 0 where
     pub count : length c.reports ≡ length g.nodes
     pub each : (node : ℕ) → node < length g.nodes →
@@ -217,6 +219,7 @@ module _ {g : Graph} {tables : List NodeTable} {w : World} (k : Played g tables 
         (record { only = λ q h. absurd (Contains-nil q h); apart = tt });
   }
 
+  -- given a state that a play reaches, of which this holds
   module _ (c : Cluster) (r : Reached g tables w c) (h : ReportsHold c) where
     -- after its turn the node has reported at most one execution of each process
     hold_here : (a time : ℕ) → (l : a < length g.nodes) → answer g c a ≡ Took → next (dispatcher_at c a) ≡ Some time →

@@ -1,4 +1,4 @@
--- How much a node does, reaches, is told and hears at most.
+-- How many acts, ends, reports and frames a node has at most in a play.
 use Rattle.std.proofs.Common.{◌≡◌, ◌≢◌, ℕ, ◌+◌, ◌<◌, ◌≤◌, Bool, ◌&&◌, ◌==◌, List, [], ◌∷◌, ◌++◌, length, map, filter}
 use Rattle.std.proofs.Common.{get_or, Contains, AllPairs, Option, sym, ap, ◌∙◌, subst, arith, inl, inr}
 use Rattle.std.proofs.Common.{eqb-true, ne_eqb}
@@ -25,19 +25,19 @@ use Rattle.cpg_cluster.proofs.Ends.{Planned, EndsBefore, HasEnded}
 use Rattle.cpg_cluster.proofs.Reached.{Reached}
 use Rattle.cpg_cluster.proofs.Reporting.{HasReported}
 
--- what each element is to each later one holds of all pairs
+-- what holds of each element and each later one, by recursion, holds of all pairs of places; by induction on `xs`
 pairs_of : {X : Type 0} (R : X → X → Type 0) (xs : List X) → Rises R xs → AllPairs R xs
 pairs_of R [] h = λ i j d l m. absurd (omega arith)
 pairs_of R (x ∷ xs) h = AllPairs-cons_by R x xs h.0 (pairs_of R xs h.1)
 
--- if keys differ, the list of keys has no repeats
+-- if the keys of elements differ, no two of the list of keys are equal; by induction on `xs`
 keys_apart : {X : Type 0} (key : X → ℕ) (xs : List X) → Rises (λ a b. key a ≢ key b) xs →
     Rises (λ a b. a ≢ b) (map key xs)
 keys_apart key [] h = tt
 keys_apart key (x ∷ xs) h =
     (λ y m e. let r = Contains-map_parts key xs y m in h.0 r.0 r.1 (e ∙ sym r.2), keys_apart key xs h.1)
 
--- a list without repeated keys is no longer than one that has all its keys
+-- a list whose keys differ is no longer than a list that has all these keys
 pub no_more_keys : {X : Type 0} (key : X → ℕ) (xs : List X) (ys : List ℕ) → Rises (λ a b. key a ≢ key b) xs →
     ((x : X) → Contains xs x → Contains ys (key x)) →
     length xs ≤ length ys
@@ -51,14 +51,14 @@ no_more_keys key xs ys apart in' = omega (
 -- given a node of a play
 module _ {g : Graph} {tables : List NodeTable} {w : World} (k : Played g tables w) (node : ℕ)
     (l : node < length g.nodes) (last : Option ℕ) where
-  -- acts are of different items
+  -- the acts that the node has done are of different items, as no item is asked of it twice
   pub acts_apart : (acts : List Act) → Done g tables w.scenario node last acts →
       Rises (λ (a b : Act). a.item ≢ b.item) acts
   acts_apart acts d = Rises-weaker (Before g) (λ (a b : Act). a.item ≢ b.item) acts (λ a b m n before e.
       let same = asked_once k.setting node a b (d.only a m).0 (d.only b n).0 e in
       let self = subst (Before g a) (sym same) before in not_both_ways g a a self self) d.rising
 
-  -- there are no more acts than rows
+  -- there are no more acts than rows of sends and starts, as each is of a row's item
   pub acts_few : (acts : List Act) → Done g tables w.scenario node last acts →
       length acts ≤ length (table_at tables node).sends + length (table_at tables node).starts
   acts_few acts d =
@@ -73,7 +73,7 @@ module _ {g : Graph} {tables : List NodeTable} {w : World} (k : Played g tables 
             (Contains-map (λ (row : Row). row.item) rows r.0 r.1)),
       )
 
-  -- ends are of different processes of the node
+  -- there are no more ends than processes of the node, as they are of different ones
   pub ends_few : (ends : List (ℕ × Ended)) → HasEnded g tables w.scenario node last ends →
       length ends ≤ length (processes_on g node)
   ends_few ends d = no_more_keys (λ (q : ℕ × Ended). q.1.process) ends (processes_on g node)
@@ -94,7 +94,7 @@ module _ {g : Graph} {tables : List NodeTable} {w : World} (k : Played g tables 
           sym p.time ∙ (λ i. (one i).time + duration g (same i) (fault_of w.scenario (same i))) ∙ q.time in
           elim before [ inl less ↦ omega arith | inr r ↦ omega (arith, r.1, e) ]
 
-  -- reports are of different processes of the node
+  -- there are no more reports than processes of the node, as they are of different ones
   pub reports_few : (reports : List (ℕ × Ended)) → HasReported g tables w node last reports →
       length reports ≤ length (processes_on g node)
   reports_few reports d = no_more_keys (λ (q : ℕ × Ended). q.1.process) reports (processes_on g node) d.apart
@@ -102,7 +102,7 @@ module _ {g : Graph} {tables : List NodeTable} {w : World} (k : Played g tables 
 
 -- Frames: at most one of each row.
 
--- of acts of different items, at most one is of an item
+-- of acts of different items, at most one is of an item; by induction on `acts`
 one_item : (test : Act → Bool) (x : ℕ) (acts : List Act) → Rises (λ (a b : Act). a.item ≢ b.item) acts →
     length (filter (λ (a : Act). (a.item == x) && test a) acts) ≤ 1
 one_item test x [] r = omega arith
@@ -125,7 +125,7 @@ one_item test x (a ∷ acts) r = elim (cases_Bool ((a.item == x) && test a)) [
   )
 ]
 
--- if each element gives at most one, there are no more results than elements
+-- if each element gives at most one result, there are no more results than elements; by induction on `xs`
 few_in_all : {X Y : Type 0} (f : X → List Y) (xs : List X) → ((x : X) → length (f x) ≤ 1) →
     length (flat_map f xs) ≤ length xs
 few_in_all f [] h = omega arith

@@ -1,4 +1,4 @@
--- What a step of a cluster's code asks for and does.
+-- What the code of `Cluster::step` requires of its calls, and that it does the step of the definition.
 use Rattle.std.proofs.Common.{◌≡◌, ℕ, ◌+◌, ◌<◌, ◌≤◌, List, [], ◌++◌, length, map, filter, get_or, set, fold, replicate}
 use Rattle.std.proofs.Common.{Option, Some, None, refl, sym, ap, ap₂, ◌∙◌, subst, arith, inl, inr}
 use Rattle.std.specs.Prelude.{All}
@@ -46,7 +46,7 @@ abbrev pub play_of : Graph → World → List Member → Playing
 play_of g w ms = record { graph = g; tables = tables_of ms; world = w; cluster = cluster_of ms }
 
 -- Given one of the members of a play, each of which keeps what it should.
--- The member m stands at the place a of the list (`at`, `l`).
+-- The member m is at the place a of the list (`at`, `l`).
 module _ (g : Graph) (w : World) (ms : List Member) (p : IsPlaying (play_of g w ms)) (fits : AllFit g ms) (a : ℕ)
     (m : Member) (at : m ≡ get_or ms a m) (l : a < length ms) where
   -- the tables of the members are valid, and the world is one of the graph
@@ -65,7 +65,7 @@ module _ (g : Graph) (w : World) (ms : List Member) (p : IsPlaying (play_of g w 
   on : a < length g.nodes
   on = omega (arith, l, p.shape.count, length-map ms (λ (m : Member). m.node.dispatcher.table))
 
-  -- the member stands at its place, whatever the default is
+  -- the member is at its place, whatever the default is
   here : (d : Member) → get_or ms a d ≡ m
   here d = get_or_default ms a d m l ∙ sym at
 
@@ -129,7 +129,7 @@ module _ (g : Graph) (w : World) (ms : List Member) (p : IsPlaying (play_of g w 
     ready_next = subst (λ (d : Dispatcher). next (reported g w d time) ≡ Some time) at_is
         (next_ready k (cluster_of ms) r a on time next_at)
 
-    -- the frames, as code gathers them
+    -- the frames that code gathers are those that arrive at the node in the state
     gathered : (fs : List Frame) →
         fs ≡ frames_by g w.scenario.values ms time m.node.dispatcher.table.hears m.senders.items →
         fs ≡ frames_now g w (cluster_of ms) (reported g w (dispatcher_at (cluster_of ms) a) time) time
@@ -151,7 +151,7 @@ module _ (g : Graph) (w : World) (ms : List Member) (p : IsPlaying (play_of g w 
           ap (λ (d : Dispatcher). d.table) at_is),
     )
 
-    -- given the frames that arrive
+    -- given the frames that code gathers
     module _ (fs : List Frame)
         (arrive : fs ≡ frames_by g w.scenario.values ms time m.node.dispatcher.table.hears m.senders.items) where
       -- after the reports it may take its turn with the frames that arrive
@@ -180,7 +180,7 @@ module _ (g : Graph) (w : World) (ms : List Member) (p : IsPlaying (play_of g w 
         played' =
             subst (IsPlayed g (tables_of ms) w) step_is (played_step g (tables_of ms) w (cluster_of ms) a p.played)
 
-        -- a play reaches it
+        -- so `Reached` holds of it
         r' : Reached g (tables_of ms) w (take_turn g w (cluster_of ms) a time)
         r' = played_reached k (take_turn g w (cluster_of ms) a time) played'
 
@@ -196,7 +196,7 @@ module _ (g : Graph) (w : World) (ms : List Member) (p : IsPlaying (play_of g w 
         fit : Fits g a m
         fit = subst (Fits g a) (here m) (fits a m l)
 
-        -- what the node has then
+        -- the node's dispatcher after the turn, in the state and in the member
         node_then : turn (reported g w (dispatcher_at (cluster_of ms) a) time) time []
             (frames_now g w (cluster_of ms) (reported g w (dispatcher_at (cluster_of ms) a) time) time) ≡ turn
             (ready g w.scenario w.lengths time m.node.dispatcher) time [] fs
@@ -226,7 +226,7 @@ module _ (g : Graph) (w : World) (ms : List Member) (p : IsPlaying (play_of g w 
             (get_or-map (λ (m : Member). m.reports.items) ms a m [] l ∙ ap (λ (m : Member). m.reports.items) (here m))
             (ap (λ (d : Dispatcher). reports_now g w d time) at_is)
 
-        -- there is room for the acts of the turn
+        -- there is room for the acts of the turn, as all acts of a play are no more than its rows of sends and starts
         pub acts_fit : length (m.acts.items
             ++ acts_of_turn (ready g w.scenario w.lengths time m.node.dispatcher) time [] fs) ≤ vec_capacity m.acts
         acts_fit = omega (
@@ -243,7 +243,7 @@ module _ (g : Graph) (w : World) (ms : List Member) (p : IsPlaying (play_of g w 
         own_length : length m.node.dispatcher.table.own ≡ length (processes_on g a)
         own_length = ap (λ (l : List Own). length l) own_is ∙ length-map (processes_on g a) (own_process g)
 
-        -- there is room for the ends of the turn
+        -- there is room for the ends of the turn, as all ends of a play are no more than its processes
         pub ends_fit : length (m.ends.items ++ ends_of time (ready g w.scenario w.lengths time m.node.dispatcher))
             ≤ vec_capacity m.ends
         ends_fit = omega (
@@ -257,7 +257,7 @@ module _ (g : Graph) (w : World) (ms : List Member) (p : IsPlaying (play_of g w 
               (omega (arith, l, length-map ms (λ (m : Member). m.ends.items))) ∙ ends_then),
         )
 
-        -- there is room for the reports before the turn
+        -- there is room for the reports before the turn, for the same reason
         pub reports_fit : length (m.reports.items ++ reports_of g w.scenario w.lengths time m.node.dispatcher)
             ≤ vec_capacity m.reports
         reports_fit = omega (
@@ -271,9 +271,8 @@ module _ (g : Graph) (w : World) (ms : List Member) (p : IsPlaying (play_of g w 
               (omega (arith, l, length-map ms (λ (m : Member). m.reports.items))) ∙ reports_then),
         )
 
-        -- The members after the turn.
-        -- n is the member after its turn: its dispatcher, acts, notes, ends and reports are those of the turn
-        -- (`node`, `acts`, `noted`, `ends`, `reports`); what it doesn't change is kept, and so are its capacities
+        -- Given the member n after its turn: its dispatcher, acts, notes, ends and reports are those of the turn
+        -- (`node`, `acts`, `noted`, `ends`, `reports`); what it keeps of the graph, and its capacities, are as before
         -- (`kept`, `room`).
         module _ (n : Member)
             (node : n.node.dispatcher ≡ turn (ready g w.scenario w.lengths time m.node.dispatcher) time [] fs)
@@ -286,7 +285,7 @@ module _ (g : Graph) (w : World) (ms : List Member) (p : IsPlaying (play_of g w 
             (kept : (n.senders ≡ m.senders) × (n.slot ≡ m.slot) × (n.arrivals ≡ m.arrivals))
             (room : (vec_capacity n.acts ≡ vec_capacity m.acts) × (vec_capacity n.ends ≡ vec_capacity m.ends) ×
             (vec_capacity n.reports ≡ vec_capacity m.reports)) where
-          -- the state of the members with n is the state after the turn
+          -- with n in place of m, the members' state is the state after the turn, list by list
           cluster_then : cluster_of (set ms a n) ≡ take_turn g w (cluster_of ms) a time
           cluster_then = λ i. record {
             nodes = (map-set (λ (m : Member). m.node.dispatcher) ms a n
@@ -369,7 +368,7 @@ module _ (g : Graph) (w : World) (ms : List Member) (p : IsPlaying (play_of g w 
                 subst (λ (m : Member). length m.node.dispatcher.table.hears ≤ most) (sym at) (h a m l),
               )) h
 
-          -- which leaves the nodes fewer instants
+          -- all nodes together have fewer instants left
           pub nearer_then : remaining (cluster_of (set ms a n)) < remaining (cluster_of ms)
           nearer_then = subst (λ (d : Cluster). remaining d < remaining (cluster_of ms)) (sym cluster_then)
               (nearer_set (cluster_of ms).nodes a (turn (reported g w (dispatcher_at (cluster_of ms) a) time) time []

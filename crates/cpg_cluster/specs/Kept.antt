@@ -7,7 +7,7 @@ use Rattle.cpg_cluster.specs.Cluster.{Cluster}
 use Rattle.cpg_cluster.specs.Playing.{Playing, IsPlaying}
 use Rattle.cpg_cluster.specs.Keeping.{AllFit}
 
--- the state of members
+-- the state of the nodes and what they have done, of their members by number
 abbrev pub cluster_of : List Member → Cluster
 cluster_of ms = record {
   nodes = map (λ (m : Member). m.node.dispatcher) ms;
@@ -16,7 +16,7 @@ cluster_of ms = record {
   reports = map (λ (m : Member). m.reports.items) ms;
 }
 
--- the play of a cluster's fields
+-- the play that a cluster's fields say: its tables are those of the members' dispatchers
 abbrev pub playing_of : Inside → Playing
 playing_of n = record {
   graph = n.problem;
@@ -25,10 +25,13 @@ playing_of n = record {
   cluster = cluster_of n.members.items;
 }
 
--- it is a play of valid tables of few nodes, each of which keeps what it should, and the frames of a turn have room
+-- it is a play of valid tables, each node keeps what it should, and the frames of any turn have room
 pub record IsKept (n : Inside) : Type 0 where
+  -- what the play is of is lawful, and some turns lead to its state
   pub playing : IsPlaying (playing_of n)
+  -- a graph has at most 16 nodes
   pub few : length n.members.items ≤ 16
+  -- each member keeps what its node needs
   pub members : AllFit n.problem n.members.items
   -- there is room for as many frames as a node's table has hear rows
   pub frames : All (λ (m : Member). length m.node.dispatcher.table.hears ≤ vec_capacity n.frames) n.members.items

@@ -16,13 +16,14 @@ use Rattle.cpg_cluster.specs.declared.answered.AskStep.{AskStep}
 use Rattle.cpg_cluster.specs.declared.answered.AskStep.TheVariants.{Took as StepTook, Waits as StepWaits}
 use Rattle.cpg_cluster.specs.declared.answered.AskStep.TheVariants.{Done as StepDone}
 
--- the graph, its tables, what happens, and what the nodes have done
+-- a play under way: what it is of, and its state
 pub record Playing : Type 0 where
+  -- the graph, and the tables by which its nodes act
   pub graph : Graph
   pub tables : List NodeTable
   -- the scenario and the lengths of the executions
   pub world : World
-  -- what the nodes have done so far
+  -- the nodes, and what they have done so far
   pub cluster : Cluster
 
 -- a play before the first turn
@@ -33,26 +34,25 @@ opened g tables w = record { graph = g; tables = tables; world = w; cluster = in
 abbrev pub stepped : Playing → ℕ → Playing
 stepped p node = record p { cluster = step p.graph p.world p.cluster node }
 
--- the graph is within the limits, the tables are valid and lawful for it, the world is one of it, and some play reaches
--- the state
+-- a play of valid tables of a graph within the limits
 pub record IsPlaying (p : Playing) : Type 0 where
-  -- the graph
+  -- the graph is within the limits and well formed
   pub limits : IsWithinLimits p.graph
   pub formed : WellFormed p.graph
-  -- its tables
+  -- the tables are lawful for it, have its shape and keep the rules
   pub lawful : AreTablesOf (head_of p.graph) p.tables
   pub shape : HasShape p.graph p.tables
   pub valid : IsValid p.graph p.tables
-  -- what happens, and a play up to the state
+  -- what happens is possible in the graph, and some play reaches the state
   pub world : IsWorld p.graph p.world
   pub played : IsPlayed p.graph p.tables p.world p.cluster
 
--- a node has a next instant, and none has an earlier one
+-- a node has a next instant, and no node has an earlier one
 pub record HasLeastInstant (p : Playing) (node : ℕ) : Type 0 where
   -- the node's next instant
   pub time : ℕ
   pub comes : next (dispatcher_at p.cluster node) ≡ Some time
-  -- no other node's comes earlier
+  -- no node's comes earlier
   pub least : (other moment : ℕ) → other < length p.graph.nodes → next (dispatcher_at p.cluster other) ≡ Some moment →
       time ≤ moment
 
@@ -61,7 +61,7 @@ abbrev pub HasDoneAll : Playing → ℕ → Type 0
 HasDoneAll p node =
     (acts : List Act) → IsDue p.graph p.tables p.world.scenario node acts → get_or p.cluster.acts node [] ≡ acts
 
--- the answer of a node that is asked
+-- the answer, as defined, that the code's answer says
 abbrev pub answer_of : AskStep → Answer
 answer_of StepTook = Took
 answer_of (StepWaits on) = Waits on

@@ -10,37 +10,39 @@ use Rattle.cpg_node.specs.Dispatcher.{Dispatcher, Own, Ended, Frame, Act, Runnin
 use Rattle.cpg_node.specs.State.{MayFinish}
 use Rattle.cpg_cluster.specs.Cluster.{World, report_of}
 
--- the value that a frame of an item carries
+-- the value that a frame of an item carries: that of its condition for a broadcast, false for a message (and for a
+-- start, which has no frame)
 abbrev pub value_of_item : List Bool → Item → Bool
 value_of_item values (Start p) = false
 value_of_item values (Message e) = false
 value_of_item values (Broadcast d) = get_or values d false
 
--- the frames of acts of an item that arrive at the time
+-- the frames, with this value, of those acts that are of item x and arrive at the time, one slot length later
 abbrev pub frames_from : Bool → ℕ → ℕ → ℕ → List Act → List Frame
 frames_from value x slot time acts = map (λ (act : Act). record { item = act.item; column = act.column; value = value })
     (filter (λ (act : Act). (act.item == x) && (act.time + slot == time)) acts)
 
--- a node's table says of a process of the node what the graph says
+-- what a node's table says of a process: it is one of the graph, and has the condition that the graph says
 pub record IsOwnOf (g : Graph) (o : Own) : Type 0 where
   pub known : o.process < process_count g
+  -- the process's condition, or `None` if it has none
   pub condition : o.condition ≡ condition_of g o.process
 
--- the reports of executions that are over by the time
+-- the reports of executions that are over by the time and haven't been taken, each with its actual end, by process
 abbrev pub reports_by : Graph → World → ℕ → List Own → List (Option Running) → List (ℕ × Ended)
 reports_by g w time own runs = flat_map (λ rs. rs) (zip_with (report_of g w time) own runs)
 
--- the planned ends at the time
+-- the reports whose planned end is this time, each with it, by process
 abbrev pub ends_by : ℕ → List Own → List (Option Running) → List (ℕ × Ended)
 ends_by time own runs =
     map {A = Ended} {B = ℕ × Ended} (λ e. (time, e)) (flat_map (λ es. es) (zip_with (due_reports_of time) own runs))
 
--- executions may finish at their times, one after another
+-- a dispatcher may take these reports at their times, one after another
 abbrev pub AllFinish : Dispatcher → List (ℕ × Ended) → Type 0
 AllFinish d [] = Unit {0}
 AllFinish d (e ∷ es) = MayFinish d e.0 e.1 × AllFinish (finished d e.1) es
 
--- the dispatcher after these executions have finished
+-- the dispatcher after it has taken these reports, whatever their times
 abbrev pub all_finished : Dispatcher → List (ℕ × Ended) → Dispatcher
 all_finished d es = fold finished d (map {A = ℕ × Ended} {B = Ended} (λ e. e.1) es)
 
@@ -48,10 +50,10 @@ all_finished d es = fold finished d (map {A = ℕ × Ended} {B = Ended} (λ e. e
 abbrev pub reports_of : Graph → Scenario → List ℕ → ℕ → Dispatcher → List (ℕ × Ended)
 reports_of g s lengths time d = reports_by g (record { scenario = s; lengths = lengths }) time d.table.own d.running
 
--- the planned ends of the dispatcher at the time
+-- the dispatcher's reports whose planned end is this time
 abbrev pub ends_of : ℕ → Dispatcher → List (ℕ × Ended)
 ends_of time d = ends_by time d.table.own d.running
 
--- the dispatcher after these reports
+-- the dispatcher after it has taken those reports
 abbrev pub ready : Graph → Scenario → List ℕ → ℕ → Dispatcher → Dispatcher
 ready g s lengths time d = all_finished d (reports_of g s lengths time d)

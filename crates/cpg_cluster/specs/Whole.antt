@@ -15,7 +15,11 @@ all_acts g c = flat_map (λ node. get_or c.acts node []) (numbers_below (length 
 -- The acts of each node are what is due on it, and its ends are the planned ones, each in order. So each active item
 -- was done once, after its inputs, alone on its processor and in its slot, and ended by its due.
 pub record IsWholePlay (g : Graph) (tables : List NodeTable) (w : World) (c : Cluster) : Type 0 where
+  -- some turns lead to this state
   pub played : IsPlayed g tables w c
+  -- each node did what is due on it, in order
   pub acts : (node : ℕ) → node < length g.nodes → IsDue g tables w.scenario node (get_or c.acts node [])
+  -- each node reached its due ends, each with its planned time and with what the process reports
   pub ends : (node : ℕ) → node < length g.nodes → AreDueEnds g tables w.scenario node (get_or c.ends node [])
+  -- what all nodes did, taken together, is orderly
   pub orderly : IsOrderly g w.scenario (all_acts g c)

@@ -1,11 +1,11 @@
 //! What a node answers when it is asked.
 
-/// What an ask did.
+/// What a node did when it was asked.
 #[derive(Clone, Copy, Debug, PartialEq, Eq)]
 pub enum AskStep {
     /// The node took the turn of its next instant.
     Took,
-    /// Its turn would go past the arrival of a frame that another node may still send. Nothing changed.
+    /// A frame that arrives by its next instant may still be sent by another node. Nothing changed.
     Waits {
         /// The least node that it waits on.
         on: u32,

@@ -8,7 +8,8 @@ use cpg_node::add_times;
 use cpg_table::Row;
 use std::alloc::Global;
 
-/// Adds the arrival times of the rows of a sender.
+/// Adds the arrival times in the hear rows of sender `other`, row by row; `senders` has the sender of each row. The one
+/// error is that memory runs out.
 fn add_times_of(
     times: &mut Vec<u64>,
     rows: &[Row],
@@ -26,7 +27,7 @@ fn add_times_of(
     Ok(())
 }
 
-/// When frames arrive from a sender, in order.
+/// Returns the arrival times in the hear rows of sender `other`, by time. The one error is that memory runs out.
 fn arrivals_from(
     alloc: Global,
     rows: &[Row],
@@ -43,7 +44,8 @@ fn arrivals_from(
     Ok(times)
 }
 
-/// When frames arrive from each sender, in order.
+/// Returns, for each of the `count` nodes, the arrival times in the hear rows of which it is the sender, by time. The
+/// one error is that memory runs out.
 pub fn arrivals_of(
     alloc: Global,
     rows: &[Row],
@@ -60,7 +62,8 @@ pub fn arrivals_of(
     Ok(arrivals)
 }
 
-/// The place of the first time that is later than this.
+/// Returns the place of the first time that is later than `time`, or their number if there is none. The times don't
+/// fall.
 pub fn first_after(times: &[u64], time: u64) -> usize
     requires { IsNonDecreasingBy (λ t. t) times.now }
     ensures within { result ≤ length times.now }

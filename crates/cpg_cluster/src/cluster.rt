@@ -29,15 +29,19 @@ use cpg_table::{Row, Tables};
 use std::alloc::Global;
 use std::marker::Model;
 
-/// All nodes of a graph in one scenario, seen as the graph, its tables, the scenario with the lengths of the executions,
-/// and the state of the nodes with what they have done.
+/// All nodes of a graph in one scenario, seen as the graph, its tables, the scenario with the lengths of the
+/// executions, and the state of the nodes with what they have done.
 #[derive(Drop)]
 pub struct Cluster {
+    /// The graph.
     problem: Problem,
+    /// The scenario that is played.
     scenario: Scenario,
+    /// How long each execution really takes.
     lengths: Lengths,
+    /// The nodes, by number.
     members: Vec<Member>,
-    /// Room for the frames of a turn.
+    /// The frames of the last turn, with room for those of any turn.
     frames: Vec<Frame>,
 }
 
@@ -53,8 +57,8 @@ impl Model for Cluster {
     ghost invariant = { IsKept };
 }
 
-/// Adds the frames of a sender's acts of an item, if there is such a sender. The sender has noted its one act of the
-/// item.
+/// Adds the frame of an item, with this value, if there is such a sender and its frame arrives at the time. The sender
+/// has noted its only act of the item, so no other act has to be looked at.
 fn add_sender_frames(
     members: &[Member],
     sender: u32,
@@ -68,6 +72,7 @@ fn add_sender_frames(
     ensures frames { frames.new.items ≡ frames.old.items ++ frames_of_member members.now value item time sender }
     ensures room { vec_capacity frames.new ≡ vec_capacity frames.old }
 {
+    // no other number is a sender
     if (sender as usize) < members.len() {
         let member = &members[sender as usize];
         let noted = member.noted.as_slice();
@@ -75,7 +80,7 @@ fn add_sender_frames(
     }
 }
 
-/// Gathers the frames that arrive at the time, row by row.
+/// Replaces `frames` with those that arrive at the time, hear row by hear row; `senders` has the sender of each row.
 fn gather_frames(
     problem: &Problem,
     scenario: &Scenario,
@@ -102,8 +107,8 @@ fn gather_frames(
 }
 
 impl Cluster {
-    /// All nodes before their first turns, with each execution as long as planned. Reserves all the room that a play
-    /// needs.
+    /// Returns all nodes before their first turns, with each execution as long as planned, and with all the room that a
+    /// play needs. The one error is that memory runs out.
     pub fn new(
         alloc: Global,
         admitted: &Admitted,
@@ -124,8 +129,8 @@ impl Cluster {
         Ok(cluster)
     }
 
-    /// All nodes before their first turns. Each execution has its given length, which is at most the planned one.
-    /// Reserves all the room that a play needs.
+    /// Returns all nodes before their first turns, with all the room that a play needs. Each execution has its given
+    /// length, which is at most the planned one. The one error is that memory runs out.
     pub fn with_lengths(
         alloc: Global,
         admitted: &Admitted,
@@ -154,7 +159,7 @@ impl Cluster {
         })
     }
 
-    /// The next instant of a node, in time units. `None` exactly if it has none.
+    /// Returns the next instant of a node, in time units, or `None` if the node is done.
     pub fn next(&self, node: u32) -> Option<u64>
         requires { node < length self.now.graph.nodes }
         ensures { result ≡ next (dispatcher_at self.now.cluster node) }
@@ -162,7 +167,7 @@ impl Cluster {
         self.members[node as usize].node.next()
     }
 
-    /// What a node has done so far, in its order.
+    /// Returns the acts of a node so far, in the order in which it did them.
     pub fn acts(&self, node: u32) -> &[Act]
         requires { node < length self.now.graph.nodes }
         ensures { result.now ≡ get_or self.now.cluster.acts node [] }
@@ -170,7 +175,7 @@ impl Cluster {
         self.members[node as usize].acts.as_slice()
     }
 
-    /// The planned ends that a node has reached so far, each with its time, in the order in which it reached them.
+    /// Returns the reports whose planned ends a node has reached so far, each with the planned end, in that order.
     pub fn ends(&self, node: u32) -> &[(u64, Ended)]
         requires { node < length self.now.graph.nodes }
         ensures { result.now ≡ get_or self.now.cluster.ends node [] }
@@ -178,7 +183,8 @@ impl Cluster {
         self.members[node as usize].ends.as_slice()
     }
 
-    /// The actual ends that a node has been told so far, each with its time, in the order in which it was told.
+    /// Returns the reports that a node has taken so far, each with the actual end of its execution, in the order in
+    /// which it took them.
     pub fn reports(&self, node: u32) -> &[(u64, Ended)]
         requires { node < length self.now.graph.nodes }
         ensures { result.now ≡ get_or self.now.cluster.reports node [] }
@@ -186,7 +192,7 @@ impl Cluster {
         self.members[node as usize].reports.as_slice()
     }
 
-    /// How long the executions really take.
+    /// Returns how long each execution really takes, by process.
     pub fn lengths(&self) -> &Lengths
         ensures lengths { result.now ≡ self.now.world.lengths }
         ensures playing { IsPlaying self.now }
@@ -194,8 +200,8 @@ impl Cluster {
         &self.lengths
     }
 
-    /// Asks a node. It takes the turn of its next instant, unless it has none, or that would go past the arrival of a
-    /// frame that another node may still send. In these two cases nothing changes.
+    /// Asks a node. It takes the turn of its next instant, unless it has none, or another node may still send a frame
+    /// that arrives by then. In these two cases nothing changes.
     pub fn step(&mut self, node: u32) -> AskStep
         requires { node < length self.old.graph.nodes }
         ensures answer { answer_of result ≡ answer self.old.graph self.old.cluster node }
@@ -213,7 +219,7 @@ impl Cluster {
         if let Some(on) = waited_on(self.members.as_slice(), member, time) {
             return AskStep::Waits { on };
         }
-        // the frames of the turn are known: it is taken
+        // all frames that arrive now have been sent
         gather_frames(
             &self.problem,
             &self.scenario,
@@ -235,7 +241,8 @@ impl Cluster {
         AskStep::Took
     }
 
-    /// Asks the nodes from the given one on, round the circle, until one takes its turn. Returns how many of them waited.
+    /// Asks the nodes from `first` on, round the circle, until one takes its turn or all have been asked. Returns how
+    /// many waited.
     fn choose(&mut self, first: u32) -> u64
         requires { first < length self.old.graph.nodes }
         ensures state { self.new ≡ record self.old {
@@ -249,7 +256,7 @@ impl Cluster {
         let nodes = self.members.len() as u32;
         let mut waits: u64 = 0;
         let mut asked: u32 = 0;
-        // each node once at most, from `first` on round the circle
+        // each node is asked at most once
         while asked < nodes {
             let node = (first + asked) % nodes;
             match self.step(node) {
@@ -262,8 +269,9 @@ impl Cluster {
         waits
     }
 
-    /// Asks nodes until every node is done. Each choice begins with a node that comes from the next of the numbers that
-    /// follow this one, and goes on round the circle until one takes its turn. Returns how often a node waited.
+    /// Asks nodes until every node is done. For each turn a number is drawn, the first of them after `number`. It gives
+    /// the node that is asked first; the others follow round the circle until one takes its turn. Returns how often a
+    /// node waited.
     pub fn drive(&mut self, number: u64) -> u64
         ensures driven { IsDriven self.old.graph self.old.world number self.old.cluster self.new.cluster result }
         ensures same { self.new ≡ record self.old { cluster = self.new.cluster } }
@@ -273,8 +281,8 @@ impl Cluster {
         let mut drawn = number;
         let mut waits: u64 = 0;
         while is_any_left(self.members.as_slice()) {
-            // the high bits of the number choose the node that is asked first
             drawn = next_number(drawn);
+            // a draw is the upper 31 of the 64 bits
             let first = (drawn >> 33) % nodes;
             waits += self.choose(first as u32);
         }
@@ -282,7 +290,7 @@ impl Cluster {
     }
 }
 
-/// Whether some node isn't done.
+/// Whether some node has a next instant, so isn't done.
 fn is_any_left(members: &[Member]) -> bool
     ensures left { result ≡ list_any (λ m. is_some (next m.node.dispatcher)) members.now }
     ensures some { OnTrue result (0 < length members.now) }

@@ -19,28 +19,29 @@ use cpg_node::{Act, Ended, Frame, Node, append_acts};
 use cpg_table::{NodeTable, Tables};
 use std::alloc::Global;
 
-/// A node of a cluster.
+/// A node of a cluster, what it keeps of the graph, and what it has done.
 #[derive(Drop)]
 pub struct Member {
-    /// The dispatcher.
+    /// The dispatcher with the node's table.
     pub node: Node,
     /// The sender of each hear row.
     pub senders: Vec<u32>,
-    /// When the frames that it hears arrive, in order, by the node that sends them.
+    /// For each node, when the frames arrive that this one hears of it, by time.
     pub arrivals: Vec<Vec<u64>>,
-    /// How long its slot lasts, in time units.
+    /// How long its slot lasts, in time units; 0 if it has none.
     pub slot: u64,
-    /// What it has done.
+    /// What it has done, in order.
     pub acts: Vec<Act>,
-    /// The act by which it started or sent an item, by item.
+    /// For each item of the graph, the act by which it started or sent the item, if it did.
     pub noted: Vec<Option<Act>>,
-    /// The planned ends that it has reached.
+    /// The reports whose planned ends it has reached, each with the planned end.
     pub ends: Vec<(u64, Ended)>,
-    /// The actual ends that it has been told.
+    /// The reports that it has taken, each with the actual end of the execution.
     pub reports: Vec<(u64, Ended)>,
 }
 
-/// A node before its first turn, with all the room that it needs for a play.
+/// Returns node `number` before its first turn, with all the room that it needs for a play. The one error is that
+/// memory runs out.
 pub fn open_member(
     alloc: Global,
     problem: &Problem,
@@ -55,6 +56,7 @@ pub fn open_member(
     let count = problem.nodes().len() as u32;
     let arrivals = arrivals_of(alloc, table.hears(), senders.as_slice(), count)?;
     let mut acts = Vec::new(alloc);
+    // in a play of valid tables a node does each item at most once, and each of its processes ends and reports once
     acts.reserve(table.sends().len() + table.starts().len())?;
     let noted = vec![in alloc; None; problem.item_count() as usize]?;
     let mut ends = Vec::new(alloc);
@@ -74,7 +76,8 @@ pub fn open_member(
     })
 }
 
-/// A node takes the reports of the executions that are over by its next instant, and then its turn with these frames.
+/// A member takes the reports of the executions that are over by its next instant `time`, and then its turn with these
+/// frames. It keeps what it did, and the reports whose planned end this is.
 pub fn take_turn(
     problem: &Problem,
     scenario: &Scenario,
@@ -121,15 +124,15 @@ pub fn take_turn(
     );
     finish_all(&mut member.node, &member.reports[first..]);
     let own = member.node.table().own();
+    // before the turn, which forgets the executions that end now
     let running = member.node.executions();
-    // the executions as they are after the reports
     gather_ends(own, running, time, &mut member.ends);
     member.node.turn(&[], frames);
     append_acts(&mut member.acts, member.node.acts());
     note_acts(&mut member.noted, member.node.acts());
 }
 
-/// The nodes of tables before their first turns.
+/// Returns the nodes of the tables, by number, before their first turns. The one error is that memory runs out.
 pub fn open_members(
     alloc: Global,
     problem: &Problem,
@@ -147,7 +150,8 @@ pub fn open_members(
     Ok(members)
 }
 
-/// The greatest number of hear rows of any node.
+/// Returns the greatest number of hear rows that a node has, or 0 if there are no nodes. A node hears at most one frame
+/// of each row in a turn.
 pub fn most_heard(members: &[Member]) -> usize
     ensures { All (λ m. length m.node.dispatcher.table.hears ≤ result) members.now }
 {

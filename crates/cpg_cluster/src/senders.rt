@@ -8,7 +8,7 @@ use cpg_base::{Item, OutOfMemory, Problem, Scenario};
 use cpg_table::Row;
 use std::alloc::Global;
 
-/// The sender of each row.
+/// Returns the node that sends the item of each row. The one error is that memory runs out.
 pub fn senders_of(alloc: Global, problem: &Problem, rows: &[Row]) -> Result<Vec<u32>, OutOfMemory>
     requires { All (λ row. row.item < item_count problem.now) rows.now }
     ensures { IfOk result (λ senders. senders.items ≡ map (λ row. home problem.now row.item) rows.now) }
@@ -20,7 +20,7 @@ pub fn senders_of(alloc: Global, problem: &Problem, rows: &[Row]) -> Result<Vec<
     Ok(senders)
 }
 
-/// The value of a condition in a scenario, and false if there is no such condition.
+/// Returns the value of a condition in a scenario, or false if the graph has no such condition.
 fn value_of(problem: &Problem, scenario: &Scenario, condition: u32) -> bool
     requires { IsScenario problem.now scenario.now }
     ensures { result ≡ get_or scenario.now.values condition false }
@@ -32,7 +32,7 @@ fn value_of(problem: &Problem, scenario: &Scenario, condition: u32) -> bool
     }
 }
 
-/// The value that a frame of an item carries: that of its condition for a broadcast, and else false.
+/// Returns the value that a frame of an item carries: for a broadcast, that of its condition; otherwise false.
 pub fn value_of_item(problem: &Problem, scenario: &Scenario, item: u32) -> bool
     requires scenario { IsScenario problem.now scenario.now }
     requires item { item < item_count problem.now }
@@ -44,7 +44,7 @@ pub fn value_of_item(problem: &Problem, scenario: &Scenario, item: u32) -> bool
     }
 }
 
-/// The value of the condition of a process in a scenario, and false if it has none.
+/// Returns the value, in a scenario, of a process with this condition, or false if it has none.
 pub fn value_of_process(problem: &Problem, scenario: &Scenario, condition: Option<u32>) -> bool
     requires { IsScenario problem.now scenario.now }
     ensures { result ≡ (is_some condition && get_or scenario.now.values (unwrap_or condition 0) false) }

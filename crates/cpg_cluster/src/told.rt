@@ -13,17 +13,18 @@ use cpg_base::{Lengths, Problem, Scenario};
 use cpg_node::{Act, Ended, Frame, Node, Running};
 use cpg_table::Own;
 
-/// Whether an act of an item arrives at the time.
+/// Whether an act sends this item, and its frame arrives at the time: one slot length after the act.
 fn arrives(act: &Act, item: u32, slot: u64, time: u64) -> bool
     ensures { result ≡ ((act.now.item == item) && (act.now.time + slot == time)) }
 {
     if act.item != item {
         return false;
     }
+    // a difference, since the sum might be too great
     time >= slot && act.time == time - slot
 }
 
-/// Adds the frame of an act, if it is of the item and arrives at the time.
+/// Adds the frame of an act, with this value, if it is of the item and arrives at the time.
 fn add_frame(value: bool, item: u32, slot: u64, time: u64, act: &Act, frames: &mut Vec<Frame>)
     requires { vec_len frames.old + length (frames_from value item slot time (act.now ∷ [])) ≤ vec_capacity frames.old }
     ensures frames { frames.new.items ≡ frames.old.items ++ frames_from value item slot time (act.now ∷ []) }
@@ -38,7 +39,7 @@ fn add_frame(value: bool, item: u32, slot: u64, time: u64, act: &Act, frames: &m
     }
 }
 
-/// The act of an item, if there is one.
+/// Returns the act that is noted for an item, or `None` if none is, or the graph has no such item.
 fn act_of(noted: &[Option<Act>], item: u32) -> Option<Act>
     ensures { result ≡ get_or noted.now item None }
 {
@@ -48,7 +49,7 @@ fn act_of(noted: &[Option<Act>], item: u32) -> Option<Act>
     }
 }
 
-/// Adds the frame of the act of an item, if there is one that arrives at the time.
+/// Adds the frame of the act that is noted for an item, with this value, if there is one and it arrives at the time.
 pub fn add_noted_frame(
     value: bool,
     item: u32,
@@ -66,7 +67,7 @@ pub fn add_noted_frame(
     }
 }
 
-/// What an execution of a process reports at its end in the scenario.
+/// Returns what an execution of a process reports at its end in the scenario.
 fn ended_of(problem: &Problem, scenario: &Scenario, own: &Own) -> Ended
     requires scenario { IsScenario problem.now scenario.now }
     requires own { IsOwnOf problem.now own.now }
@@ -79,14 +80,16 @@ fn ended_of(problem: &Problem, scenario: &Scenario, own: &Own) -> Ended
     }
 }
 
-/// Whether an execution is over by the time.
+/// Whether an execution that started at `start` is over by the time.
 fn is_over(start: u64, length: u64, time: u64) -> bool
     ensures { result ≡ nat_le (start + length) time }
 {
+    // a difference, since the sum might be too great
     time >= start && length <= time - start
 }
 
-/// The report of an execution that is over by the time and hasn't reported, with its end.
+/// Returns the report of a process's execution, with its actual end. `None` if the process isn't running, its report
+/// has been taken, or the execution isn't over by the time.
 fn report_of(
     problem: &Problem,
     scenario: &Scenario,
@@ -102,7 +105,7 @@ fn report_of(
 {
     // nothing of the process runs
     let running = running?;
-    // the report came at an earlier turn
+    // the report was taken at an earlier turn
     if running.report.is_some() {
         return None;
     }
@@ -126,7 +129,7 @@ fn add_report(report: Option<(u64, Ended)>, reports: &mut Vec<(u64, Ended)>)
     }
 }
 
-/// Gathers the reports of executions that are over by the time.
+/// Adds the reports of executions that are over by the time and haven't been taken, by process.
 pub fn gather_reports(
     problem: &Problem,
     scenario: &Scenario,
@@ -156,20 +159,22 @@ pub fn gather_reports(
     }
 }
 
-/// The report of an execution whose planned end is at the time.
+/// Returns the report of a process's execution whose planned end is this time. `None` if the process isn't running, its
+/// report hasn't come, or its planned end is another time.
 fn planned_end(own: &Own, running: Option<Running>, time: u64) -> Option<Ended>
     ensures { option_to_list result ≡ due_reports_of time own.now running }
 {
-    // without an execution, or without its report, nothing ends
     let running = running?;
+    // without a report the planned end isn't known
     let ended = running.report?;
+    // a process has a duration for each count up to k, so a report of more faults would get the default
     let duration = own
         .times
         .times()
         .get(ended.faults as usize)
         .copied()
         .unwrap_or(0);
-    // an execution that starts later doesn't end now
+    // the difference below would be less than 0
     if time < running.start {
         return None;
     }
@@ -180,7 +185,7 @@ fn planned_end(own: &Own, running: Option<Running>, time: u64) -> Option<Ended>
     }
 }
 
-/// Gathers the executions whose planned end is at the time.
+/// Adds the reports whose planned end is this time, each with it, by process.
 pub fn gather_ends(
     own: &[Own],
     running: &[Option<Running>],
@@ -198,7 +203,7 @@ pub fn gather_ends(
     }
 }
 
-/// Adds an end at the time, if there is one.
+/// Adds a report with its planned end, this time, if there is one.
 fn add_end(time: u64, end: Option<Ended>, ends: &mut Vec<(u64, Ended)>)
     requires { vec_len ends.old + length (option_to_list end) ≤ vec_capacity ends.old }
     ensures ends { ends.new.items ≡ ends.old.items ++ map (λ e. (time, e)) (option_to_list end) }
@@ -209,7 +214,7 @@ fn add_end(time: u64, end: Option<Ended>, ends: &mut Vec<(u64, Ended)>)
     }
 }
 
-/// Gives the node the reports of executions that are over, one after another.
+/// Gives the node these reports, each at its time, one after another.
 pub fn finish_all(node: &mut Node, ended: &[(u64, Ended)])
     requires { AllFinish node.old.dispatcher ended.now }
     ensures { node.new ≡ record node.old { dispatcher = all_finished node.old.dispatcher ended.now } }
@@ -220,18 +225,18 @@ pub fn finish_all(node: &mut Node, ended: &[(u64, Ended)])
     }
 }
 
-/// Notes an act at its item.
+/// Notes an act at its item, in place of any earlier one.
 fn note_act(noted: &mut Vec<Option<Act>>, act: Act)
     ensures { noted.new.items ≡ note noted.old.items act }
 {
     let item = act.item as usize;
-    // an item that isn't there has no place for its note
+    // an item that the graph doesn't have has no place
     if item < noted.len() {
         noted[item] = Some(act);
     }
 }
 
-/// Notes acts at their items.
+/// Notes acts at their items, one after another.
 pub fn note_acts(noted: &mut Vec<Option<Act>>, acts: &[Act])
     ensures { noted.new.items ≡ fold note noted.old.items acts.now }
 {

@@ -9,23 +9,24 @@ ghost use Rattle.cpg_cluster.specs.Keeping.{AreIndexed, waits_until, waits_betwe
 use crate::arrivals::first_after;
 use crate::member::Member;
 
-/// Whether a node with this next instant may still send a frame that arrives at a time.
+/// Whether a node with this next instant and slot length may still send a frame that arrives at a time. Without a next
+/// instant it sends nothing more.
 fn may_still_send(next: Option<u64>, slot: u64, arrival: u64) -> bool
     ensures { result ≡ list_any (λ u. nat_le (u + slot) arrival) (option_to_list next) }
 {
     match next {
+        // a difference, since the sum might be too great
         Some(next) => arrival >= slot && next <= arrival - slot,
         None => false,
     }
 }
 
-/// Whether a sender may still send one of the frames that arrive by the time. If it may, it may still send the last of
-/// them.
+/// Whether a sender may still send one of the frames whose arrivals are `times` and which arrive by `time`.
 fn waits_on(times: &[u64], time: u64, next: Option<u64>, slot: u64) -> bool
     requires { IsNonDecreasingBy (λ t. t) times.now }
     ensures { result ≡ list_any (waits_until time next slot) times.now }
 {
-    // a frame that it sends now arrives after the time
+    // a frame that it sends at its next instant arrives after the time, as do later ones (this spares the search below)
     if !may_still_send(next, slot, time) {
         return false;
     }
@@ -34,12 +35,12 @@ fn waits_on(times: &[u64], time: u64, next: Option<u64>, slot: u64) -> bool
     if after == 0 {
         return false;
     }
-    // the last frame that arrives by the time stands for all of them
+    // if the sender may still send any of them, it may still send the last
     let arrival = times[after - 1];
     may_still_send(next, slot, arrival)
 }
 
-/// Whether a member waits on another before it takes an instant.
+/// Whether a member waits on the member with number `other` before it takes an instant.
 fn waits_between(member: &Member, time: u64, other: u32, sender: &Member) -> bool
     requires indexed { AreIndexed member.now.node.dispatcher.table.hears member.now.senders.items (length member.now.arrivals.items) member.now.arrivals.items }
     requires other { other < length member.now.arrivals.items }
@@ -49,7 +50,8 @@ fn waits_between(member: &Member, time: u64, other: u32, sender: &Member) -> boo
     waits_on(times.as_slice(), time, sender.node.next(), sender.slot)
 }
 
-/// The least member that a member waits on before it takes an instant.
+/// Returns the least number of a member that a member waits on before it takes an instant, or `None` if it waits on
+/// none.
 pub fn waited_on(members: &[Member], member: &Member, time: u64) -> Option<u32>
     requires indexed { AreIndexed member.now.node.dispatcher.table.hears member.now.senders.items (length members.now) member.now.arrivals.items }
     requires few { length members.now ≤ 16 }

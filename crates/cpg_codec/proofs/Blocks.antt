@@ -1,4 +1,4 @@
--- Lists of known length by their elements, and lists read by blocks.
+-- Lists of known length by their elements, and the bytes of lists that are taken block by block.
 use Rattle.std.proofs.Common.{ℕ, ◌≡◌, Bool, true, cond, List, ◌++◌, length, get_or, take, drop, map, refl, sym, ap, ◌∙◌}
 use Rattle.std.proofs.Common.{append_assoc}
 use Rattle.std.specs.List.{flat_map}
@@ -9,12 +9,13 @@ use Rattle.cpg_base.specs.Numbers.{numbers_below}
 use Rattle.cpg_cube.specs.declared.literal.Literal.{Literal}
 use Rattle.cpg_codec.specs.Spelling.{literal_bytes}
 
--- a list of known length is the list of its elements by number
+-- a list of n elements is the list of its elements 0 up to n - 1
 pub elements : {X : Type 0} (xs : List X) (n : ℕ) (d : X) → length xs ≡ n →
     xs ≡ map (λ k. get_or xs k d) (numbers_below n)
 elements xs n d e = fill_by_all (λ k. get_or xs k d) xs n d e (λ k l. refl)
 
--- a block is moved from the elements that are left to those that are there
+-- `all` is what was there (`old`) and the bytes of the elements left; if the bytes of the first n of these are added to
+-- what was there, `all` is the new bytes and those of the rest. It is the seam of `take` and `drop`, regrouped
 pub block_moved : {X A : Type 0} (f : X → List A) (all old new : List A) (left rest : List X) (n : ℕ) →
     all ≡ old ++ flat_map f left → new ≡ old ++ flat_map f (take n left) →
     rest ≡ drop n left →
@@ -25,21 +26,21 @@ block_moved f all old new left rest n e is r =
     ∙ sym (append_assoc old (flat_map f (take n left)) (flat_map f (drop n left)))
     ∙ sym (ap (λ bs. bs ++ flat_map f rest) is ∙ ap (λ ls. (old ++ flat_map f (take n left)) ++ flat_map f ls) r)
 
--- if the call succeeded, the piece was added at the end
+-- a call adds a piece if it succeeds (b) and changes nothing if not; it succeeded, so the piece was added
 pub appended : (old new piece : List ℕ) (b : Bool) → new ≡ cond b (old ++ piece) old → b ≡ true → new ≡ old ++ piece
 appended old new piece b e on = e ∙ ap (λ c. cond c (old ++ piece) old) on
 
--- sixteen literals, taken by their numbers, have the same bytes as their list
+-- a list of sixteen literals has the bytes of its elements 0 to 15
 pub sixteen_bytes : (ls : List Literal) (d : Literal) → length ls ≡ 16 →
     flat_map literal_bytes (map (λ k. get_or ls k d) (numbers_below 16)) ≡ flat_map literal_bytes ls
 sixteen_bytes ls d e = ap (flat_map literal_bytes) (sym (elements ls 16 d e))
 
--- eight literals, taken by their numbers, have the same bytes as their list
+-- a list of eight literals has the bytes of its elements 0 to 7
 pub eight_bytes : (ls : List Literal) (d : Literal) → length ls ≡ 8 →
     flat_map literal_bytes (map (λ k. get_or ls k d) (numbers_below 8)) ≡ flat_map literal_bytes ls
 eight_bytes ls d e = ap (flat_map literal_bytes) (sym (elements ls 8 d e))
 
--- four literals, taken by their numbers, have the same bytes as their list
+-- a list of four literals has the bytes of its elements 0 to 3
 pub four_bytes : (ls : List Literal) (d : Literal) → length ls ≡ 4 →
     flat_map literal_bytes (map (λ k. get_or ls k d) (numbers_below 4)) ≡ flat_map literal_bytes ls
 four_bytes ls d e = ap (flat_map literal_bytes) (sym (elements ls 4 d e))

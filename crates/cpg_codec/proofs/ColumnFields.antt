@@ -1,4 +1,4 @@
--- The fields of the rows.
+-- The readers of literals and columns read exactly the bytes of lawful ones (`Reads`, of Laws).
 use Rattle.std.proofs.Common.{◌≡◌, ℕ, zero, suc, ◌+◌, ◌-◌, ◌^◌, ◌<◌, ◌≤◌, max, Bool, true, false, cond, eqb, ltb, leb}
 use Rattle.std.proofs.Common.{◌&&◌, List, [], ◌∷◌, ◌++◌, length, Ok, refl, sym, ap, ap₂, subst, ◌∙◌}
 use Rattle.std.proofs.Common.{append_assoc, arith, inl, inr, ◌⊎◌}
@@ -25,7 +25,7 @@ use Rattle.cpg_codec.proofs.Lists.{each_reads, down_is}
 use Rattle.cpg_codec.proofs.WrittenHeads.{limit_some, limit_most}
 use Rattle.cpg_codec.proofs.HeadFields.{time_reads}
 
--- a range of fault numbers that isn't whole, or one value
+-- a lawful range: on a fault count (true) one that leaves out a number, on a value (false) one of a single number
 abbrev pub IsRange : Bool → VariableSpace → ℕ → ℕ → Type 0
 IsRange true s low high = (low ≤ high) × (high ≤ s.faults) × (high ≡ s.faults → 0 < low)
 IsRange false s low high = (low ≡ high) × (high ≤ 1)
@@ -40,13 +40,13 @@ abbrev pub AreLiterals : VariableSpace → ℕ → List Literal → Type 0
 AreLiterals s least [] = Unit {0}
 AreLiterals s least (l ∷ ls) = (least ≤ l.variable) × IsLiteral s l × AreLiterals s (suc l.variable) ls
 
--- a space has at most 128 fault variables
+-- a space allows at most 128 fault variables
 pub few_fault : (s : VariableSpace) → IsSpace s → fault_end s ≤ 128
 few_fault s i = let a = limit_most s.faults s.processes in omega (arith, a, i.processes)
 
 -- ---- variables
 
--- an allowed variable is a fault count or a value
+-- an allowed variable is that of a fault count or that of a value
 is_variable_cases : (s : VariableSpace) (v : ℕ) → is_variable s v ≡ true →
     (v < fault_end s) ⊎ ((128 ≤ v) × (v < 128 + s.conditions))
 is_variable_cases s v h = elim (or_cases (ltb v (fault_end s)) (leb 128 v && ltb v (128 + s.conditions)) h) [
@@ -65,17 +65,17 @@ is_value_variable : (s : VariableSpace) (v : ℕ) → 128 ≤ v → v < 128 + s.
 is_value_variable s v a b = or_right (ltb v (fault_end s)) (leb 128 v && ltb v (128 + s.conditions))
     (and_from (leb 128 v) (ltb v (128 + s.conditions)) (le-leb 128 v a) (lt-ltb v (128 + s.conditions) b))
 
--- the arithmetic of `room_step` for a count of faults (e ends the counts, c is how many conditions there are)
+-- `room_step` in numbers, if v is a count of faults: e ends the counts, and c conditions have a value
 step_fault : (e c least v : ℕ) → e ≤ 128 → least ≤ v → v < e →
     suc ((e - suc v) + ((128 + c) - max 128 (suc v))) ≤ (e - least) + ((128 + c) - max 128 least)
 step_fault e c least v few le h = omega arith
 
--- after a literal on the value of a condition there is room for one less
+-- the same if v is the value of a condition
 step_value : (e c least v : ℕ) → e ≤ 128 → least ≤ v → 128 ≤ v → v < 128 + c →
     suc ((e - suc v) + ((128 + c) - max 128 (suc v))) ≤ (e - least) + ((128 + c) - max 128 least)
 step_value e c least v few le a b = omega arith
 
--- after an allowed variable there is room for one literal less
+-- after an allowed variable, from `least` on, there is room for at least one literal less than from `least` on
 pub room_step : (s : VariableSpace) (least v : ℕ) → fault_end s ≤ 128 → least ≤ v → is_variable s v ≡ true →
     suc (variable_count_from s (suc v)) ≤ variable_count_from s least
 room_step s least v few le h = elim (is_variable_cases s v h) [
@@ -83,12 +83,12 @@ room_step s least v few le h = elim (is_variable_cases s v h) [
   | inr a ↦ step_value (fault_end s) s.conditions least v few le a.0 a.1
 ]
 
--- the arithmetic of `room_some` if the least variable is a count of faults
+-- `room_some` in numbers, if the least variable is a count of faults: that is the variable to take
 some_fault : (e c least : ℕ) → e ≤ 128 → least < e →
     (e - least) + ((128 + c) - max 128 least) ≤ suc ((e - suc least) + ((128 + c) - max 128 (suc least)))
 some_fault e c least few h = omega arith
 
--- and if it is past all counts
+-- and if it is past all counts: then the least value is
 some_value : (e c least : ℕ) → e ≤ 128 → e ≤ least →
     (e - least) + ((128 + c) - max 128 least)
     ≤ suc ((e - suc (max 128 least)) + ((128 + c) - max 128 (suc (max 128 least))))
@@ -98,7 +98,7 @@ some_value e c least few h = omega arith
 some_there : (e c least : ℕ) → e ≤ least → 0 < (e - least) + ((128 + c) - max 128 least) → max 128 least < 128 + c
 some_there e c least h some = omega arith
 
--- if there is room for a literal, there is an allowed variable that leaves room for all but one
+-- if there is room for a literal, some allowed variable leaves room for all but this one: the least that is allowed
 room_some : (s : VariableSpace) (least : ℕ) → fault_end s ≤ 128 → 0 < variable_count_from s least →
     (v : ℕ) × (least ≤ v) × (is_variable s v ≡ true) ×
     (variable_count_from s least ≤ suc (variable_count_from s (suc v)))
@@ -112,7 +112,7 @@ room_some s least few some = elim (cases_lt least (fault_end s)) [
   )
 ]
 
--- lawful literals are no more than the variables from the least one on
+-- lawful literals are no more than the allowed variables from the least one on; each takes at least one, by induction
 pub literals_room : (s : VariableSpace) (least : ℕ) (ls : List Literal) → fault_end s ≤ 128 → AreLiterals s least ls →
     length ls ≤ variable_count_from s least
 literals_room s least [] few h = omega arith
@@ -147,7 +147,7 @@ low_small false k h = omega arith
 top_suc : (k low : ℕ) → high_top true k (suc low) ≡ k
 top_suc k low = let e : eqb (suc low) 0 ≡ false = ne_eqb (suc low) 0 (λ q. omega arith) in rw e refl
 
--- a low that passes leaves a high
+-- a low that passes is at most its greatest high, so there is a high for it
 high_there : (t : Bool) (k low : ℕ) → low ≤ low_top t k → low ≤ high_top t k low
 high_there true k zero h = omega arith
 high_there true k (suc low) h = rw top_suc h
@@ -159,7 +159,8 @@ high_small true k zero le h = omega arith
 high_small true k (suc low) le h = rw top_suc (omega arith)
 high_small false k low le h = omega arith
 
--- a range that passes the tests of the reader is a lawful range
+-- a range that passes the bounds of the reader is a lawful range: by the kind of variable, fault count or value, and for a
+-- count by whether its low is 0
 pub range_to : (t : Bool) (s : VariableSpace) (low high : ℕ) → (t ≡ true → 0 < s.faults) → low ≤ low_top t s.faults →
     low ≤ high → high ≤ high_top t s.faults low →
     IsRange t s low high
@@ -167,7 +168,7 @@ range_to true s zero high some a b c = let k = some refl in (b, omega arith, λ 
 range_to true s (suc low) high some a b c = (b, subst (λ (x : ℕ). high ≤ x) (top_suc s.faults low) c, λ e. omega arith)
 range_to false s low high some a b c = (omega arith, omega arith)
 
--- a lawful range passes the tests of the reader
+-- a lawful range passes the bounds of the reader; by the same cases
 range_from : (t : Bool) (s : VariableSpace) (low high : ℕ) → IsRange t s low high →
     (low ≤ low_top t s.faults) × (low ≤ high) × (high ≤ high_top t s.faults low)
 range_from true s zero high r = (omega arith, r.0, not_whole s.faults high r.1 r.2) where
@@ -180,20 +181,22 @@ range_from true s zero high r = (omega arith, r.0, not_whole s.faults high r.1 r
 range_from true s (suc low) high r = (omega (arith, r.0, r.1), r.0, rw top_suc r.1)
 range_from false s low high r = (omega (arith, r.0, r.1), omega (arith, r.0), omega (arith, r.0))
 
--- a literal with `left` more after it
+-- a lawful literal on a variable from `least` on, with room for `left` more after it
 pub record FitsLiteral (s : VariableSpace) (left least : ℕ) (l : Literal) : Type 0 where
+  -- its variable is `least` or greater
   pub rises : least ≤ l.variable
   pub lawful : IsLiteral s l
+  -- at least `left` variables are greater than its own
   pub leaves : left ≤ variable_count_from s (suc l.variable)
 
--- an allowed variable from the least on passes, if there is room for the literals after it
+-- an allowed variable from `least` on passes the reader's test, if there is room for `left` literals after it
 may_from : (s : VariableSpace) (least left v : ℕ) → least ≤ v → is_variable s v ≡ true →
     left ≤ variable_count_from s (suc v) →
     variable_may s least left v ≡ true
 may_from s least left v a b c = and_from (leb least v && is_variable s v) (leb left (variable_count_from s (suc v)))
     (and_from (leb least v) (is_variable s v) (le-leb least v a) b) (le-leb left (variable_count_from s (suc v)) c)
 
--- a variable that passes is allowed, is no lower than the least, and leaves room for the literals after it
+-- a variable that passes the reader's test is allowed, is at least `least`, and leaves room for `left` literals after it
 pub may_to : (s : VariableSpace) (least left v : ℕ) → variable_may s least left v ≡ true →
     (least ≤ v) × (is_variable s v ≡ true) × (left ≤ variable_count_from s (suc v))
 may_to s least left v h =
@@ -244,14 +247,14 @@ down_head l ls e = (cc, cc)
 down_self : (n : ℕ) → down n ≡ down (length (down n))
 down_self n = ap down (sym (down_is n))
 
--- this many lawful literals
+-- `count` lawful literals, the first on a variable from `least` on
 pub record LiteralsFor (s : VariableSpace) (count least : ℕ) (ls : List Literal) : Type 0 where
   pub count_is : length ls ≡ count
   pub lawful : AreLiterals s least ls
 
--- The reader of literals reads exactly the bytes of that many lawful literals.
--- `each_reads` walks through the literals with the least variable that the next one may have; there is always room
--- for those that are still to come.
+-- The reader of literals reads exactly the bytes of that many lawful literals. `each_reads` goes from one to the next with
+-- the least variable that the next may have. Its invariant: the labels count down, and there is room for as many
+-- literals as labels are left.
 pub literals_reads : (s : VariableSpace) (count : ℕ) → IsSpace s → count ≤ variable_count_from s 0 →
     Reads (LiteralsFor s count 0) (flat_map literal_bytes) (read_literals s count)
 unfolding read_literals
@@ -278,14 +281,15 @@ literals_reads s count i le =
     (λ xs g. record { count_is = g.count_is ∙ sym (down_is count); lawful = g.lawful })
     (λ xs g. refl)
 
--- ---- the same in the words of tables
+-- ---- lawful literals as tables say it, and as the reader does
 
 -- if there may be faults, each process has a count of faults
 limit_up : (k p v : ℕ) → 0 < k → v < p → v < limit k p
 limit_up zero p v some lt = absurd (omega arith)
 limit_up (suc k) p v some lt = lt
 
--- a literal that the reader takes is lawful
+-- a literal that the reader takes is lawful; the two cases are a fault count and a condition's value, whose bounds the
+-- reader checks
 literal_to : (s : VariableSpace) (l : Literal) → IsSpace s → IsLiteral s l → IsLawfulLiteral s l
 literal_to s l i h = elim (is_variable_cases s l.variable h.allowed) [
   | inl a ↦
@@ -300,12 +304,12 @@ literal_to s l i h = elim (is_variable_cases s l.variable h.allowed) [
       inr (record { value = a.0; known = a.1; one = r.0; within = r.1 })
 ]
 
--- a range that isn't whole leaves room for a fault
+-- if a range within 0 to k leaves out a number, k isn't 0
 some_faults : (k low high : ℕ) → low ≤ high → high ≤ k → (high ≡ k → 0 < low) → 0 < k
 some_faults zero low high a b c = let h : 0 < low = c (omega arith) in absurd (omega arith)
 some_faults (suc k) low high a b c = omega arith
 
--- a lawful literal is one that the reader takes
+-- a lawful literal is one that the reader takes; the same two cases the other way
 literal_from : (s : VariableSpace) (l : Literal) → IsSpace s → IsLawfulLiteral s l → IsLiteral s l
 literal_from s l i (inl h) = record {
   allowed = is_fault_variable s l.variable
@@ -318,7 +322,7 @@ literal_from s l i (inr h) = record {
   range = subst (λ (t : Bool). IsRange t s l.low l.high) (sym (le-ltb l.variable 128 h.value)) (h.one, h.within);
 }
 
--- literals from the least variable on are lawful, and their variables rise
+-- literals that the reader takes are lawful, and their variables rise; by induction
 literals_to : (s : VariableSpace) (least : ℕ) (ls : List Literal) → IsSpace s → AreLiterals s least ls →
     AllByRecursion (IsLawfulLiteral s) ls × (rises_from least ls ≡ true)
 literals_to s least [] i h = (tt, refl)
@@ -330,7 +334,7 @@ literals_to s least (l ∷ ls) i h =
           (subst (λ (n : ℕ). rises_from n ls ≡ true) e r.1),
     )
 
--- lawful literals with rising variables are literals from the least variable on
+-- lawful literals whose variables rise from `least` on are literals that the reader takes; by induction
 literals_from : (s : VariableSpace) (least : ℕ) (ls : List Literal) → IsSpace s →
     AllByRecursion (IsLawfulLiteral s) ls → rises_from least ls ≡ true →
     AreLiterals s least ls
@@ -343,20 +347,21 @@ literals_from s least (l ∷ ls) i h r =
       literals_from s (suc l.variable) ls i h.1 (subst (λ (n : ℕ). rises_from n ls ≡ true) e p.1),
     )
 
--- the literals of a lawful column are lawful, and their variables rise
+-- the literals of a lawful column are literals that the reader takes
 pub column_literals : (s : VariableSpace) (c : Column) → IsSpace s → IsLawfulColumn s c → AreLiterals s 0 c.cube
 column_literals s c i h = literals_from s 0 c.cube i (recursion_from_All (IsLawfulLiteral s) c.cube h.literals)
     (rises_by 0 c.cube h.rising (λ l q. omega arith))
 
--- three pieces, one behind the other, however they are grouped
+-- three pieces, one after another, however they are grouped
 regroup_3 : (a b c : List ℕ) → a ++ (b ++ (c ++ [])) ≡ a ++ b ++ c
 regroup_3 a b c = simp (append_assoc, append-nil)
 
--- a space has fewer than 256 variables
+-- a space allows fewer than 256 variables: at most 128 counts and 32 values
 room_small : (e c : ℕ) → e ≤ 128 → c ≤ 32 → (e - 0) + ((128 + c) - max 128 0) < 256
 room_small e c a b = omega arith
 
--- the reader of a column's front reads exactly the bytes of a time and a count of literals
+-- the reader of a column's front reads exactly the bytes of a time below 2^60 and a count that the space allows. As in all
+-- these lemmas, `seq` joins the readers of the parts, and `adapt` says the same of the whole
 pub front_reads : (s : VariableSpace) → IsSpace s →
     Reads (λ (f : ℕ × ℕ). (f.0 < 2 ^ 60) × (f.1 ≤ variable_count_from s 0))
     (λ (f : ℕ × ℕ). to_be_bytes w64 f.0 ++ byte f.1) (read_front s)
@@ -373,7 +378,9 @@ front_reads s i =
     (λ f h. (h.0, ((omega arith, h.1), refl)))
     (λ f h. refl)
 
--- the reader of a column reads exactly the bytes of a lawful column
+-- the reader of a column reads exactly the bytes of a lawful column: its front, then as many literals as the front
+-- says. The last three parts say the same of the column: what the parts allow is lawful, what is lawful they allow, and
+-- the bytes are the same
 pub column_reads : (s : VariableSpace) → IsSpace s → Reads (IsLawfulColumn s) column_bytes (read_column s)
 unfolding read_column
 column_reads s i =
@@ -392,7 +399,7 @@ column_reads s i =
     ((h.time, literals_room s 0 c.cube (few_fault s i) l), (record { count_is = refl; lawful = l }, refl)))
     (λ c h. regroup_3 (to_be_bytes w64 c.time) (byte (length c.cube)) (flat_map literal_bytes c.cube))
 
--- the variables of literals that were read rise
+-- literals that the grammar reads have rising variables: by `literals_reads` they are lawful
 pub literals_rise : (s : VariableSpace) (count : ℕ) (bytes : List ℕ) (ls : List Literal) (rest : List ℕ) → IsSpace s →
     count ≤ variable_count_from s 0 → read_literals s count bytes ≡ Ok (ls, rest) → IsRising ls
 literals_rise s count bytes ls rest i le e =

@@ -9,7 +9,7 @@ use Rattle.cpg_cube.specs.declared.literal.Literal.{Literal}
 use Rattle.cpg_codec.specs.Spelling.{literal_bytes}
 use Rattle.cpg_codec.specs.Fronts.{HasFront}
 
--- bytes begin with a block of literals
+-- if the first m bytes spell the first n literals, the bytes begin with these, and the others come after them
 front_block : (ls : List Literal) (bytes : List ℕ) (most n m : ℕ) → n ≤ length ls → n ≤ most →
     flat_map literal_bytes (take n ls) ≡ take m bytes →
     HasFront ls bytes most n (drop m bytes)
@@ -19,11 +19,12 @@ front_block ls bytes most n m within few e = record {
   few = few;
 }
 
--- what stands from a place of a list on
+-- as many elements as there are from place n on are all from there on
 rest_from : (n : ℕ) (ls : List Literal) → take (length ls - n) (drop n ls) ≡ drop n ls
 rest_from n ls = take_all (length ls - n) (drop n ls) (omega (arith, length-drop n ls))
 
--- bytes begin with more literals if those behind the first ones begin with these
+-- if bytes begin with n literals of a list, and the rest begins with m of those after them, the bytes begin with n + m;
+-- the two spellings are joined, and n + m is within the list and at most `most`
 behind_more : (ls : List Literal) (bytes : List ℕ) (most n : ℕ) (rest : List ℕ) (m : ℕ) (behind : List ℕ) →
     HasFront ls bytes most n rest → HasFront (drop n ls) rest (most - n) m behind →
     HasFront ls bytes most (n + m) behind
@@ -38,14 +39,15 @@ behind_more ls bytes most n rest m behind h more =
       few = omega (arith, h.few, more.few);
     }
 
--- the same for the slice of literals behind the first ones
+-- the same, with the literals after the first n as a slice
 pub front_more : (ls : List Literal) (bytes : List ℕ) (most n : ℕ) (rest : List ℕ) (m : ℕ) (behind : List ℕ) →
     HasFront ls bytes most n rest → HasFront (take (length ls - n) (drop n ls)) rest (most - n) m behind →
     HasFront ls bytes most (n + m) behind
 front_more ls bytes most n rest m behind h more = behind_more ls bytes most n rest m behind h
     (subst (λ xs. HasFront xs rest (most - n) m behind) (rest_from n ls) more)
 
--- bytes begin with the next block of literals, too
+-- if bytes begin with n literals, and the next m bytes spell the next k literals, the bytes begin with n + k; `left` and
+-- `rest` are the literals and bytes after the first ones, `block` and `spelled` what is next in them
 pub block_more : (ls left block others : List Literal) (bytes rest spelled after : List ℕ) (most n k m : ℕ) →
     HasFront ls bytes most n rest → left ≡ drop n ls → k ≤ most - n → block ≡ take k left →
     length others + k ≡ length left → spelled ≡ take m rest → after ≡ drop m rest →

@@ -1,4 +1,4 @@
--- The fields of a head.
+-- The readers of the fields of a head, and of the whole head, read exactly the bytes of lawful ones (`Reads`, of Laws).
 use Rattle.std.proofs.Common.{◌≡◌, ℕ, zero, suc, ◌+◌, ◌-◌, ◌^◌, ◌<◌, ◌≤◌, Bool, true, false, cond, eqb, ltb, List, []}
 use Rattle.std.proofs.Common.{◌∷◌, ◌++◌, length, Option, Some, None, refl, sym, ap, subst, ◌∙◌, append_assoc}
 use Rattle.std.proofs.Common.{arith, inl, inr, ◌⊎◌, ◌↔◌}
@@ -27,7 +27,7 @@ use Rattle.cpg_codec.proofs.WrittenHeads.{limit_most, processes_limit, edges_lim
 
 -- ---- names
 
--- bytes written one by one are the bytes
+-- to spell each byte of a list by itself gives the list; by induction
 singles : (bs : List ℕ) → flat_map (λ (b : ℕ). b ∷ []) bs ≡ bs
 singles [] = refl
 singles (b ∷ bs) = ap (λ (t : List ℕ). b ∷ t) (singles bs)
@@ -57,7 +57,7 @@ unfolding read_time
 time_reads = adapt (field_reads 8 0 1152921504606846975 (omega arith) (omega arith)) (λ t h. omega (arith, h.1))
     (λ t h. (omega arith, omega arith)) (λ t h. refl)
 
--- a deadline is none, or at most 10^9
+-- an own deadline is lawful: none, or at most 10^9
 abbrev pub IsOwn : Option ℕ → Type 0
 IsOwn o = IfSome o (λ (d : ℕ). d ≤ 1000000000)
 
@@ -65,7 +65,7 @@ IsOwn o = IfSome o (λ (d : ℕ). d ≤ 1000000000)
 IsDeadlineNumber : ℕ → Type 0
 IsDeadlineNumber n = ((0 ≤ n) × (n ≤ 1000000000)) ⊎ ((18446744073709551615 ≤ n) × (n ≤ 18446744073709551615))
 
--- byte for byte, the test of the reader is passed just by the bytes of such numbers
+-- the test of the reader says whether such a number is in a range: it is the one for deadlines or the one for none
 deadline_chooses : IsChoice IsDeadlineNumber deadline_may
 unfolding IsDeadlineNumber
 deadline_chooses = record {
@@ -84,24 +84,24 @@ deadline_chooses = record {
   ];
 }
 
--- such a number has eight bytes
+-- the number of a deadline fits eight bytes
 deadline_fits : (n : ℕ) → IsDeadlineNumber n → n < 256 ^ 8
 unfolding IsDeadlineNumber
 deadline_fits n (inl h) = omega (arith, h.1)
 deadline_fits n (inr h) = omega (arith, h.1)
 
--- the deadline of a number
+-- the deadline that a number is read as
 abbrev chosen : ℕ → Option ℕ
 chosen n = cond (eqb n 18446744073709551615) None (Some n)
 
--- the deadline of a number has this number
+-- the deadline that a number is read as has this number
 chosen_back : (n : ℕ) → deadline_number (chosen n) ≡ n
 chosen_back n = elim (cases_Bool (eqb n 18446744073709551615)) [
   | inl h ↦ rw h (sym (eqb-true n 18446744073709551615 h))
   | inr h ↦ rw h refl
 ]
 
--- a deadline that is read from such a number is none or lawful
+-- a deadline that such a number is read as is lawful
 deadline_to : (o : Option ℕ) → IsDeadlineNumber (deadline_number o) → o ≡ chosen (deadline_number o) → IsOwn o
 unfolding IsDeadlineNumber
 deadline_to None h e = tt
@@ -109,7 +109,7 @@ deadline_to (Some d) (inl h) e = h.1
 deadline_to (Some d) (inr h) e = let k : d ≡ 18446744073709551615 = omega (arith, h.0, h.1) in
     absurd (let q : Some d ≡ None = e ∙ rw k refl in cc)
 
--- a lawful deadline has such a number, and is read from it
+-- a lawful deadline has such a number, which is read as the deadline
 deadline_from : (o : Option ℕ) → IsOwn o → IsDeadlineNumber (deadline_number o) × (o ≡ chosen (deadline_number o))
 unfolding IsDeadlineNumber
 deadline_from None h = (inr (omega arith, omega arith), refl)
@@ -134,27 +134,27 @@ deadline_reads =
 
 -- ---- what version 2 adds
 
--- the release of an extra, and 0 without one
+-- the release of an extra; 0 without one
 abbrev release_of : Option Extra → ℕ
 release_of None = 0
 release_of (Some e) = e.release
 
--- the deadline of an extra, and none without one
+-- the deadline of an extra; none without one
 abbrev deadline_of : Option Extra → Option ℕ
 deadline_of None = None
 deadline_of (Some e) = e.deadline
 
--- the extra of its two parts
+-- the extra of a release and a deadline
 abbrev make_extra : ℕ → Option ℕ → Option Extra
 make_extra r d = Some (record { release = r; deadline = d })
 
--- an extra of lawful parts is lawful in version 2
+-- an extra that is made of a lawful release and a lawful deadline is lawful in version 2
 extra_some_to : (x : Option Extra) → ((0 ≤ release_of x) × (release_of x ≤ 1000000000)) ×
     (IsOwn (deadline_of x) × (x ≡ make_extra (release_of x) (deadline_of x))) → IsExtraOf 2 x
 extra_some_to None h = absurd (let e : None ≡ make_extra 0 None = h.1.1 in cc)
 extra_some_to (Some e) h = (refl, record { release = h.0.1; deadline = h.1.0 })
 
--- a lawful extra of version 2 has lawful parts
+-- a lawful extra of version 2 has a lawful release and deadline, and is made of them
 extra_some_from : (x : Option Extra) → IsExtraOf 2 x →
     ((0 ≤ release_of x) × (release_of x ≤ 1000000000)) ×
     (IsOwn (deadline_of x) × (x ≡ make_extra (release_of x) (deadline_of x)))
@@ -172,7 +172,7 @@ extra_some_spell (Some e) h =
 extra_none_to : (x : Option Extra) → x ≡ None → IsExtraOf 1 x
 extra_none_to x e = rw e refl
 
--- in version 2 the reader reads a release and a deadline
+-- in version 2 the reader reads exactly the bytes of a release and a deadline
 extra_two : Reads (IsExtraOf 2) extra_bytes (read_extra 2)
 unfolding read_extra
 extra_two =
@@ -182,12 +182,12 @@ extra_two =
     (λ r x fr h. ap release_of h.1))
     extra_some_to extra_some_from extra_some_spell
 
--- in version 1 the reader reads nothing
+-- in version 1 the reader reads nothing, which is exactly the bytes of no extra
 extra_one : Reads (IsExtraOf 1) extra_bytes (read_extra 1)
 unfolding read_extra
 extra_one = adapt (pure_reads None) extra_none_to none_of (λ x h. ap extra_bytes (sym (none_of x h)))
 
--- the reader of what version 2 adds reads exactly its bytes
+-- the reader of what a version adds reads exactly its bytes, for version 1 and 2
 pub extra_reads : (version : ℕ) → 1 ≤ version → version ≤ 2 → Reads (IsExtraOf version) extra_bytes (read_extra version)
 extra_reads zero a b = absurd (omega arith)
 extra_reads (suc zero) a b = extra_one
@@ -196,21 +196,21 @@ extra_reads (suc (suc (suc n))) a b = absurd (omega arith)
 
 -- ---- processes
 
--- five pieces, one behind the other, however they are grouped
+-- five pieces, one after another, however they are grouped
 regroup_5 : (a b c d e : List ℕ) → a ++ (b ++ (c ++ (d ++ (e ++ [])))) ≡ a ++ b ++ c ++ d ++ e
 regroup_5 a b c d e = simp (append_assoc, append-nil)
 
--- nine pieces, likewise
+-- nine pieces, one after another, however they are grouped
 regroup_9 : (a b c d e f g h i : List ℕ) →
     a ++ (b ++ (c ++ (d ++ (e ++ (f ++ (g ++ (h ++ (i ++ [])))))))) ≡ a ++ b ++ c ++ d ++ e ++ f ++ g ++ h ++ i
 regroup_9 a b c d e f g h i = simp (append_assoc, append-nil)
 
--- a flag is 1 if and only if it is set
+-- the number of a flag is 1 exactly if it is set
 flag_is : (b : Bool) → eqb (bit b) 1 ≡ b
 flag_is true = refl
 flag_is false = refl
 
--- a number that passes the test of a flag is the number of a flag
+-- a number within the bound of a flag is 0 or 1, and so the number of a flag
 flag_back : (n m : ℕ) → n ≤ cond (ltb m 32) 1 0 → bit (eqb n 1) ≡ n
 flag_back zero m h = refl
 flag_back (suc zero) m h = refl
@@ -220,7 +220,7 @@ flag_back (suc (suc n)) m h = absurd (flag_below (ltb m 32) n h) where
   flag_below true n h = omega arith
   flag_below false n h = omega arith
 
--- a flag passes if and only if there are at most 32 conditions with it
+-- a flag is within its bound exactly if there are at most 32 conditions with it
 flag_limit : (ones : ℕ) (b : Bool) → ones ≤ 32 → (bit b ≤ cond (ltb ones 32) 1 0) ↔ (ones + bit b ≤ 32)
 flag_limit ones b le = elim (cases_Bool (ltb ones 32)) [
   | inl h ↦ let k = ltb-true ones 32 h in rw h (λ _. flag_sum b k, λ _. flag_one b)
@@ -243,11 +243,11 @@ flag_end ones = elim (cases_Bool (ltb ones 32)) [
   | inr h ↦ rw h (omega arith)
 ]
 
--- a process of its fields, as they are read
+-- the process of these fields as they are read: its name, node, flag, times and extra
 abbrev make_process : List ℕ → ℕ → ℕ → List ℕ → Option Extra → Written
 make_process n a c ts e = record { process = record { name = n; node = a; condition = eqb c 1; times = ts }; extra = e }
 
--- a process is the one of its fields
+-- a process is the one that its fields make
 same_process : (w : Written) →
     w ≡ make_process w.process.name w.process.node (bit w.process.condition) w.process.times w.extra
 same_process w = ap (λ (c : Bool). record {
@@ -256,11 +256,12 @@ same_process w = ap (λ (c : Bool). record {
 })
     (sym (flag_is w.process.condition))
 
--- a process after `ones` processes with a condition
+-- a lawful process after `ones` processes with a condition: with it at most 32 have one
 abbrev pub FitsBehind : ℕ → ℕ → ℕ → ℕ → Written → Type 0
 FitsBehind version faults nodes ones w = IsWritten version faults nodes w × (ones + bit w.process.condition ≤ 32)
 
--- the reader of a process's place reads exactly a node and a flag, which is 0 if there are 32 conditions already
+-- the reader of a process's place reads exactly the bytes of a node and a flag, which is 0 if there are 32 conditions
+-- already: a byte below the number of nodes, then one of at most 0 or 1
 pub place_reads : (nodes ones : ℕ) → 0 < nodes → nodes ≤ 256 →
     Reads (λ (p : ℕ × ℕ). (p.0 ≤ nodes - 1) × (p.1 ≤ cond (ltb ones 32) 1 0)) (λ (p : ℕ × ℕ). byte p.0 ++ byte p.1)
     (read_place nodes ones)
@@ -276,7 +277,7 @@ place_reads nodes ones some few =
     (λ p h. ((omega arith, h.0), ((omega arith, h.1), refl)))
     (λ p h. refl)
 
--- the reader of a process reads exactly the bytes of a process that may stand at its place
+-- the reader of a process reads exactly the bytes of a process that is lawful after `ones` others with a condition
 pub process_reads : (version faults nodes ones : ℕ) → 1 ≤ version → version ≤ 2 → 0 < nodes → nodes ≤ 16 → ones ≤ 32 →
     Reads (FitsBehind version faults nodes ones) process_bytes (read_process version faults nodes ones)
 unfolding read_process
@@ -355,7 +356,8 @@ processes_reads version faults nodes count v1 v2 few le =
 
 -- ---- edges
 
--- the reader of an edge reads exactly the bytes of an edge between two of the processes
+-- the reader of an edge reads exactly the bytes of an edge between two of the processes: two bytes, each below the
+-- number of processes
 pub edge_reads : (processes : ℕ) → 0 < processes → processes ≤ 256 →
     Reads (IsHeadEdge processes) edge_bytes (read_edge processes)
 unfolding read_edge
@@ -372,7 +374,7 @@ edge_reads processes some few =
 
 -- ---- the head
 
--- the parts of a head, one after another, are the bytes of the head
+-- the bytes of the nine fields of a head, one after another, are the bytes of the head
 head_spell : (h : Head) → to_be_bytes w32 magic ++
     (byte (version_of h) ++ (byte h.faults ++
     (byte (length h.nodes) ++ (flat_map name_bytes h.nodes ++
@@ -382,7 +384,7 @@ head_spell h = regroup_9 (to_be_bytes w32 magic) (byte (version_of h)) (byte h.f
     (flat_map name_bytes h.nodes) (byte (length h.processes))
     (flat_map process_bytes (written h)) (to_be_bytes w16 (length h.edges)) (flat_map edge_bytes h.edges)
 
--- the fields in their order, as they stand in a head
+-- a head has lawful fields, in the order in which they are read, and is the head that they make (`same`)
 record Parts (h : Head) : Type 0 where
   version : (1 ≤ version_of h) × (version_of h ≤ 2)
   faults : h.faults ≤ 8
@@ -394,7 +396,7 @@ record Parts (h : Head) : Type 0 where
   edges : AllByRecursion (IsHeadEdge (length h.processes)) h.edges
   same : h ≡ head_from (version_of h) h.faults h.nodes (written h) h.edges
 
--- a head with these parts is lawful
+-- a head with such fields is lawful
 from_parts : (h : Head) → Parts h → IsPackHead h
 from_parts h p =
     let n = written_length h in
@@ -405,7 +407,7 @@ from_parts h p =
     (omega (arith, p.few_edges, limit_most (length h.processes) 256))
     (subst (λ (c : ℕ). AllByRecursion (IsHeadEdge c) h.edges) (sym n) p.edges))
 
--- a lawful head has these parts
+-- a lawful head has such fields, field by field: its lists by recursion, its limits as the laws of a head have them
 parts_of : (h : Head) → IsPackHead h → Parts h
 parts_of h q = record {
   version = version_within h;

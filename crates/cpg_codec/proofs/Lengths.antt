@@ -1,4 +1,4 @@
--- How long a spelling is at most.
+-- How long a spelling is at most: the bounds of its parts, from literals up to the whole.
 use Rattle.std.proofs.Common.{◌≡◌, ℕ, ◌+◌, ◌-◌, ◌*◌, max, ◌≤◌, Bool, true, false, cond, eqb, ltb, not, List, [], ◌∷◌}
 use Rattle.std.proofs.Common.{◌++◌, length, Option, None, Some, refl, sym, ap, ◌∙◌, arith}
 use Rattle.std.specs.Prelude.{All, unwrap_or, sum_by}
@@ -31,7 +31,7 @@ use Rattle.cpg_codec.proofs.ColumnFields.{few_fault, literals_room, column_liter
 
 -- ---- pieces
 
--- pieces that each have at most some number of bytes
+-- the spellings of a list's elements, each of at most `most` bytes, are together at most that many times the length
 pieces : {X : Type 0} (f : X → List ℕ) (most : ℕ) (xs : List X) → AllByRecursion (λ x. length (f x) ≤ most) xs →
     length (flat_map f xs) ≤ length xs * most
 pieces f most [] h = omega arith
@@ -41,25 +41,26 @@ pieces f most (x ∷ xs) h =
     ap length (flat_map-cons f x xs) ∙ length-append (f x) (flat_map f xs) in
     omega (arith, rest, parts, h.0)
 
--- pieces of lawful values are together no longer than their number times the most that one has
+-- pieces of elements with property P, from which it follows that a piece has at most `most` bytes, have at most `most`
+-- bytes each
 all_pieces : {X : Type 0} (P : X → Type 0) (f : X → List ℕ) (most : ℕ) (xs : List X) →
     ((x : X) → P x → length (f x) ≤ most) → All P xs →
     length (flat_map f xs) ≤ length xs * most
 all_pieces P f most xs each h = pieces f most xs
     (recursion_from_All (λ x. length (f x) ≤ most) xs (All-weaker P (λ x. length (f x) ≤ most) each xs h))
 
--- how long three parts are together
+-- the length of three pieces together
 three : (a b c : List ℕ) → length (a ++ b ++ c) ≡ length a + length b + length c
 three a b c = let l = length-append (a ++ b) c in let m = length-append a b in omega (arith, l, m)
 
--- how long five parts are together
+-- the length of five pieces together
 five : (a b c d e : List ℕ) → length (a ++ b ++ c ++ d ++ e) ≡ length a + length b + length c + length d + length e
 five a b c d e = let l = length-append (a ++ b ++ c ++ d) e in
     let m = length-append (a ++ b ++ c) d in
     let n = three a b c in
     omega (arith, l, m, n)
 
--- how long nine parts are together
+-- the length of nine pieces together
 nine : (a b c d e f g h i : List ℕ) →
     length (a ++ b ++ c ++ d ++ e ++ f ++ g ++ h ++ i)
     ≡ length a + length b + length c + length d + length e + length f + length g + length h + length i
@@ -80,19 +81,21 @@ literal_long l = omega arith
 -- literals have at most 3 bytes each
 literals_long : (ls : List Literal) → length (flat_map literal_bytes ls) ≤ length ls * 3
 literals_long ls = pieces literal_bytes 3 ls (each ls) where
+  -- each literal has at most 3 bytes
   each : (ls : List Literal) → AllByRecursion (λ l. length (literal_bytes l) ≤ 3) ls
   each [] = tt
   each (l ∷ ls) = (literal_long l, each ls)
 
--- a cube has a literal for each variable at most
+-- a lawful column has at most 160 literals: one for each of 128 counts and 32 values
 column_room : (s : VariableSpace) (c : Column) → IsSpace s → IsLawfulColumn s c → length c.cube ≤ 160
 column_room s c i h = within (fault_end s) s.conditions (length c.cube) (few_fault s i) i.conditions
     (literals_room s 0 c.cube (few_fault s i) (column_literals s c i h))
   where
+    -- a space has at most 128 fault counts and 32 values, so at most 160 variables
     within : (e k n : ℕ) → e ≤ 128 → k ≤ 32 → n ≤ (e - 0) + ((128 + k) - max 128 0) → n ≤ 160
     within e k n a b r = omega arith
 
--- a lawful column has at most 489 bytes
+-- a lawful column has at most 489 bytes: 8 of its time, 1 of the count, and 3 for each of 160 literals
 column_long : (s : VariableSpace) → IsSpace s → (c : Column) → IsLawfulColumn s c → length (column_bytes c) ≤ 489
 column_long s i c h =
     let parts = three (to_be_bytes w64 c.time) (byte (length c.cube)) (flat_map literal_bytes c.cube) in
@@ -100,7 +103,7 @@ column_long s i c h =
     let room = column_room s c i h in
     omega (arith, parts, literals, room)
 
--- a bound on the bytes of a row, by its columns
+-- a lawful row has at most 489 bytes for each column, and 2 for their number
 row_long : (s : VariableSpace) → IsSpace s → (r : Row) → IsLawfulRow s r →
     length (row_bytes r) ≤ length r.columns * 489 + 2
 row_long s i r h =
@@ -108,7 +111,7 @@ row_long s i r h =
     let columns = all_pieces (IsLawfulColumn s) column_bytes 489 r.columns (column_long s i) h.columns in
     omega (arith, parts, columns)
 
--- a bound on the bytes of rows, by their columns and number
+-- lawful rows have together at most 489 bytes for each column, and 2 for each row; by induction
 rows_long : (s : VariableSpace) → IsSpace s → (rows : List Row) → AllByRecursion (IsLawfulRow s) rows →
     length (flat_map row_bytes rows) ≤ column_count rows * 489 + length rows * 2
 rows_long s i [] h = omega arith
@@ -124,10 +127,11 @@ rows_long s i (r ∷ rows) h =
 
 -- ---- tables
 
--- no more places pass a test than there are
+-- no more elements pass a test than there are
 places_few : {X : Type 0} (test : X → Bool) (i : ℕ) (xs : List X) → length (numbers_where test i xs) ≤ length xs
 places_few test i [] = omega arith
 places_few test i (x ∷ xs) = by_test (test x) (places_few test (i + 1) xs) where
+  -- by whether the first element passes
   by_test : (b : Bool) → length (numbers_where test (i + 1) xs) ≤ length xs →
       length (cond b (i ∷ numbers_where test (i + 1) xs) (numbers_where test (i + 1) xs)) ≤ length (x ∷ xs)
   by_test true few = omega (arith, few)
@@ -145,7 +149,7 @@ module _ (h : Head) (q : IsHead h) (node : ℕ) where
   starts_few = let few = places_few (λ (p : HeadProcess). eqb p.node node) 0 h.processes in
       omega (arith, few, q.few_processes)
 
-  -- a node tells at most 128 conditions
+  -- a node sends at most 128 broadcasts
   told_few : (b : Bool) →
       length (cond b (numbers_where (λ (p : HeadProcess). eqb p.node node) (first_broadcast h) (conditioned h)) [])
       ≤ 128
@@ -153,7 +157,7 @@ module _ (h : Head) (q : IsHead h) (node : ℕ) where
       omega (arith, few, conditioned_few)
   told_few false = omega arith
 
-  -- it sends at most 384 items
+  -- a node sends at most 384 items: 256 messages and 128 broadcasts
   sends_few : length (sends_of h node) ≤ 384
   sends_few =
       let told = cond (ltb 1 (length h.nodes))
@@ -162,7 +166,7 @@ module _ (h : Head) (q : IsHead h) (node : ℕ) where
       let parts = length-append (numbers_where (leaves h node) (first_message h) h.edges) told in
       omega (arith, parts, messages, told_few (ltb 1 (length h.nodes)), q.few_edges)
 
-  -- a node hears at most 384 items
+  -- a node hears at most 384 items: 256 messages and 128 broadcasts
   hears_few : length (hears_of h node) ≤ 384
   hears_few =
       let others = numbers_where (λ (p : HeadProcess). not (eqb p.node node)) (first_broadcast h) (conditioned h) in
@@ -171,7 +175,7 @@ module _ (h : Head) (q : IsHead h) (node : ℕ) where
       let parts = length-append (numbers_where (enters h node) (first_message h) h.edges) others in
       omega (arith, parts, messages, told, conditioned_few, q.few_edges)
 
-  -- the table of a node has at most 896 rows
+  -- the table of a node has at most 896 rows: 128 of starts, 384 of sends and 384 of hears
   rows_few : (t : NodeTable) → IsTableOf h node t → length (rows_of t) ≤ 896
   rows_few t of =
       let starts : length t.starts ≡ length (starts_of h node) =
@@ -184,7 +188,7 @@ module _ (h : Head) (q : IsHead h) (node : ℕ) where
       let inner = length-append t.sends t.hears in
       omega (arith, starts, sends, hears, outer, inner, starts_few, sends_few, hears_few)
 
--- a bound on the bytes of a node's table, by its columns
+-- the table of a node has at most 489 bytes for each column, and 1,792, which is 2 for each of 896 rows
 table_long : (h : Head) → IsHead h → (node : ℕ) (t : NodeTable) → IsTableOf h node t →
     length (table_bytes t) ≤ column_count (rows_of t) * 489 + 1792
 table_long h q node t of =
@@ -192,11 +196,11 @@ table_long h q node t of =
     (recursion_from_All (IsLawfulRow (space_of h)) (rows_of t) of.lawful) in
     omega (arith, rows, rows_few h q node t of)
 
--- the bytes of a table are at most 489 for each column, and 1,792
+-- the bound on the bytes of a table, as a property of the table
 abbrev IsLong : NodeTable → Type 0
 IsLong t = length (table_bytes t) ≤ column_count (rows_of t) * 489 + 1792
 
--- a bound on the bytes of all tables, by their columns and number
+-- tables of this property have together at most 489 bytes for each column and 1,792 for each table; by induction
 tables_long : (ts : List NodeTable) → AllByRecursion IsLong ts →
     length (flat_map table_bytes ts) ≤ sum_by (λ t. column_count (rows_of t)) ts * 489 + length ts * 1792
 tables_long [] h = omega arith
@@ -211,7 +215,7 @@ tables_long (t ∷ ts) h =
 
 -- ---- heads
 
--- a name has at most 33 bytes, with its length
+-- a name has at most 33 bytes: 32 letters and their number
 name_long : (text : List ℕ) → IsName text → length (name_bytes text) ≤ 33
 name_long text n = let parts = length-append (byte (length text)) text in omega (arith, parts, n.short)
 
@@ -222,19 +226,21 @@ extra_long (Some e) =
     let parts = length-append (to_be_bytes w64 e.release) (to_be_bytes w64 (deadline_number e.deadline)) in
     omega (arith, parts)
 
--- times have 8 bytes each
+-- times have 8 bytes each, at most
 times_long : (ts : List ℕ) → length (flat_map (to_be_bytes w64) ts) ≤ length ts * 8
 times_long ts = pieces (to_be_bytes w64) 8 ts (each ts) where
+  -- each time has at most 8 bytes
   each : (ts : List ℕ) → AllByRecursion (λ t. length (to_be_bytes w64 t) ≤ 8) ts
   each [] = tt
   each (t ∷ ts) = (omega arith, each ts)
 
--- a process of a head, which has a name
+-- a process with a well-formed name and at most 9 times
 record IsNamed (p : HeadProcess) : Type 0 where
   name : IsName p.name
   times : length p.times ≤ 9
 
--- the bytes of a process are at most 123
+-- a process as in `IsNamed` has at most 123 bytes: 33 of its name, 2 of node and flag, 72 of its times and 16 of
+-- what version 2 adds
 process_long : (p : HeadProcess) (o : Option Extra) → IsNamed p →
     length (process_bytes (record { process = p; extra = o })) ≤ 123
 process_long p o n =
@@ -245,7 +251,7 @@ process_long p o n =
     let extra = extra_long o in
     omega (arith, parts, name, times, extra, n.times)
 
--- a bound on the bytes of processes, by their number
+-- processes as in `IsNamed` have together at most 123 bytes each, whatever extras they are written with; by induction
 processes_long : (ps : List HeadProcess) (es : List Extra) → AllByRecursion IsNamed ps →
     length (flat_map process_bytes (written_by ps es)) ≤ length ps * 123
 processes_long [] es h = omega arith
@@ -268,14 +274,15 @@ processes_long (p ∷ ps) (e ∷ es) h =
     ∙ length-append (process_bytes w) (flat_map process_bytes (written_by ps es)) in
     omega (arith, rest, one, parts)
 
--- edges have 2 bytes each
+-- edges have 2 bytes each, at most
 edges_long : (es : List (ℕ × ℕ)) → length (flat_map edge_bytes es) ≤ length es * 2
 edges_long es = pieces edge_bytes 2 es (each es) where
+  -- each edge has at most 2 bytes
   each : (es : List (ℕ × ℕ)) → AllByRecursion (λ e. length (edge_bytes e) ≤ 2) es
   each [] = tt
   each (e ∷ es) = (omega arith, each es)
 
--- the lawful processes of a head that have names are named processes
+-- lawful processes with well-formed names are such: with k faults at most 8 they have k + 1 times
 named : (k n : ℕ) (ps : List HeadProcess) → k ≤ 8 → AllByRecursion (IsHeadProcess k n) ps →
     AllByRecursion (λ p. IsName p.name) ps →
     AllByRecursion IsNamed ps
@@ -283,7 +290,7 @@ named k n [] few a b = tt
 named k n (p ∷ ps) few a b =
     (record { name = b.0; times = let count = a.0.count in omega (arith, count, few) }, named k n ps few a.1 b.1)
 
--- a head has at most 20,000 bytes
+-- a lawful head has at most 20,000 bytes: its nine fields (`parts`) with 16 names, 128 processes and 256 edges
 head_long : (h : Head) → IsPackHead h → length (head_bytes h) ≤ 20000
 head_long h q =
     let parts = nine (to_be_bytes w32 magic) (byte (version_of h)) (byte h.faults) (byte (length h.nodes))
@@ -299,7 +306,7 @@ head_long h q =
 
 -- ---- the whole
 
--- no pack is longer than 268,435,456 bytes
+-- no pack is longer than 268,435,456 bytes: a head, 524,288 columns of 489 bytes, and 16 times 1,792
 pub all_short : AllShort
 all_short t a =
     let head = head_long t.head a.head in

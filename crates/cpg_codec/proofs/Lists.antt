@@ -1,22 +1,24 @@
--- Lists that are read value by value.
+-- Readers of lists read exactly the spellings of lists (`Reads`, of Laws), if those of the elements do so.
 use Rattle.std.proofs.Common.{◌≡◌, ℕ, zero, suc, ◌<◌, List, [], ◌∷◌, ◌++◌, length, refl, sym, ap, subst, ◌∙◌, arith}
 use Rattle.std.specs.List.{flat_map, AllByRecursion}
 use Rattle.std.proofs.lemmas.List.{append-nil}
 use Rattle.cpg_codec.specs.Reading.{Reader, pure, ◌>>=◌, read_each, down, read_repeated}
 use Rattle.cpg_codec.proofs.Laws.{Reads, pure_reads, then_reads, adapt}
 
--- the first of a list, or a default
+-- the first element of a list; a default if it is empty
 abbrev head_or : {A : Type 0} → A → List A → A
 head_or d [] = d
 head_or d (x ∷ xs) = x
 
--- the others
+-- the elements after the first
 abbrev tail_of : {A : Type 0} → List A → List A
 tail_of [] = []
 tail_of (x ∷ xs) = xs
 
--- given a reader for each label and state, an invariant of the labels that are left and the state, and what is said
--- of the whole list of values
+-- Given a reader `one` for each label and state, an invariant `Inv` of the labels left and the state, and what is said of
+-- a value (`Fits`) and of the list of all values (`G`): `item`: a reader reads exactly the spellings of values that fit.
+-- `keeps`: the invariant stays. The others: G holds of the empty list exactly without labels, and of a list with an
+-- element exactly if that fits the first label and G holds of the others.
 module _ {L S A : Type 0} (step : S → A → S) (one : L → S → Reader A)
     (Inv : List L → S → Type 0) (Fits : L → List L → S → A → Type 0) (spell : A → List ℕ)
     (G : List L → S → List A → Type 0)
@@ -29,36 +31,37 @@ module _ {L S A : Type 0} (step : S → A → S) (one : L → S → Reader A)
     G (l ∷ ls) s (x ∷ xs))
     (uncons : (l : L) (ls : List L) (s : S) (x : A) (xs : List A) → Inv (l ∷ ls) s → G (l ∷ ls) s (x ∷ xs) →
     Fits l ls s x × G ls (step s x) xs) where
-  -- what the reader of a list that isn't empty reads, with d in place of a head that isn't there
+  -- what is said of a list that is read with a label: its first element fits, G holds of the others, and it is made of
+  -- both (d is the first element of an empty list)
   Parts : L → List L → S → A → List A → Type 0
   Parts l ls s d ys =
       Fits l ls s (head_or d ys) × (G ls (step s (head_or d ys)) (tail_of ys) × (ys ≡ head_or d ys ∷ tail_of ys))
 
-  -- a list that is read in parts, the first and the others, is read
+  -- if that is so of a list, G holds of it
   parts_to : (l : L) (ls : List L) (s : S) (d : A) → Inv (l ∷ ls) s → (ys : List A) → Parts l ls s d ys →
       G (l ∷ ls) s ys
   unfolding Parts
   parts_to l ls s d inv [] p = absurd (let h : [] ≡ d ∷ [] = p.1.1 in cc)
   parts_to l ls s d inv (x ∷ xs) p = cons l ls s x xs inv p.0 p.1.0
 
-  -- a list that is read can be read in parts: its first and the others
+  -- if G holds of a list, that is so of it
   parts_from : (l : L) (ls : List L) (s : S) (d : A) → Inv (l ∷ ls) s → (ys : List A) → G (l ∷ ls) s ys →
       Parts l ls s d ys
   unfolding Parts
   parts_from l ls s d inv [] g = absurd (cons_only l ls s g)
   parts_from l ls s d inv (x ∷ xs) g = let u = uncons l ls s x xs inv g in (u.0, (u.1, refl))
 
-  -- the spellings of the parts are that of the list
+  -- the spelling of the first element and those of the others are that of the list
   parts_spell : (l : L) (ls : List L) (s : S) (d : A) (ys : List A) → G (l ∷ ls) s ys →
       spell (head_or d ys) ++ (flat_map spell (tail_of ys) ++ []) ≡ flat_map spell ys
   parts_spell l ls s d [] g = absurd (cons_only l ls s g)
   parts_spell l ls s d (x ∷ xs) g = ap (λ (t : List ℕ). spell x ++ t) (append-nil (flat_map spell xs))
 
-  -- the empty list is read where there is nothing to read
+  -- without labels G holds of the empty list
   nil_to : (s : S) → Inv [] s → (ys : List A) → ys ≡ [] → G [] s ys
   nil_to s inv ys e = subst (λ (zs : List A). G [] s zs) (sym e) (nil s inv)
 
-  -- where there is nothing to read, only the empty list is read
+  -- without labels G holds of no other list
   nil_from : (s : S) (ys : List A) → G [] s ys → ys ≡ []
   nil_from s [] g = refl
   nil_from s (y ∷ ys) g = absurd (nil_only s y ys g)
@@ -67,7 +70,8 @@ module _ {L S A : Type 0} (step : S → A → S) (one : L → S → Reader A)
   nil_spell : (s : S) (ys : List A) → G [] s ys → [] ≡ flat_map spell ys
   nil_spell s ys g = ap (flat_map spell) (sym (nil_from s ys g))
 
-  -- the readers of all labels, one after another, read exactly the spellings of their values
+  -- the readers of all labels, one after another, read exactly the spellings of the lists of which G holds; by induction on
+  -- the labels: the reader of the first, then those of the others, by `then_reads` twice
   pub each_reads : (ls : List L) (s : S) → Inv ls s → Reads (G ls s) (flat_map spell) (read_each step one ls s)
   unfolding Parts
   each_reads [] s inv = adapt (pure_reads []) (nil_to s inv) (nil_from s) (nil_spell s)
@@ -84,7 +88,7 @@ module _ {L S A : Type 0} (step : S → A → S) (one : L → S → Reader A)
       (λ x ys fx p. ap (head_or d) p.1))
       (parts_to l ls s d inv) (parts_from l ls s d inv) (parts_spell l ls s d)
 
--- n values of one kind
+-- a list of n values with a property
 abbrev pub AreAll : {A : Type 0} → (A → Type 0) → ℕ → List A → Type 0
 AreAll P n xs = (length xs ≡ n) × AllByRecursion P xs
 
@@ -94,7 +98,7 @@ unfolding down
 down_is zero = refl
 down_is (suc n) = ap suc (down_is n)
 
--- a reader that is repeated n times reads exactly n spellings
+-- a reader that is repeated n times reads exactly the spellings of n values: `each_reads` with no state
 pub times_reads : {A : Type 0} (Fits : A → Type 0) (spell : A → List ℕ) (r : Reader A) (n : ℕ) →
     (0 < n → Reads Fits spell r) →
     Reads (AreAll Fits n) (flat_map spell) (read_repeated r n)

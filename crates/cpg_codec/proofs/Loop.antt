@@ -1,4 +1,5 @@
--- A loop that reads value after value.
+-- Loops that read value after value: the values so far, in front of what reading the others gives, are the whole
+-- (`total`).
 use Rattle.std.proofs.Common.{◌≡◌, ℕ, suc, ◌+◌, ◌-◌, ◌<◌, ◌≤◌, List, [], ◌∷◌, ◌++◌, Result, Ok, Err, refl, sym, ap, ◌∙◌}
 use Rattle.std.proofs.Common.{append_assoc, arith}
 use Rattle.std.proofs.lemmas.List.{append-nil}
@@ -7,25 +8,26 @@ use Rattle.cpg_codec.specs.declared.fault.ReadError.{ReadError}
 use Rattle.cpg_codec.specs.declared.fault.ReadError.TheVariants as errors
 use Rattle.cpg_codec.specs.Gives.{Fails}
 
--- what was read before, in front of what is read on
+-- the values that were read before, put in front of what reading on gives; an error stays
 abbrev pub with_front : {A : Type 0} → List A → Result (List A × List ℕ) ℕ → Result (List A × List ℕ) ℕ
 with_front front (Ok x) = Ok (front ++ x.0, x.1)
 with_front front (Err n) = Err n
 
--- with no values in front, a result stays as it is
+-- with no value in front, a result stays as it is
 pub nothing_in_front : {A : Type 0} (r : Result (List A × List ℕ) ℕ) → with_front [] r ≡ r
 nothing_in_front (Ok x) = refl
 nothing_in_front (Err n) = refl
 
--- given a reader for each label and state, and the step that each value takes to the next state
+-- given a reader for each label and state, and the state after a value
 module _ {L S A : Type 0} (step : S → A → S) (one : L → S → Reader A) where
-  -- a value that was read moves from the result to the values in front
+  -- a first value of the result may as well be the last one in front
   regroup : (front : List A) (x : A) (r : Result (List A × List ℕ) ℕ) →
       with_front front (onward (λ (xs : List A). pure (x ∷ xs)) r) ≡ with_front (front ++ x ∷ []) r
   regroup front x (Ok y) = ap (λ (xs : List A). Ok (xs, y.1)) (sym (append_assoc front (x ∷ []) y.0))
   regroup front x (Err n) = refl
 
-  -- a loop that reads one more value still has the same total
+  -- if the next value is read, it goes to those in front, and the total is the same with the labels and bytes left; the
+  -- first step of the rest is unfolded, and its value moved to those in front
   pub goes_on : (front : List A) (labels : List L) (l : L) (ls : List L) (s : S) (bytes : List ℕ) (x : A)
       (after : List ℕ) (total : Result (List A × List ℕ) ℕ) →
       labels ≡ l ∷ ls →
@@ -38,7 +40,7 @@ module _ {L S A : Type 0} (step : S → A → S) (one : L → S → Reader A) wh
       ap (λ (r : Result (A × List ℕ) ℕ).
       with_front front (onward (λ (y : A). read_each step one ls (step s y) >>= λ ys. pure (y ∷ ys)) r)) h) ∙ so_far
 
-  -- if reading a value fails, the whole loop fails in the same way
+  -- if the next value can't be read, the total is the same error, unless memory ran out
   pub ends : (error : ReadError) (front : List A) (labels : List L) (l : L) (ls : List L) (s : S) (bytes : List ℕ)
       (total : Result (List A × List ℕ) ℕ) → labels ≡ l ∷ ls →
       Fails error (one l s bytes)
@@ -49,7 +51,7 @@ module _ {L S A : Type 0} (step : S → A → S) (one : L → S → Reader A) wh
       ap (λ (r : Result (A × List ℕ) ℕ).
       with_front front (onward (λ (y : A). read_each step one ls (step s y) >>= λ ys. pure (y ∷ ys)) r)) h
 
-  -- without labels left, the loop has read all its values
+  -- without labels left, the values in front are the total
   pub is_done : (front : List A) (labels : List L) (s : S) (bytes : List ℕ) (total : Result (List A × List ℕ) ℕ) →
       labels ≡ [] →
       with_front front (read_each step one labels s bytes) ≡ total →
@@ -74,7 +76,7 @@ down_none count i le = let k : count - i ≡ 0 = omega arith in ap down k
 abbrev pub left_of : {A : Type 0} → Reader A → ℕ → ℕ → Reader (List A)
 left_of one count i = read_each (λ (s : ℕ) x. s) (λ (l : ℕ) s. one) (down (count - i)) 0
 
--- a loop for `count` values of one kind that reads one more still has the same total
+-- `goes_on` for `count` values of one kind
 pub times_on : {A : Type 0} (one : Reader A) (front : List A) (count i : ℕ) (bytes : List ℕ) (x : A) (after : List ℕ)
     (total : Result (List A × List ℕ) ℕ) → i < count →
     one bytes ≡ Ok (x, after)
@@ -84,7 +86,7 @@ times_on one front count i bytes x after total lt h so_far =
     goes_on (λ (s : ℕ) x. s) (λ (l : ℕ) s. one) front (down (count - i)) (count - (i + 1))
     (down (count - (i + 1))) 0 bytes x after total (down_more count i lt) h so_far
 
--- if reading a value of such a loop fails, the whole loop fails in the same way
+-- `ends` for `count` values of one kind
 pub times_end : {A : Type 0} (one : Reader A) (error : ReadError) (front : List A) (count i : ℕ) (bytes : List ℕ)
     (total : Result (List A × List ℕ) ℕ) → i < count →
     Fails error (one bytes)
@@ -93,7 +95,7 @@ times_end one error front count i bytes total lt h so_far =
     ends (λ (s : ℕ) x. s) (λ (l : ℕ) s. one) error front (down (count - i)) (count - (i + 1))
     (down (count - (i + 1))) 0 bytes total (down_more count i lt) h so_far
 
--- after `count` values such a loop has read all its values
+-- `is_done` for `count` values of one kind
 pub times_done : {A : Type 0} (one : Reader A) (front : List A) (count i : ℕ) (bytes : List ℕ)
     (total : Result (List A × List ℕ) ℕ) → count ≤ i
     → with_front front (left_of one count i bytes) ≡ total → total ≡ Ok (front, bytes)

@@ -1,4 +1,4 @@
--- Names are ASCII.
+-- Names are ASCII, and so UTF-8.
 use Rattle.std.proofs.Common.{◌≡◌, ℕ, zero, suc, refl, [], ◌∷◌, ◌<◌, ◌≤◌, true, List, length, get_or, arith, subst, sym}
 use Rattle.std.proofs.Common.{inl, inr}
 use Rattle.std.specs.Str.{IsUtf8, IsAscii}
@@ -11,7 +11,7 @@ use Rattle.cpg_base.specs.Name.{IsName, is_name_byte}
 letter_is_ascii : (b : ℕ) → is_name_byte b ≡ true → b < 128
 letter_is_ascii b h = grind (arith, nat_tests)
 
--- behind a list there is the default
+-- a place past the end of a list gives the default
 get_or_past : (xs : List ℕ) (i : ℕ) → length xs ≤ i → get_or xs i 0 ≡ 0
 get_or_past [] i le = refl
 get_or_past (x ∷ xs) zero le = absurd (omega arith)

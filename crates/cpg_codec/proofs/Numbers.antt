@@ -1,4 +1,4 @@
--- Big-endian numbers, digit by digit.
+-- Big-endian numbers, digit by digit (in base 256): their readers read exactly the bytes of lawful ones (`Reads`, of Laws).
 use Rattle.std.proofs.Common.{◌≡◌, ℕ, zero, suc, ◌+◌, ◌*◌, ◌-◌, ◌/◌, ◌%◌, ◌^◌, ◌<◌, ◌≤◌, Bool, true, ltb, leb, [], ◌∷◌}
 use Rattle.std.proofs.Common.{refl, sym, ap, subst, ◌∙◌, arith}
 use Rattle.std.specs.Int.{byte_at, bytes_high_first}
@@ -8,12 +8,12 @@ use Rattle.std.proofs.Math.Nat.{pow-suc, one-le-pow, div-mul-le_self, lt-div-mul
 use Rattle.cpg_codec.specs.Reading.{byte_by, digit_may, read_digits, read_number, within}
 use Rattle.cpg_codec.proofs.Laws.{Reads, pure_reads, then_reads, adapt, byte_reads}
 
--- `may` says whether a lawful number stands between two
+-- `may from below` says whether some lawful number is at least `from` and less than `below`
 pub record IsChoice (lawful : ℕ → Type 0) (may : ℕ → ℕ → Bool) : Type 0 where
   pub found : (from below : ℕ) → from < below → may from below ≡ true → (n : ℕ) × (from ≤ n) × (n < below) × lawful n
   pub all : (from below n : ℕ) → from ≤ n → n < below → lawful n → may from below ≡ true
 
--- the test of a range says whether a number from low to high stands between two numbers
+-- the test `within low high` says so of the numbers from `low` to `high`
 pub within_chooses : (low high : ℕ) → low ≤ high → IsChoice (λ n. (low ≤ n) × (n ≤ high)) (within low high)
 within_chooses low high h = record {
   found = λ from below lt e. let p = and_parts (ltb low below) (leb from high) e in
@@ -25,7 +25,7 @@ within_chooses low high h = record {
       (n : ℕ) × (from ≤ n) × (n < below) × ((low ≤ n) × (n ≤ high))
   within_found from below lt a b = (from + (low - from), omega arith, omega arith, (omega arith, omega arith))
 
--- a number times 256 and then times t
+-- a product with 256 t may be grouped either way
 spread : (n t : ℕ) → n * (256 * t) ≡ n * 256 * t
 spread n t = omega arith
 
@@ -33,11 +33,12 @@ spread n t = omega arith
 power : (w : ℕ) → 256 ^ suc w ≡ 256 * 256 ^ w
 power w = omega (arith, pow-suc 256 w)
 
--- a number and the next one, with digits behind, leave room between them
+-- the numbers that begin with the digits n and have w + 1 more are a range that isn't empty
 digit_span : (w n : ℕ) → n * 256 ^ suc w < (n + 1) * 256 ^ suc w
 digit_span w n = let h : 1 ≤ 256 ^ suc w = one-le-pow (suc w) 256 (omega arith) in omega arith
 
--- a number that begins with the digits n has a next digit
+-- a number m that begins with the digits n, and has more (T is 256 t), has a next digit b, a byte: its quotient by t
+-- without those of n
 digit_of : (T t m n : ℕ) → T ≡ 256 * t → 0 < t → n * T ≤ m → m < (n + 1) * T →
     (b : ℕ) × (b < 256) × ((n * 256 + b) * t ≤ m) × (m < (n * 256 + b + 1) * t)
 digit_of T t m n e pos lo hi =
@@ -50,14 +51,14 @@ digit_of T t m n e pos lo hi =
     let e : m < m / t * t + t = lt-div-mul-add pos in
     (m / t - n * 256, omega arith, rw c d, rw c (omega (arith, e)))
 
--- the quotient of a number between two multiples
+-- a number from q t up to, but without, (q + 1) t has the quotient q
 quotient_is : (t m q : ℕ) → 0 < t → q * t ≤ m → m < (q + 1) * t → m / t ≡ q
 quotient_is t m q pos lo hi =
     let a : q ≤ m / t = le-div q m t pos lo in
     let b : m / t < q + 1 = div_below m t (q + 1) pos hi in
     omega arith
 
--- the digit of a number that lies in the span of this digit
+-- if m begins with the digits n and b and has w more, b is its digit before the last w
 digit_is : (w m n b : ℕ) → b < 256 → (n * 256 + b) * 256 ^ w ≤ m → m < (n * 256 + b + 1) * 256 ^ w → byte_at w m ≡ b
 digit_is zero m n b lt lo hi = omega arith
 digit_is (suc w) m n b lt lo hi =
@@ -65,25 +66,25 @@ digit_is (suc w) m n b lt lo hi =
     quotient_is (256 ^ suc w) m (n * 256 + b) (one-le-pow (suc w) 256 (omega arith)) lo hi in
     rw q (omega arith)
 
--- the span of a digit begins no lower than that of the digits before it
+-- a number that begins with the digits n and b isn't below those that begin with n
 digit_low : (T t m n b : ℕ) → T ≡ 256 * t → (n * 256 + b) * t ≤ m → n * T ≤ m
 digit_low T t m n b e lo = subst (λ (x : ℕ). n * x ≤ m) (sym e) (omega arith)
 
--- the span of a digit ends no higher than that of the digits before it
+-- a number that isn't above the numbers with the digits n and b isn't above those with the digits n
 digit_high : (T t m n b : ℕ) → T ≡ 256 * t → b < 256 → m < (n * 256 + b + 1) * t → m < (n + 1) * T
 digit_high T t m n b e lt hi =
     let k : (b + 1) * t ≤ 256 * t = mul-le (b + 1) t 256 t (omega arith) (omega arith) in
     subst (λ (x : ℕ). m < (n + 1) * x) (sym e) (omega arith)
 
--- given a test that says whether a lawful number stands between two
+-- given a test that says whether a lawful number is in a range
 module _ (Lawful : ℕ → Type 0) (may : ℕ → ℕ → Bool) (choice : IsChoice Lawful may) where
-  -- m begins with the digits n and has w more
+  -- m is lawful, begins with the digits n and has w more
   pub record Continues (w n m : ℕ) : Type 0 where
     pub lawful : Lawful m
     pub low : n * 256 ^ w ≤ m
     pub high : m < (n + 1) * 256 ^ w
 
-  -- digits that may go on have a next one
+  -- if some lawful number begins with the digits n and has more, some digit may come next: that of this number
   digit_some : (w n : ℕ) → may (n * 256 ^ suc w) ((n + 1) * 256 ^ suc w) ≡ true → (b : ℕ) × (digit_may may w n b ≡ true)
   digit_some w n h =
       let f = choice.found (n * 256 ^ suc w) ((n + 1) * 256 ^ suc w) (digit_span w n) h in
@@ -93,7 +94,7 @@ module _ (Lawful : ℕ → Type 0) (may : ℕ → ℕ → Bool) (choice : IsChoi
             (choice.all _ _ f.0 d.2 d.3 f.3),
       )
 
-  -- the digit of a lawful number may come next
+  -- the next digit of a lawful number that begins with n passes the test, and the number begins with n and it
   digit_fits : (w n m : ℕ) → Continues (suc w) n m →
       (digit_may may w n (byte_at w m) ≡ true) × Continues w (n * 256 + byte_at w m) m
   digit_fits w n m c =
@@ -105,17 +106,17 @@ module _ (Lawful : ℕ → Type 0) (may : ℕ → ℕ → Bool) (choice : IsChoi
         record { lawful = c.lawful; low = d.2; high = d.3 },
       )
 
-  -- a digit that may come is a byte
+  -- a digit that passes the test is a byte
   below_256 : (w n b : ℕ) → digit_may may w n b ≡ true → b < 256
   below_256 w n b h =
       ltb-true b 256 (and_parts (ltb b 256) (may ((n * 256 + b) * 256 ^ w) ((n * 256 + b + 1) * 256 ^ w)) h).0
 
-  -- digits with a next one that may come may go on
+  -- if a digit passes the test, some lawful number begins with n and it
   may_go_on : (w n b : ℕ) → digit_may may w n b ≡ true →
       may ((n * 256 + b) * 256 ^ w) ((n * 256 + b + 1) * 256 ^ w) ≡ true
   may_go_on w n b h = (and_parts (ltb b 256) (may ((n * 256 + b) * 256 ^ w) ((n * 256 + b + 1) * 256 ^ w)) h).1
 
-  -- a number that goes on with a digit goes on from before it
+  -- a number that begins with the digits n and b begins with n
   continues_back : (w n m b : ℕ) → b < 256 → Continues w (n * 256 + b) m → Continues (suc w) n m
   continues_back w n m b lt c = record {
     lawful = c.lawful;
@@ -123,18 +124,19 @@ module _ (Lawful : ℕ → Type 0) (may : ℕ → ℕ → Bool) (choice : IsChoi
     high = digit_high (256 ^ suc w) (256 ^ w) m n b (power w) lt c.high;
   }
 
-  -- a number with all its digits is lawful if they may end there
+  -- if some lawful number has just the digits n, n is lawful
   last_is : (n m : ℕ) → m ≡ n → may (n * 256 ^ 0) ((n + 1) * 256 ^ 0) ≡ true → Continues 0 n m
   last_is n m e h =
       let f = choice.found (n * 256 ^ 0) ((n + 1) * 256 ^ 0) (omega arith) h in
       let k : f.0 ≡ m = omega (arith, f.1, f.2) in
       record { lawful = subst Lawful k f.3; low = omega arith; high = omega arith }
 
-  -- a number that goes on from all its digits is the one that they write
+  -- a number that begins with the digits n and has no more is n
   last_back : (n m : ℕ) → Continues 0 n m → m ≡ n
   last_back n m c = omega (arith, c.low, c.high)
 
-  -- the reader of w more digits reads exactly the digits with which a lawful number can go on
+  -- the reader of w more digits reads exactly the last w digits of lawful numbers that begin with n; by induction on w:
+  -- the next digit by `byte_reads`, the others by the induction
   pub digits_reads : (w n : ℕ) → may (n * 256 ^ w) ((n + 1) * 256 ^ w) ≡ true →
       Reads (Continues w n) (bytes_high_first w) (read_digits may w n)
   unfolding read_digits
@@ -152,7 +154,7 @@ module _ (Lawful : ℕ → Type 0) (may : ℕ → ℕ → Bool) (choice : IsChoi
       (λ m c. digit_fits w n m c)
       (λ m c. refl)
 
-  -- the reader of a number of w bytes, if there is a lawful number and each one fits w bytes
+  -- the reader of a number of w bytes reads exactly the bytes of lawful numbers, if there is one and each fits w bytes
   pub number_reads : (w some : ℕ) → Lawful some → ((m : ℕ) → Lawful m → m < 256 ^ w) →
       Reads Lawful (bytes_high_first w) (read_number w may)
   number_reads w some lawful fit =

@@ -8,12 +8,12 @@ use Rattle.std.proofs.Math.Nat.{pow-suc}
 use Rattle.cpg_codec.specs.Reading.{onward, digit_may, read_digits, read_number, within}
 use Rattle.cpg_codec.specs.Grammar.{deadline_may}
 
--- two tests agree on all numbers that begin with the digits n
+-- two tests agree on every range of numbers that begin with the digits n and have w more
 pub Same : (ℕ → ℕ → Bool) → (ℕ → ℕ → Bool) → ℕ → ℕ → Type 0
 Same may other w n =
     (from below : ℕ) → n * 256 ^ w ≤ from → below ≤ (n + 1) * 256 ^ w → may from below ≡ other from below
 
--- two tests go on alike after a digit, whether the digit is read or not
+-- if two readers read on alike after a digit, they do so after the result of its test t, whichever that is
 go_same : (may other : ℕ → ℕ → Bool) (w n b : ℕ) (rest : List ℕ) (t : Bool) →
     read_digits may w (n * 256 + b) rest ≡ read_digits other w (n * 256 + b) rest
     → onward (read_digits may w) (cond {A = Result (ℕ × List ℕ) ℕ} t (Ok (n * 256 + b, rest)) (Err (suc (length rest))))
@@ -22,7 +22,7 @@ go_same : (may other : ℕ → ℕ → Bool) (w n b : ℕ) (rest : List ℕ) (t 
 go_same may other w n b rest true h = h
 go_same may other w n b rest false h = refl
 
--- reading a digit and going on is going on with the digit added to the number
+-- to give the digit and then add it to the number is to give the number with it
 fold_go : (may : ℕ → ℕ → Bool) (w n b : ℕ) (rest : List ℕ) (t : Bool)
     → onward (λ (d : ℕ). read_digits may w (n * 256 + d))
     (cond {A = Result (ℕ × List ℕ) ℕ} t (Ok (b, rest)) (Err (suc (length rest)))) ≡ onward (read_digits may w)
@@ -30,14 +30,14 @@ fold_go : (may : ℕ → ℕ → Bool) (w n b : ℕ) (rest : List ℕ) (t : Bool
 fold_go may w n b rest true = refl
 fold_go may w n b rest false = refl
 
--- two tests that agree on what begins with a digit agree on the digit
+-- two tests that agree on what begins with n and b agree on whether b may come next
 tests_same : (may other : ℕ → ℕ → Bool) (w n b : ℕ) → Same may other w (n * 256 + b) →
     digit_may may w n b ≡ digit_may other w n b
 unfolding Same
 tests_same may other w n b h = ap (λ (t : Bool). ltb b 256 && t)
     (h ((n * 256 + b) * 256 ^ w) ((n * 256 + b + 1) * 256 ^ w) (omega arith) (omega arith))
 
--- two tests that agree after a digit read the digit and the others alike
+-- if two tests agree on what begins with n and b, and read on alike after it, they read b and the rest alike
 step_same : (may other : ℕ → ℕ → Bool) (w n b : ℕ) (rest : List ℕ) → Same may other w (n * 256 + b) →
     read_digits may w (n * 256 + b) rest ≡ read_digits other w (n * 256 + b) rest
     → read_digits may (suc w) n (b ∷ rest) ≡ read_digits other (suc w) n (b ∷ rest)
@@ -49,7 +49,7 @@ step_same may other w n b rest h k =
     ∙ go_same may other w n b rest (digit_may other w n b) k
     ∙ sym (fold_go other w n b rest (digit_may other w n b))
 
--- what is no byte is refused
+-- a number of 256 or more is no digit, so it is refused
 refused : (may : ℕ → ℕ → Bool) (w n b : ℕ) (rest : List ℕ) → 256 ≤ b →
     read_digits may (suc w) n (b ∷ rest) ≡ Err (suc (length rest))
 unfolding read_digits
@@ -57,7 +57,7 @@ refused may w n b rest le = let t : digit_may may w n b ≡ false =
     and_left (ltb b 256) (may ((n * 256 + b) * 256 ^ w) ((n * 256 + b + 1) * 256 ^ w)) (le-ltb b 256 le) in
     rw t refl
 
--- tests that agree on what begins with some digits agree with one digit more
+-- tests that agree on what begins with n agree on what begins with n and b
 narrower : (may other : ℕ → ℕ → Bool) (w n b : ℕ) → b < 256 → Same may other (suc w) n → Same may other w (n * 256 + b)
 unfolding Same
 narrower may other w n b lt h from below lo hi =
@@ -66,7 +66,7 @@ narrower may other w n b lt h from below lo hi =
     h from below (subst (λ (x : ℕ). n * x ≤ from) (sym p) (omega arith))
     (subst (λ (x : ℕ). below ≤ (n + 1) * x) (sym p) (omega arith))
 
--- two tests that agree on a number's first digits make the same reader of the others
+-- tests that agree on what begins with the digits n read the other w digits alike; by induction on w, digit by digit
 pub digits_same : (may other : ℕ → ℕ → Bool) (w n : ℕ) (bytes : List ℕ) → Same may other w n →
     read_digits may w n bytes ≡ read_digits other w n bytes
 unfolding read_digits
@@ -78,12 +78,12 @@ digits_same may other (suc w) n (b ∷ rest) h = elim (cases_lt b 256) [
   | inr le ↦ refused may w n b rest le ∙ sym (refused other w n b rest le)
 ]
 
--- a false part adds nothing
+-- a disjunction with a false second part is its first part
 or_false : (t u : Bool) → u ≡ false → (t || u) ≡ t
 or_false true u e = refl
 or_false false u e = e
 
--- behind a first byte ff, only the missing deadline is left
+-- after a first byte ff the test of deadlines is that of the number for none: no number up to 10^9 begins so
 none_same : Same deadline_may (within 18446744073709551615 18446744073709551615) 7 (0 * 256 + 255)
 unfolding Same
 none_same from below lo hi =
@@ -91,7 +91,7 @@ none_same from below lo hi =
     and_right (ltb 0 below) (leb from 1000000000) (lt-leb from 1000000000 (omega arith)) in
     rw e refl
 
--- behind any other first byte, only a number up to 10^9 is left
+-- after any other first byte it is that of numbers up to 10^9: the number for none doesn't begin so
 some_same : (b : ℕ) → b < 255 → Same deadline_may (within 0 1000000000) 7 (0 * 256 + b)
 unfolding Same
 some_same b lt from below lo hi =
@@ -99,7 +99,7 @@ some_same b lt from below lo hi =
     (and_left (ltb 18446744073709551615 below) (leb from 18446744073709551615)
     (le-ltb 18446744073709551615 below (omega arith)))
 
--- with ff as the first byte a deadline is read as eight bytes ff
+-- bytes that begin with ff are read as a deadline just as they are as the number for none
 pub deadline_none : (bytes : List ℕ) → get_or bytes 0 0 ≡ 255 →
     read_number 8 deadline_may bytes ≡ read_number 8 (within 18446744073709551615 18446744073709551615) bytes
 deadline_none [] e = absurd (omega arith)
@@ -108,12 +108,12 @@ deadline_none (b ∷ rest) e = ap (λ (d : ℕ). read_number 8 deadline_may (d �
     (digits_same deadline_may (within 18446744073709551615 18446744073709551615) 7 (0 * 256 + 255) rest none_same)
     ∙ ap (λ (d : ℕ). read_number 8 (within 18446744073709551615 18446744073709551615) (d ∷ rest)) (sym e)
 
--- without a byte both readers stop alike
+-- without a byte both readers fail with none left
 deadline_end : read_number 8 deadline_may [] ≡ read_number 8 (within 0 1000000000) []
 unfolding read_digits
 deadline_end = refl
 
--- with another first byte a deadline is read as a number up to 10^9
+-- bytes that begin otherwise, or are empty, are read as a deadline just as they are as a number up to 10^9
 pub deadline_some : (bytes : List ℕ) → get_or bytes 0 0 < 256 → (get_or bytes 0 0 ≡ 255 → ⊥) →
     read_number 8 deadline_may bytes ≡ read_number 8 (within 0 1000000000) bytes
 deadline_some [] lt e = deadline_end

@@ -1,4 +1,5 @@
--- Pieces put into a buffer one after another.
+-- Pieces put into a buffer one after another. a, b, c are what the sink has taken before, between and after; h, l, m what
+-- the buffer holds.
 use Rattle.std.proofs.Common.{◌≡◌, ℕ, ◌+◌, ◌<◌, ◌≤◌, List, [], ◌∷◌, ◌++◌, length, get_or, take, drop, Result, Ok, Err}
 use Rattle.std.proofs.Common.{sym, ap, subst, ◌∙◌, append_assoc, arith, take-append-drop}
 use Rattle.std.specs.Prelude.{OnErr, OnOk}
@@ -14,12 +15,12 @@ use Rattle.cpg_codec.specs.Writing.{IsPut, Puts}
 pub IsPut-none : (a h : List ℕ) → IsPut a a h h []
 IsPut-none a h = record { written = []; taken = Took-none a; same = append-nil h }
 
--- what is put and what is left in the buffer, for two pieces one after the other
+-- if h and x are w and l, and l and y are v and m, then h, x and y are w, v and m
 join : (h x y w v l m : List ℕ) → h ++ x ≡ w ++ l → l ++ y ≡ v ++ m → h ++ (x ++ y) ≡ (w ++ v) ++ m
 join h x y w v l m e f = sym (append_assoc h x y) ∙ ap (λ (t : List ℕ). t ++ y) e ∙ append_assoc w l y
     ∙ ap (λ (t : List ℕ). w ++ t) f ∙ sym (append_assoc w v m)
 
--- two pieces that are put one after the other are put as one piece
+-- two pieces that are put one after the other are put as one: what was written of both was taken
 pub IsPut-then : (a b c h l m x y : List ℕ) → IsPut a b h l x → IsPut b c l m y → IsPut a c h m (x ++ y)
 IsPut-then a b c h l m x y p q = record {
   written = p.written ++ q.written;
@@ -27,7 +28,7 @@ IsPut-then a b c h l m x y p q = record {
   same = join h x y p.written q.written l m p.same q.same;
 }
 
--- if a proper front of the first piece was taken, it is one of both pieces
+-- if only a proper prefix of the held bytes and the first piece was taken, it is one of these and both pieces
 pub fails_first : (a b h x y : List ℕ) → TookPrefix a b (h ++ x) → TookPrefix a b (h ++ (x ++ y))
 fails_first a b h x y p =
     let e : h ++ (x ++ y) ≡ (h ++ x) ++ y = sym (append_assoc h x y) in
@@ -37,7 +38,8 @@ fails_first a b h x y p =
     ap (take p.0) e ∙ take-append-le p.0 (h ++ x) y (omega (arith, p.1)) in
     (p.0, omega (arith, l, m, p.1), subst (Took a b) (sym t) p.2)
 
--- if the first piece was put and a proper front of the second was taken, a proper front of both was taken
+-- if the first piece was put, and then a proper prefix of what was held and the second was taken, in all a proper prefix
+-- of the first held bytes and both pieces was: what was written of the first, and this
 pub fails_second : (a b c h l x y : List ℕ) → IsPut a b h l x → TookPrefix b c (l ++ y) → TookPrefix a c (h ++ (x ++ y))
 fails_second a b c h l x y p q =
     let e : h ++ (x ++ y) ≡ p.written ++ (l ++ y) =
@@ -51,34 +53,34 @@ fails_second a b c h l x y p q =
       subst (Took a c) (sym t) (Took-trans a b c p.written (take q.0 (l ++ y)) p.taken q.2),
     )
 
--- if the first piece was put, the result for the second piece is that for both
+-- if the first piece was put, what becomes of the second becomes of both
 pub Puts-then : {E : Type 0} (a b c h l m x y : List ℕ) (r : Result Unit E) → IsPut a b h l x → Puts b c l m r y →
     Puts a c h m r (x ++ y)
 Puts-then a b c h l m x y (Ok u) p q = IsPut-then a b c h l m x y p q
 Puts-then a b c h l m x y (Err e) p q = fails_second a b c h l x y p q
 
--- if the first of two pieces fails, both together fail
+-- if the first of two pieces failed, so did both, with a proper prefix of it taken
 pub Puts-first : {E : Type 0} (a b h m x y : List ℕ) (r : Result Unit E) (e : E) → r ≡ Err e → TookPrefix a b (h ++ x) →
     Puts a b h m r (x ++ y)
 Puts-first a b h m x y r e is p = rw is (fails_first a b h x y p)
 
--- ---- a loop over a list
+-- ---- a loop over a list, with f for the bytes of an element
 
 module _ {X : Type 0} (f : X → List ℕ) where
-  -- the bytes of one element more are those of the elements before it, and its own
+  -- the bytes of i + 1 elements are those of the first i and of the next one
   one_more : (xs : List X) (i : ℕ) (d : X) → i < length xs →
       flat_map f (take (i + 1) xs) ≡ flat_map f (take i xs) ++ f (get_or xs i d)
   one_more xs i d lt = ap (flat_map f) (take_more xs i d lt) ∙ flat_map-append f (take i xs) (get_or xs i d ∷ [])
       ∙ ap (λ (t : List ℕ). flat_map f (take i xs) ++ t) (append-nil (f (get_or xs i d)))
 
-  -- the bytes up to an element, and those after it, are the bytes of all
+  -- the bytes of the first i elements, of the next one and of the others are the bytes of all
   rest_after : (xs : List X) (i : ℕ) (d : X) → i < length xs →
       (flat_map f (take i xs) ++ f (get_or xs i d)) ++ flat_map f (drop (i + 1) xs) ≡ flat_map f xs
   rest_after xs i d lt =
       ap (λ (t : List ℕ). t ++ flat_map f (drop (i + 1) xs)) (sym (one_more xs i d lt))
       ∙ sym (flat_map-append f (take (i + 1) xs) (drop (i + 1) xs)) ∙ ap (flat_map f) (take-append-drop (i + 1) xs)
 
-  -- one more element of a list is put
+  -- if the first i elements are put and then the next one, i + 1 are
   pub puts_more : (a b c h l m : List ℕ) (xs : List X) (i : ℕ) (d : X) → i < length xs →
       IsPut a b h l (flat_map f (take i xs)) →
       IsPut b c l m (f (get_or xs i d)) →
@@ -86,7 +88,7 @@ module _ {X : Type 0} (f : X → List ℕ) where
   puts_more a b c h l m xs i d lt p q = subst (IsPut a c h m) (sym (one_more xs i d lt))
       (IsPut-then a b c h l m (flat_map f (take i xs)) (f (get_or xs i d)) p q)
 
-  -- if the next element of a list fails, the whole list fails
+  -- if the first i elements are put and of the next a proper prefix was taken, a proper prefix of all was
   pub puts_fail : (a b c h l : List ℕ) (xs : List X) (i : ℕ) (d : X) → i < length xs →
       IsPut a b h l (flat_map f (take i xs)) →
       TookPrefix b c (l ++ f (get_or xs i d)) →
@@ -96,19 +98,19 @@ module _ {X : Type 0} (f : X → List ℕ) where
       (fails_first a c h (flat_map f (take i xs) ++ f (get_or xs i d)) (flat_map f (drop (i + 1) xs))
       (fails_second a b c h l (flat_map f (take i xs)) (f (get_or xs i d)) p q))
 
-  -- when all elements are put, the whole list is
+  -- if as many elements are put as there are, all are
   pub puts_all : (a b h l : List ℕ) (xs : List X) (i : ℕ) → length xs ≤ i → IsPut a b h l (flat_map f (take i xs)) →
       IsPut a b h l (flat_map f xs)
   puts_all a b h l xs i le p = subst (IsPut a b h l) (ap (flat_map f) (take_all i xs le)) p
 
--- a failed call took a proper front of what was to be put
+-- a failed call is one that took a proper prefix of what was to be put
 pub Puts-failed : {E : Type 0} (a b h m x : List ℕ) (r : Result Unit E) (e : E) → r ≡ Err e → TookPrefix a b (h ++ x) →
     Puts a b h m r x
 Puts-failed a b h m x r e is p = rw is p
 
--- one element more is put, if the element has a name of its own
+-- as the lemmas above, for an element x that is the one at place i
 module _ {X : Type 0} (f : X → List ℕ) where
-  -- one more element of a list is put
+  -- if the first i elements are put and then x, i + 1 are
   pub item_more : (a b c h l m : List ℕ) (xs : List X) (i : ℕ) (x : X) → x ≡ get_or xs i x → i < length xs →
       IsPut a b h l (flat_map f (take i xs)) →
       IsPut b c l m (f x) →
@@ -116,7 +118,7 @@ module _ {X : Type 0} (f : X → List ℕ) where
   item_more a b c h l m xs i x is lt p q =
       puts_more f a b c h l m xs i x lt p (subst (λ (y : X). IsPut b c l m (f y)) is q)
 
-  -- if this element of a list fails, the whole list fails
+  -- if the first i elements are put and of x a proper prefix was taken, a proper prefix of all was
   pub item_fails : (a b c h l : List ℕ) (xs : List X) (i : ℕ) (x : X) → x ≡ get_or xs i x → i < length xs →
       IsPut a b h l (flat_map f (take i xs)) →
       TookPrefix b c (l ++ f x) →
@@ -124,7 +126,8 @@ module _ {X : Type 0} (f : X → List ℕ) where
   item_fails a b c h l xs i x is lt p q =
       puts_fail f a b c h l xs i x lt p (subst (λ (y : X). TookPrefix b c (l ++ f y)) is q)
 
--- the rest of the buffer is written at the end
+-- a piece is put into an empty buffer, and what the buffer then holds is written: if that fails, a proper prefix of the
+-- piece was taken
 pub rest_fails : {E : Type 0} (a b c h l x : List ℕ) (r : Result Unit E) → h ≡ [] → IsPut a b h l x →
     OnErr r (TookPrefix b c l) →
     OnErr r (TookPrefix a c x)
@@ -134,7 +137,8 @@ rest_fails a b c h l x (Err f) e p q =
     subst (TookPrefix a c) (append-nil x)
     (fails_second a b c [] l x [] k (subst (TookPrefix b c) (sym (append-nil l)) q))
 
--- what was held is written, and then a piece that passes the buffer by
+-- if what was held is written, and then a piece without the buffer, the piece is put and the buffer is empty; or it
+-- failed with a proper prefix of both taken
 pub Puts-past : {E : Type 0} (a b c : List ℕ) (h l x : List ℕ) (r : Result Unit E) → Took a b h → l ≡ [] →
     OnOk r (Took b c x) → OnErr r (TookPrefix b c x) →
     Puts a c h l r x

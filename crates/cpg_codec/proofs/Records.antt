@@ -1,4 +1,5 @@
--- Records of a fixed number of bytes, read at once.
+-- Records of a fixed number of bytes that code reads at once: if their fields are in range, the grammar reads the same.
+-- Fewer bytes than a record contradict a premise.
 use Rattle.std.proofs.Common.{◌≡◌, ℕ, ◌+◌, ◌-◌, ◌^◌, ◌<◌, ◌≤◌, true, cond, ltb, List, [], ◌∷◌, ◌++◌, length, get_or}
 use Rattle.std.proofs.Common.{take, drop, Ok, refl, sym, ap, ap₂, ◌∙◌, arith}
 use Rattle.std.specs.Int.{w64, from_be_bytes, to_be_bytes}
@@ -27,15 +28,15 @@ abbrev nine : List ℕ → List ℕ
 nine bytes = get_or bytes 0 0 ∷ get_or bytes 1 0 ∷ get_or bytes 2 0 ∷ get_or bytes 3 0 ∷ get_or bytes 4 0
     ∷ get_or bytes 5 0 ∷ get_or bytes 6 0 ∷ get_or bytes 7 0 ∷ get_or bytes 8 0 ∷ []
 
--- what is behind two bytes is all that is left
+-- as many bytes as are left after two are all of them
 rest_2 : (a b : ℕ) (rest : List ℕ) → take (length (a ∷ b ∷ rest) - 2) rest ≡ rest
 rest_2 a b rest = let e : length (a ∷ b ∷ rest) - 2 ≡ length rest = omega arith in rw e (take-length rest)
 
--- what is behind three bytes is all that is left
+-- as many bytes as are left after three are all of them
 rest_3 : (a b c : ℕ) (rest : List ℕ) → take (length (a ∷ b ∷ c ∷ rest) - 3) rest ≡ rest
 rest_3 a b c rest = let e : length (a ∷ b ∷ c ∷ rest) - 3 ≡ length rest = omega arith in rw e (take-length rest)
 
--- what is behind nine bytes is all that is left
+-- as many bytes as are left after nine are all of them
 rest_9 : (n : ℕ) (rest : List ℕ) → n ≡ length rest + 9 → take (n - 9) rest ≡ rest
 rest_9 n rest h = let e : n - 9 ≡ length rest = omega arith in rw e (take-length rest)
 
@@ -59,7 +60,8 @@ second_of_3 a b c = omega arith
 third_of_3 : (a b c : ℕ) → field 2 1 (a ∷ b ∷ c ∷ []) ≡ c
 third_of_3 a b c = omega arith
 
--- two bytes, read at once, are an edge if both are numbers of processes
+-- if the first two bytes are numbers of processes, the grammar reads them as an edge: they are its spelling, and it is
+-- lawful
 pub edge_found : (processes : ℕ) (bytes fields : List ℕ) (from to : ℕ) → 0 < processes → processes ≤ 256 →
     2 ≤ length bytes → fields ≡ two bytes → from ≡ field 0 1 fields →
     to ≡ field 1 1 fields →
@@ -74,7 +76,8 @@ edge_found processes (a ∷ b ∷ rest) fields from to some few long ef e0 e1 lf
     ∙ (edge_reads processes some few).again (from, to) rest (record { from = lf; to = lt }) ∙
     ap (λ (t : List ℕ). Ok ((from, to), t)) (sym (rest_2 a b rest))
 
--- two bytes, read at once, are a node and a flag if both are in range
+-- if the first two bytes are a node and a flag in range, the grammar reads them as such; the fields of the record are
+-- these two bytes, and `place_reads` says that their spelling is read back
 pub place_found : (nodes ones : ℕ) (bytes fields : List ℕ) (node flag : ℕ) → 0 < nodes → nodes ≤ 256 →
     2 ≤ length bytes → fields ≡ two bytes → node ≡ field 0 1 fields →
     flag ≡ field 1 1 fields →
@@ -89,7 +92,8 @@ place_found nodes ones (a ∷ b ∷ rest) fields node flag some few long ef e0 e
     ∙ (place_reads nodes ones some few).again (node, flag) rest (omega arith, l1) ∙
     ap (λ (t : List ℕ). Ok ((node, flag), t)) (sym (rest_2 a b rest))
 
--- three bytes, read at once, are a literal if its variable may stand here and its range is lawful
+-- if the first three bytes are a variable that may come here, with a range in its bounds, the grammar reads them as a
+-- literal: they are its spelling, and by `room_step` there is room for it
 pub literal_found : (s : VariableSpace) (left least : ℕ) (bytes fields : List ℕ) (variable low high : ℕ) → IsSpace s →
     3 ≤ length bytes → fields ≡ three bytes →
     variable ≡ field 0 1 fields →
@@ -103,11 +107,14 @@ literal_found s left least [] fields v lo hi i long ef e0 e1 e2 m a b c = absurd
 literal_found s left least (x ∷ []) fields v lo hi i long ef e0 e1 e2 m a b c = absurd (omega arith)
 literal_found s left least (x ∷ y ∷ []) fields v lo hi i long ef e0 e1 e2 m a b c = absurd (omega arith)
 literal_found s left least (x ∷ y ∷ z ∷ rest) fields v lo hi i long ef e0 e1 e2 m a b c =
+    -- the three bytes are the variable, the low and the high
     let p : x ≡ v = sym (e0 ∙ ap (field 0 1) ef ∙ first_of_3 x y z) in
     let q : y ≡ lo = sym (e1 ∙ ap (field 1 1) ef ∙ second_of_3 x y z) in
     let r : z ≡ hi = sym (e2 ∙ ap (field 2 1) ef ∙ third_of_3 x y z) in
+    -- the variable is allowed, and there is room for the literals after it
     let n = may_to s least left v m in
     let k = room_step s least v (few_fault s i) n.0 n.1 in
+    -- so they spell a lawful literal, which the reader of literals reads
     ap₂ (λ (f : ℕ) (g : ℕ). read_literal s left least (f ∷ g ∷ z ∷ rest)) p q
     ∙ ap (λ (h : ℕ). read_literal s left least (v ∷ lo ∷ h ∷ rest)) r
     ∙ (literal_reads s left least i (omega (arith, k, n.2))).again (record { variable = v; low = lo; high = hi }) rest
@@ -123,7 +130,7 @@ column_long a b c d e f g h i = omega arith
 column_last : (a b c d e f g h i : ℕ) → field 8 1 (a ∷ b ∷ c ∷ d ∷ e ∷ f ∷ g ∷ h ∷ i ∷ []) ≡ i
 column_last a b c d e f g h i = omega arith
 
--- nine bytes are read as a column's time and count of literals, if both are in range
+-- nine bytes and a rest are read as a column's time and count of literals, if both are in range: they are their spelling
 front_here : (s : VariableSpace) (a b c d e f g h i : ℕ) (rest fields : List ℕ) (time count : ℕ) → IsSpace s →
     IsBytes (a ∷ b ∷ c ∷ d ∷ e ∷ f ∷ g ∷ h ∷ []) →
     fields ≡ a ∷ b ∷ c ∷ d ∷ e ∷ f ∷ g ∷ h ∷ i ∷ [] → time ≡ field 0 8 fields → count ≡ field 8 1 fields
@@ -138,7 +145,8 @@ front_here s a b c d e f g h i rest fields time count k fits ef e0 e1 lt le =
     ap₂ (λ (xs : List ℕ) (m : ℕ). read_front s ((xs ++ byte m) ++ rest)) (sym q) n
     ∙ (front_reads s k).again (time, count) rest (lt, le)
 
--- nine bytes, read at once, are a column's time and count of literals if both are in range
+-- the grammar reads a column's first nine bytes, if they are in these bounds, from any list that has as many (`front_here`);
+-- shorter lists contradict `long`
 pub front_found : (s : VariableSpace) (bytes fields : List ℕ) (time count : ℕ) → IsSpace s → 9 ≤ length bytes →
     IsBytes bytes → fields ≡ nine bytes →
     time ≡ field 0 8 fields →

@@ -1,4 +1,4 @@
--- The rows of the nodes, and the whole.
+-- The readers of rows, tables and the whole read exactly the bytes of lawful ones (`Reads`, of Laws).
 use Rattle.std.proofs.Common.{◌≡◌, ℕ, zero, suc, ◌+◌, ◌-◌, ◌<◌, ◌≤◌, min, List, [], ◌∷◌, ◌++◌, length, take, drop}
 use Rattle.std.proofs.Common.{get_or, Ok, refl, sym, ap, ap₂, subst, ◌∙◌, arith, take-append-drop}
 use Rattle.std.specs.Prelude.{All, sum_by}
@@ -27,19 +27,22 @@ use Rattle.cpg_codec.proofs.Lists.{each_reads, times_reads}
 use Rattle.cpg_codec.proofs.HeadFields.{head_reads}
 use Rattle.cpg_codec.proofs.ColumnFields.{column_reads}
 
--- two pieces, one behind the other, however they are grouped
+-- two pieces and nothing after them
 regroup_2 : (a b : List ℕ) → a ++ (b ++ []) ≡ a ++ b
 regroup_2 a b = simp append-nil
 
 -- ---- rows
 
--- a lawful row of the item, whose columns are still within the limit if `before` of them came before
+-- a lawful row of the item; with its columns, and `before` of them before, a pack has at most 524,288
 pub record FitsRow (s : VariableSpace) (item before : ℕ) (r : Row) : Type 0 where
+  -- the row is of this item and lawful
   pub item_is : r.item ≡ item
   pub lawful : IsLawfulRow s r
+  -- with the columns before it, the columns are no more than allowed
   pub room : before + length r.columns ≤ most
 
--- the reader of a row reads exactly the bytes of a lawful row, if it doesn't bring too many columns
+-- the reader of a row reads exactly the bytes of a lawful row of the item that doesn't bring too many columns: how many
+-- columns it has, which is limited by both `MOST_COLUMNS` and the room left, and then these columns
 pub row_reads : (s : VariableSpace) (item before : ℕ) → IsSpace s → before ≤ most →
     Reads (FitsRow s item before) row_bytes (read_row s item before)
 unfolding read_row
@@ -67,13 +70,15 @@ row_reads s item before i le =
     ))
     (λ r h. regroup_2 (to_be_bytes w16 (length r.columns)) (flat_map column_bytes r.columns))
 
--- lawful rows of the items in their order, whose columns are still within the limit
+-- lawful rows of the items in their order; with their columns, and `before` of them before, a pack has at most 524,288
 pub record FitRows (s : VariableSpace) (items : List ℕ) (before : ℕ) (rs : List Row) : Type 0 where
+  -- the rows are of these items and lawful
   pub items_are : items_of rs ≡ items
   pub lawful : AllByRecursion (IsLawfulRow s) rs
+  -- with the columns before them, their columns are no more than allowed
   pub room : before + column_count rs ≤ most
 
--- a row more adds its columns
+-- a row more at the front adds its columns
 count_more : (r : Row) (rs : List Row) → column_count (r ∷ rs) ≡ length r.columns + column_count rs
 count_more r rs = sum_by-cons (λ (q : Row). length q.columns) r rs
 
@@ -89,8 +94,8 @@ none_first a xs e = cc
 none_last : (a : ℕ) (xs : List ℕ) → [] ≡ a ∷ xs → ⊥
 none_last a xs e = cc
 
--- The reader of rows reads exactly the bytes of lawful rows of these items.
--- `each_reads` walks through the items with the number of columns so far, which stays within the limit.
+-- The reader of rows reads exactly the bytes of lawful rows of these items. `each_reads` goes from item to item with the
+-- number of columns so far; its invariant is that this is within the limit.
 pub rows_reads : (s : VariableSpace) (items : List ℕ) (before : ℕ) → IsSpace s → before ≤ most →
     Reads (FitRows s items before) (flat_map row_bytes) (read_rows s items before)
 unfolding read_rows
@@ -120,7 +125,7 @@ rows_reads s items before i le =
 abbrev Parts : List Row → ℕ → ℕ → List Row
 Parts rs n m = take n rs ++ (take m (drop n rs) ++ drop m (drop n rs))
 
--- the three parts, one behind the other, are all rows
+-- the three parts, one after another, are all rows
 parts_again : (rs : List Row) (n m : ℕ) → Parts rs n m ≡ rs
 parts_again rs n m = ap (λ (xs : List Row). take n rs ++ xs) (take-append-drop m (drop n rs)) ∙ take-append-drop n rs
 
@@ -134,13 +139,13 @@ items-take zero rs = refl
 items-take (suc n) [] = refl
 items-take (suc n) (r ∷ rs) = ap (λ (xs : List ℕ). r.item ∷ xs) (items-take n rs)
 
--- the items of the other rows are the other items
+-- the items of the rows from place n on are the items from there on
 items-drop : (n : ℕ) (rs : List Row) → items_of (drop n rs) ≡ drop n (items_of rs)
 items-drop zero rs = refl
 items-drop (suc n) [] = refl
 items-drop (suc n) (r ∷ rs) = items-drop n rs
 
--- given rows whose items are those of three lists, one behind the other
+-- given rows whose items are those of three lists, one after another
 module _ (rs : List Row) (s t u : List ℕ) (e : items_of rs ≡ s ++ (t ++ u)) where
   -- the first rows have the items of the first list
   first_part : items_of (take (length s) rs) ≡ s
@@ -158,7 +163,8 @@ module _ (rs : List Row) (s t u : List ℕ) (e : items_of rs ≡ s ++ (t ++ u)) 
   third_part : items_of (drop (length t) (drop (length s) rs)) ≡ u
   third_part = items-drop (length t) (drop (length s) rs) ∙ ap (drop (length t)) behind ∙ drop-append_seam t u
 
--- lawful rows for the items of a node make the table of the node
+-- lawful rows of the items of a node make a table of the node: the parts of the row list are the rows of the starts, of
+-- the sends and of the hears
 pub made_table : (h : Head) (a : ℕ) (rs : List Row) → items_of rs ≡ items_of_node h a →
     All (IsLawfulRow (space_of h)) rs →
     IsTableOf h a (table_from h a rs)
@@ -172,14 +178,14 @@ made_table h a rs e all = record {
   lawful = subst (All (IsLawfulRow (space_of h))) (sym (rows_again h a rs)) all;
 }
 
--- the rows of a node's table are for the items of the node
+-- the rows of a node's table are of the items of the node, in their order
 pub table_items : (h : Head) (a : ℕ) (t : NodeTable) → IsTableOf h a t → items_of (rows_of t) ≡ items_of_node h a
 table_items h a t q =
     map-append (λ (r : Row). r.item) t.starts (t.sends ++ t.hears)
     ∙ ap₂ (λ (x : List ℕ) (y : List ℕ). x ++ y) q.starts
     (map-append (λ (r : Row). r.item) t.sends t.hears ∙ ap₂ (λ (x : List ℕ) (y : List ℕ). x ++ y) q.sends q.hears)
 
--- a table is made of its parts
+-- a table is the record of parts that equal its own
 same_table : (t : NodeTable) (f b : ℕ) (o : List Own) (x y z : List Row) → f ≡ t.faults → b ≡ t.first_broadcast →
     o ≡ t.own → x ≡ t.starts → y ≡ t.sends → z ≡ t.hears
     → t ≡ record { faults = f; first_broadcast = b; own = o; starts = x; sends = y; hears = z }
@@ -193,7 +199,7 @@ starts_again n x y e = rw e (take-append_seam x y)
 rest_again : (n : ℕ) (x y : List Row) → n ≡ length x → drop n (x ++ y) ≡ y
 rest_again n x y e = rw e (drop-append_seam x y)
 
--- the table of a node is the one that its rows make
+-- the table of a node is the one that its rows make: cut by the numbers of starts and sends, they are its three parts
 pub table_again : (h : Head) (a : ℕ) (t : NodeTable) → IsTableOf h a t → t ≡ table_from h a (rows_of t)
 table_again h a t q =
     let n : length (starts_of h a) ≡ length t.starts =
@@ -207,12 +213,15 @@ table_again h a t q =
     (ap (take (length (sends_of h a))) b ∙ starts_again (length (sends_of h a)) t.sends t.hears m)
     (ap (drop (length (sends_of h a))) b ∙ rest_again (length (sends_of h a)) t.sends t.hears m)
 
--- a lawful table of the node, whose columns are still within the limit
+-- a table of the node; with its columns, and `before` of them before, a pack has at most 524,288
 pub record FitsTable (h : Head) (a before : ℕ) (t : NodeTable) : Type 0 where
+  -- the table is one of this node
   pub lawful : IsTableOf h a t
+  -- with the columns before it, its columns are no more than allowed
   pub room : before + column_count (rows_of t) ≤ most
 
--- the reader of a node's table reads exactly the bytes of a lawful table with no more columns than are left
+-- the reader of a node's table reads exactly the bytes of a table of the node that doesn't bring too many columns: the
+-- rows of its items, of which the table is made again
 pub table_reads : (h : Head) (a before : ℕ) → IsSpace (space_of h) → before ≤ most →
     Reads (FitsTable h a before) table_bytes (read_node_table h a before)
 unfolding read_node_table
@@ -238,7 +247,7 @@ table_reads h a before i le =
 
 -- ---- all nodes
 
--- a value for each label, in their order
+-- a list has a value with the property P for each label, in their order, and no more
 abbrev pub AreFor : {L A : Type 0} → (L → A → Type 0) → List L → List A → Type 0
 AreFor P [] [] = Unit {0}
 AreFor P [] (x ∷ xs) = ⊥
@@ -249,12 +258,15 @@ AreFor P (l ∷ ls) (x ∷ xs) = P l x × AreFor P ls xs
 abbrev pub columns_of : NodeTable → ℕ
 columns_of t = column_count (rows_of t)
 
--- a lawful table for each label, whose columns are still within the limit
+-- a table for each node of the list; with their columns, and `before` of them before, a pack has at most 524,288
 pub record FitNodes (h : Head) (labels : List ℕ) (before : ℕ) (ts : List NodeTable) : Type 0 where
+  -- there is a lawful table for each label
   pub lawful : AreFor (IsTableOf h) labels ts
+  -- with the columns before them, their columns are no more than allowed
   pub room : before + sum_by columns_of ts ≤ most
 
--- the reader of the nodes reads exactly the bytes of a table for each node
+-- the reader of the nodes reads exactly the bytes of a table for each node, with at most 524,288 columns in all. By
+-- `each_reads`, with the number of columns so far
 pub nodes_reads : (h : Head) → IsSpace (space_of h) →
     Reads (FitNodes h (numbers_from 0 (length h.nodes)) 0) (flat_map table_bytes) (read_nodes h)
 unfolding read_nodes
@@ -275,7 +287,7 @@ nodes_reads h i =
     (numbers_from 0 (length h.nodes)) 0 (omega arith)
 
 module _ {A : Type 0} (P : ℕ → A → Type 0) (d : A) where
-  -- there are as many values as labels
+  -- there are as many values as labels, from i on
   pub for_count : (i n : ℕ) (xs : List A) → AreFor P (numbers_from i n) xs → length xs ≡ n
   unfolding numbers_from
   for_count i zero [] h = refl
@@ -283,7 +295,7 @@ module _ {A : Type 0} (P : ℕ → A → Type 0) (d : A) where
   for_count i (suc n) [] h = absurd h
   for_count i (suc n) (x ∷ xs) h = ap suc (for_count (suc i) n xs h.1)
 
-  -- each label's value stands at its place
+  -- the value at place j is that of the label i + j
   pub for_each : (i n : ℕ) (xs : List A) → AreFor P (numbers_from i n) xs → (j : ℕ) → j < n → P (i + j) (get_or xs j d)
   unfolding numbers_from
   for_each i zero xs h j lt = absurd (omega arith)
@@ -292,7 +304,7 @@ module _ {A : Type 0} (P : ℕ → A → Type 0) (d : A) where
   for_each i (suc n) (x ∷ xs) h (suc j) lt = let e : suc i + j ≡ i + suc j = omega arith in
       subst (λ (k : ℕ). P k (get_or xs j d)) e (for_each (suc i) n xs h.1 j (omega arith))
 
-  -- values that suit the labels at their places are values for the labels
+  -- values of which this holds, as many as there are labels, are a value for each label; by induction on the values
   pub for_from : (i n : ℕ) (xs : List A) → length xs ≡ n → ((j : ℕ) → j < n → P (i + j) (get_or xs j d)) →
       AreFor P (numbers_from i n) xs
   unfolding numbers_from
@@ -313,7 +325,7 @@ module _ {A : Type 0} (P : ℕ → A → Type 0) (d : A) where
 pub head_space : (h : Head) → IsHead h → IsSpace (space_of h)
 head_space h q = record { faults = q.faults; processes = q.few_processes; conditions = q.few_conditions }
 
--- tables for all nodes are tables of the head
+-- a table for each node, in order and not too many columns, are tables of the head
 nodes_to : (h : Head) (ts : List NodeTable) → FitNodes h (numbers_from 0 (length h.nodes)) 0 ts → AreTablesOf h ts
 nodes_to h ts q = record {
   count = for_count (IsTableOf h) empty_table 0 (length h.nodes) ts q.lawful;
@@ -322,7 +334,7 @@ nodes_to h ts q = record {
   few = omega (arith, q.room);
 }
 
--- tables of the head are tables for all nodes
+-- tables of the head are a table for each node, in order
 nodes_from : (h : Head) (ts : List NodeTable) → AreTablesOf h ts → FitNodes h (numbers_from 0 (length h.nodes)) 0 ts
 nodes_from h ts q = record {
   lawful = for_from (IsTableOf h) empty_table 0 (length h.nodes) ts q.count
@@ -331,7 +343,7 @@ nodes_from h ts q = record {
   room = omega (arith, q.few);
 }
 
--- the reader of tables reads exactly the spellings of lawful tables
+-- the reader of a pack reads exactly the spellings of lawful tables: the head, then the nodes under it
 pub tables_reads : Reads AreLawful spelling read_tables
 unfolding read_tables
 tables_reads =
@@ -345,7 +357,8 @@ tables_reads =
     (λ t q. (q.head, (nodes_from t.head t.nodes q.nodes, refl)))
     (λ t q. regroup_2 (head_bytes t.head) (flat_map table_bytes t.nodes))
 
--- rows that were read for the items of a node are the rows of the node
+-- rows that the grammar reads for the items of a node are the lawful rows of the node, as `rows_reads` says of what it
+-- takes
 pub rows_are_of : (h : Head) (a : ℕ) (s : VariableSpace) (items : List ℕ) (before : ℕ) (bytes : List ℕ) (rs : List Row)
     (rest : List ℕ) → IsSpace s → before ≤ most →
     s ≡ space_of h →
@@ -358,18 +371,18 @@ rows_are_of h a s items before bytes rs rest i le f g e =
           subst (λ (t : VariableSpace). All (IsLawfulRow t) rs) f (All-from_recursion (IsLawfulRow s) rs k.0.lawful);
     }
 
--- the rows of a node's table make that table
+-- a node's table is the one that its rows make, with rows that are equal to its own
 pub table_is : (h : Head) (a : ℕ) (t : NodeTable) (rs : List Row) → IsTableOf h a t → rows_of t ≡ rs →
     table_from h a rs ≡ t
 table_is h a t rs q e = ap (table_from h a) (sym e) ∙ sym (table_again h a t q)
 
--- tables that were read under a head are the tables of its nodes
+-- tables that the grammar reads under a head are lawful tables of its nodes
 pub tables_are_of : (h : Head) (s : VariableSpace) (bytes : List ℕ) (ts : List NodeTable) (rest : List ℕ) → IsSpace s →
     s ≡ space_of h → read_nodes h bytes ≡ Ok (ts, rest) →
     AreTablesOf h ts
 tables_are_of h s bytes ts rest i e r = nodes_to h ts ((nodes_reads h (subst IsSpace e i)).takes bytes ts rest r).0
 
--- the labels from i to n begin with i
+-- the numbers from i up to, but without, n begin with i
 pub numbers_more : (i n : ℕ) → i < n → numbers_from i (n - i) ≡ i ∷ numbers_from (i + 1) (n - (i + 1))
 unfolding numbers_from
 numbers_more i n lt =
@@ -377,7 +390,7 @@ numbers_more i n lt =
     let m : suc i ≡ i + 1 = omega arith in
     ap (numbers_from i) k ∙ ap (λ (j : ℕ). i ∷ numbers_from j (n - (i + 1))) m
 
--- after all n labels there are none
+-- from n on there are none
 pub numbers_none : (i n : ℕ) → n ≤ i → numbers_from i (n - i) ≡ []
 unfolding numbers_from
 numbers_none i n le = let k : n - i ≡ 0 = omega arith in ap (numbers_from i) k

@@ -1,4 +1,4 @@
--- Rows that were taken as they stand.
+-- Rows that were taken from bytes at once.
 use Rattle.std.proofs.Common.{◌≡◌, ℕ, ◌+◌, ◌≤◌, List, ◌++◌, length, Ok, ap, ◌∙◌}
 use Rattle.cpg_table.specs.Table.{Row}
 use Rattle.cpg_table.specs.Lawful.{IsLawfulRow}
@@ -7,7 +7,8 @@ use Rattle.cpg_codec.specs.Spelling.{row_bytes}
 use Rattle.cpg_codec.specs.Grammar.{IsSpace, most, read_row}
 use Rattle.cpg_codec.proofs.TableFields.{row_reads}
 
--- a lawful row that was taken from bytes is what the grammar reads
+-- if bytes begin with the spelling of a lawful row of the item, which doesn't bring too many columns, the grammar reads just
+-- it
 pub row_taken : (s : VariableSpace) (item before : ℕ) (r : Row) (bytes rest : List ℕ) → IsSpace s → before ≤ most →
     r.item ≡ item → IsLawfulRow s r →
     before + length r.columns ≤ most →

@@ -1,4 +1,4 @@
--- The laws of reading and spelling a pack.
+-- The laws of reading and spelling a pack, all from `tables_reads`.
 use Rattle.std.proofs.Common.{◌≡◌, ℕ, zero, suc, ◌+◌, ◌-◌, ◌<◌, ◌≤◌, List, [], ◌∷◌, ◌++◌, length, take, drop, Result}
 use Rattle.std.proofs.Common.{Ok, Err, refl, sym, ap, subst, ◌∙◌, append_assoc, arith, inl, inr, ◌⊎◌}
 use Rattle.std.proofs.lemmas.Bool.{cases_lt}
@@ -10,54 +10,55 @@ use Rattle.cpg_codec.specs.Grammar.{read_tables, whole, read}
 use Rattle.cpg_codec.specs.Packs.{AreLawful, BeginsPack, IsBadPack, OneValue, NoProperPrefix}
 use Rattle.cpg_codec.proofs.TableFields.{tables_reads}
 
--- a reading of all bytes that succeeds leaves none
+-- if all bytes are read as tables, the reader has left none
 whole_ok : (size : ℕ) (r : Result (Tables × List ℕ) ℕ) (t : Tables) → whole size r ≡ Ok t → r ≡ Ok (t, [])
 whole_ok size (Ok (u, [])) t e = let h : u ≡ t = cc in ap (λ (x : Tables). Ok (x, [])) h
 whole_ok size (Ok (u, b ∷ rest)) t e = absurd cc
 whole_ok size (Err left) t e = absurd cc
 
--- reading succeeds but leaves bytes, from place n on
+-- the reader has read tables, and a byte b at the place n and perhaps more are left
 abbrev Trails : ℕ → Result (Tables × List ℕ) ℕ → ℕ → Type 0
 Trails size r n = (t : Tables) × (b : ℕ) × (rest : List ℕ) × (r ≡ Ok (t, b ∷ rest)) × (n ≡ size - suc (length rest))
 
--- a refusal of all bytes comes from a refusal of the reader, or from bytes after the tables
+-- if all bytes are refused at the place n, the reader failed there, or it has read tables and left bytes from there on
 whole_err : (size : ℕ) (r : Result (Tables × List ℕ) ℕ) (n : ℕ) → whole size r ≡ Err n →
     ((left : ℕ) × (r ≡ Err left) × (n ≡ size - left)) ⊎ Trails size r n
 whole_err size (Ok (u, [])) n e = absurd cc
 whole_err size (Ok (u, b ∷ rest)) n e = inr (u, b, rest, refl, cc)
 whole_err size (Err left) n e = inl (left, refl, cc)
 
--- tables that are read from bytes are lawful, and the bytes are their spelling
+-- tables that all bytes are read as are lawful, and the bytes are their spelling
 pub read_is_spelled : (bytes : List ℕ) (t : Tables) → read bytes ≡ Ok t → AreLawful t × (bytes ≡ spelling t)
 unfolding read
 read_is_spelled bytes t e =
     let k = tables_reads.takes bytes t [] (whole_ok (length bytes) (read_tables bytes) t e) in
     (k.0, k.1 ∙ append-nil (spelling t))
 
--- bytes that begin with a spelling are read as its tables, and the rest is left
+-- bytes that begin with the spelling of lawful tables are read as these, and the rest is left
 read_front : (t : Tables) (rest bytes : List ℕ) → AreLawful t → bytes ≡ spelling t ++ rest →
     read_tables bytes ≡ Ok (t, rest)
 read_front t rest bytes h e = ap read_tables e ∙ tables_reads.again t rest h
 
--- the spelling of lawful tables is read as the tables
+-- the spelling of lawful tables is read as these, and nothing is left
 read_all : (t : Tables) (bytes : List ℕ) → AreLawful t → bytes ≡ spelling t → read_tables bytes ≡ Ok (t, [])
 read_all t bytes h e = read_front t [] bytes h (e ∙ sym (append-nil (spelling t)))
 
--- the spelling of lawful tables is read as these tables
+-- a reading of all bytes of a lawful spelling gives its tables
 pub spelled_is_read : (t : Tables) → AreLawful t → read (spelling t) ≡ Ok t
 unfolding read
 spelled_is_read t h = ap (whole (length (spelling t))) (read_all t (spelling t) h refl)
 
--- a reading that has read tables
+-- a success, with the type of the reader's error
 abbrev done : Tables × List ℕ → Result (Tables × List ℕ) ℕ
 done x = Ok x
 
--- equal readings have equal tables and leave the same
+-- equal successes have equal tables and leave the same
 ok_parts : (t u : Tables) (a b : List ℕ) → done (t, a) ≡ done (u, b) → (t ≡ u) × (a ≡ b)
 ok_parts t u a b e = let k : (t, a) ≡ (u, b) = cc in
     (ap (λ (x : Tables × List ℕ). x.0) k, ap (λ (x : Tables × List ℕ). x.1) k)
 
--- no spelling begins another, and a spelling has one value
+-- if a spelling is another one and a rest, the tables are equal and the rest is empty: the reader gives both from the same
+-- bytes
 pub one_spelling : (t u : Tables) (rest : List ℕ) → AreLawful t → AreLawful u → spelling t ≡ spelling u ++ rest →
     (t ≡ u) × (rest ≡ [])
 one_spelling t u rest ht hu e =
@@ -72,17 +73,22 @@ one_value t u ht hu e = (one_spelling t u [] ht hu (e ∙ sym (append-nil (spell
 pub no_proper_prefix : NoProperPrefix
 no_proper_prefix t u rest ht hu e = (one_spelling t u rest ht hu e).1
 
--- the bytes cut where no pack goes on
+-- the bytes cut at the place n: some pack begins with those before it, `good`; and no pack has, after these, the first of
+-- the others, `bad`, if there is one
 record Cut (bytes : List ℕ) (n : ℕ) : Type 0 where
+  -- a good part and what comes after it
   good : List ℕ
   bad : List ℕ
   parts : bytes ≡ good ++ bad
+  -- the failure is after the good part
   place : n ≡ length good
+  -- some pack begins with the good part
   begins : BeginsPack good
+  -- and none begins with the good part and one byte more
   ends : (b : ℕ) (tail : List ℕ) → bad ≡ b ∷ tail → (t : Tables) (rest : List ℕ) → AreLawful t →
       spelling t ≡ good ++ b ∷ rest → ⊥
 
--- bytes at which reading stops are cut there
+-- bytes at which the reader fails are cut there: it stops there (`stops` of `Reads`)
 cut_stopped : (bytes : List ℕ) (left n : ℕ) → read_tables bytes ≡ Err left → n ≡ length bytes - left → Cut bytes n
 cut_stopped bytes left n e k =
     let s = tables_reads.stops bytes left e in
@@ -97,7 +103,7 @@ cut_stopped bytes left n e k =
           sym (read_all t (s.good ++ b ∷ rest) f (sym p)) ∙ s.stays b tail rest h in cc;
     }
 
--- bytes that reading leaves are cut in front of them
+-- bytes that the reader leaves after tables are cut before them: a pack that went on would begin with another
 cut_trailing : (bytes : List ℕ) (n : ℕ) → Trails (length bytes) (read_tables bytes) n → Cut bytes n
 cut_trailing bytes n w =
     let k = tables_reads.takes bytes w.0 (w.1 ∷ w.2) w.3 in
@@ -112,22 +118,22 @@ cut_trailing bytes n w =
       ends = λ b tail h t rest f p. let q = one_spelling t w.0 (b ∷ rest) f k.0 p in let z : b ∷ rest ≡ [] = q.1 in cc;
     }
 
--- the front of the bytes up to the cut is the good part
+-- the first n bytes are the good ones
 take_good : (good bad : List ℕ) (n : ℕ) → n ≡ length good → take n (good ++ bad) ≡ good
 take_good good bad n e = rw e (take-append_seam good bad)
 
--- the front one byte longer than the good part is that part and one byte
+-- the first n + 1 bytes are the good ones and the next
 take_one : (good tail : List ℕ) (b n : ℕ) → n ≡ length good → take (n + 1) (good ++ b ∷ tail) ≡ good ++ b ∷ []
 take_one good tail b n e = rw e (take-append-add good (b ∷ tail) 1)
 
--- a longer front is a shorter one and more
+-- the first m bytes begin with the first n, if n is at most m; by induction
 take_again : (n m : ℕ) (bytes : List ℕ) → n ≤ m → take m bytes ≡ take n bytes ++ drop n (take m bytes)
 take_again zero m bytes le = refl
 take_again (suc n) zero bytes le = absurd (omega arith)
 take_again (suc n) (suc m) [] le = refl
 take_again (suc n) (suc m) (x ∷ xs) le = ap (λ (t : List ℕ). x ∷ t) (take_again n m xs (omega arith))
 
--- no pack begins with one byte more than the good ones, if no pack goes on after these
+-- no pack begins with the first n + 1 bytes, if none has the next byte after the good ones
 cut_ends : (bytes : List ℕ) (n : ℕ) (good bad : List ℕ) → bytes ≡ good ++ bad → n ≡ length good
     → ((b : ℕ) (tail : List ℕ) → bad ≡ b ∷ tail → (t : Tables) (rest : List ℕ) → AreLawful t →
     spelling t ≡ good ++ b ∷ rest → ⊥)
@@ -139,7 +145,7 @@ cut_ends bytes n good (b ∷ tail) parts place ends lt p =
     ends b tail refl p.0 p.1 p.2 (p.3 ∙ ap (λ (x : List ℕ). x ++ p.1)
     (ap (take (n + 1)) parts ∙ take_one good tail b n place) ∙ append_assoc good (b ∷ []) p.1)
 
--- if a front begins a pack, so does a shorter one
+-- if a pack begins with the first m bytes, it begins with fewer of them
 shorter : (n m : ℕ) (bytes : List ℕ) → n ≤ m → BeginsPack (take m bytes) → BeginsPack (take n bytes)
 shorter n m bytes le p = (
   p.0,
@@ -149,7 +155,8 @@ shorter n m bytes le p = (
       ∙ append_assoc (take n bytes) (drop n (take m bytes)) p.1,
 )
 
--- the place at which bytes are refused is the one from which they are no pack
+-- if bytes are refused at the place n and cut there, they are a bad pack as `IsBadPack` says: a longer prefix of a pack would
+-- have one byte more than the good ones
 cut_is : (bytes : List ℕ) (n : ℕ) → read bytes ≡ Err n → Cut bytes n → IsBadPack bytes n
 unfolding read
 cut_is bytes n e c =
@@ -166,7 +173,7 @@ cut_is bytes n e c =
       no_pack = λ t h p. let q : Ok t ≡ Err n = sym (ap (whole (length bytes)) (read_all t bytes h p)) ∙ e in cc;
     }
 
--- a refusal shows the place of the first byte that no pack can have
+-- bytes that are refused at the place n are a bad pack: they are cut there, whether the reader failed or left bytes
 pub refused_is_bad : (bytes : List ℕ) (n : ℕ) → read bytes ≡ Err n → IsBadPack bytes n
 unfolding read
 refused_is_bad bytes n e = elim (whole_err (length bytes) (read_tables bytes) n e) [

@@ -1,4 +1,4 @@
--- From what reading answers to what a pack is.
+-- What the answer of a reader of packs in code says of the bytes, if it agrees with the grammar (`Answers`).
 use Rattle.std.proofs.Common.{◌≡◌, ℕ, List, Result, Ok, Err, ap, ◌∙◌}
 use Rattle.std.specs.Prelude.{IfOk}
 use Rattle.cpg_table.specs.Lawful.{Tables}
@@ -10,21 +10,21 @@ use Rattle.cpg_codec.specs.declared.fault.PackFault.{PackFault}
 use Rattle.cpg_codec.specs.declared.fault.PackFault.TheVariants as faults
 use Rattle.cpg_codec.proofs.Theorems.{read_is_spelled, spelled_is_read, refused_is_bad}
 
--- tables that are read are lawful, and the bytes are their spelling
+-- tables that it answers are lawful, and the bytes are their spelling
 pub found : (bytes : List ℕ) (r : Result Tables PackFault) → Answers r (read bytes) →
     IfOk r (λ t. AreLawful t × (bytes ≡ spelling t))
 found bytes (Ok t) a = read_is_spelled bytes t a
 found bytes (Err e) a = tt
 
--- a reading gives one value
+-- a result has one value
 same : (t u : Tables) (r : Result Tables ℕ) → r ≡ Ok u → r ≡ Ok t → u ≡ t
 same t u r e f = cc
 
--- a reading isn't refused if it gives a value
+-- a result isn't both an error and a value
 not_both : (t : Tables) (n : ℕ) (r : Result Tables ℕ) → r ≡ Err n → r ≡ Ok t → ⊥
 not_both t n r e f = cc
 
--- bytes that spell tables are read as these tables, unless memory runs out
+-- if the bytes spell lawful tables, it answers these, unless memory runs out
 pub only : (bytes : List ℕ) (r : Result Tables PackFault) → Answers r (read bytes) → (t : Tables) → AreLawful t →
     bytes ≡ spelling t →
     UnlessMemory r (λ u. u ≡ t)
@@ -32,7 +32,7 @@ only bytes (Ok u) a t h e = same t u (read bytes) a (ap read e ∙ spelled_is_re
 only bytes (Err (faults.BadPack n)) a t h e = not_both t n (read bytes) a (ap read e ∙ spelled_is_read t h)
 only bytes (Err faults.OutOfMemory) a t h e = tt
 
--- a refusal gives the length of the longest prefix that begins some pack
+-- the number of `BadPack` is the length of the longest prefix that begins some pack
 pub bad : (bytes : List ℕ) (r : Result Tables PackFault) → Answers r (read bytes) → OnBadPack r (IsBadPack bytes)
 bad bytes (Ok t) a = tt
 bad bytes (Err (faults.BadPack n)) a = refused_is_bad bytes n a

@@ -1,4 +1,4 @@
--- A head as its parts, and the processes with what version 2 says of them.
+-- A head and its parts, among them the processes with what version 2 adds to each (`Written`).
 use Rattle.std.proofs.Common.{◌≡◌, ℕ, zero, suc, ◌+◌, ◌<◌, ◌≤◌, Bool, true, false, cond, eqb, List, [], ◌∷◌, ◌++◌}
 use Rattle.std.proofs.Common.{length, get_or, map, Option, Some, None, refl, sym, ap, ap₂, subst, ◌∙◌, arith}
 use Rattle.std.specs.Prelude.{All, IfSome, is_some, unwrap_or, count_by, slice_get, option_and_then}
@@ -15,7 +15,7 @@ use Rattle.cpg_codec.specs.Spelling.{Written, written_by, written_with, written,
 use Rattle.cpg_codec.specs.Grammar.{limit, listed, head_from}
 use Rattle.cpg_codec.specs.Packs.{IsPackHead}
 
--- version 2 alone says it, within its limits
+-- what a version adds to a process is lawful: version 1 adds nothing, version 2 an extra within its limits
 abbrev pub IsExtraOf : ℕ → Option Extra → Type 0
 IsExtraOf version None = version ≡ 1
 IsExtraOf version (Some e) = (version ≡ 2) × IsExtra e
@@ -26,7 +26,7 @@ pub record IsWritten (version faults nodes : ℕ) (w : Written) : Type 0 where
   pub name : IsName w.process.name
   pub extra : IsExtraOf version w.extra
 
--- the process itself
+-- the process without what is added to it
 abbrev pub process_of : Written → HeadProcess
 process_of w = w.process
 
@@ -34,12 +34,12 @@ process_of w = w.process
 abbrev pub listed_of : Written → List Extra
 listed_of w = listed w.extra
 
--- how many of them have a condition
+-- how many of the written processes have a condition
 abbrev pub conditions_of : List Written → ℕ
 conditions_of [] = 0
 conditions_of (w ∷ ws) = bit w.process.condition + conditions_of ws
 
--- counting the conditions of written processes is counting those of the processes
+-- that is how many of the processes have one
 pub conditions_is : (ws : List Written) →
     conditions_of ws ≡ count_by (λ (p : HeadProcess). p.condition) (map process_of ws)
 conditions_is [] = refl
@@ -48,7 +48,7 @@ conditions_is (w ∷ ws) = ap (λ (n : ℕ). bit w.process.condition + n) (condi
 
 -- ---- from parts to a head
 
--- processes written with their extras are the same processes
+-- processes that are written with extras, whether these are enough or not, are still the same
 pub written_back : (ps : List HeadProcess) (es : List Extra) → map process_of (written_by ps es) ≡ ps
 written_back [] es = refl
 written_back (p ∷ ps) [] = ap (λ (qs : List HeadProcess). p ∷ qs) (written_back ps [])
@@ -60,12 +60,12 @@ written_count [] es = refl
 written_count (p ∷ ps) [] = ap suc (written_count ps [])
 written_count (p ∷ ps) (e ∷ es) = ap suc (written_count ps es)
 
--- in version 1 a process has no extras
+-- what version 1 lawfully adds is None
 pub none_of : (o : Option Extra) → IsExtraOf 1 o → o ≡ None
 none_of None h = refl
 none_of (Some e) h = absurd (omega (arith, h.0))
 
--- processes of version 1 are written without extras
+-- lawful written processes of version 1 are their processes, written without extras
 pub written_none : (k n : ℕ) (ws : List Written) → AllByRecursion (IsWritten 1 k n) ws →
     written_by (map process_of ws) [] ≡ ws
 written_none k n [] h = refl
@@ -74,13 +74,13 @@ written_none k n (w ∷ ws) h =
     ap₂ (λ (v : Written) (vs : List Written). v ∷ vs)
     (ap (λ (o : Option Extra). record { process = w.process; extra = o }) (sym e)) (written_none k n ws h.1)
 
--- one more process of version 2 is written with its extras
+-- a process of version 2 at the front is written with its extra, the first of the extras
 one_more : (p : HeadProcess) (o : Option Extra) (ps : List HeadProcess) (es : List Extra) → IsExtraOf 2 o →
     written_by (p ∷ ps) (listed o ++ es) ≡ record { process = p; extra = o } ∷ written_by ps es
 one_more p None ps es h = absurd (omega (arith, h))
 one_more p (Some e) ps es h = refl
 
--- processes of version 2 are written with their extras, in the same order
+-- lawful written processes of version 2 are their processes, written with their extras in the same order; by induction
 pub written_some : (k n : ℕ) (ws : List Written) → AllByRecursion (IsWritten 2 k n) ws →
     written_by (map process_of ws) (flat_map listed_of ws) ≡ ws
 written_some k n [] h = refl
@@ -88,7 +88,7 @@ written_some k n (w ∷ ws) h =
     one_more w.process w.extra (map process_of ws) (flat_map listed_of ws) h.0.extra
     ∙ ap (λ (vs : List Written). w ∷ vs) (written_some k n ws h.1)
 
--- a head that is made for a version has that version
+-- a head that is made for version 1 or 2 has that version
 pub version_made : (v k : ℕ) (ns : List (List ℕ)) (ws : List Written) (es : List (ℕ × ℕ)) → 1 ≤ v → v ≤ 2 →
     version_of (head_from v k ns ws es) ≡ v
 version_made zero k ns ws es a b = absurd (omega arith)
@@ -96,7 +96,7 @@ version_made (suc zero) k ns ws es a b = refl
 version_made (suc (suc zero)) k ns ws es a b = refl
 version_made (suc (suc (suc v))) k ns ws es a b = absurd (omega arith)
 
--- the written processes of a head are those it was made of
+-- the written processes of a head that is made of lawful ones are these
 pub written_made : (v k n : ℕ) (ns : List (List ℕ)) (ws : List Written) (es : List (ℕ × ℕ)) → 1 ≤ v → v ≤ 2 →
     AllByRecursion (IsWritten v k n) ws →
     written (head_from v k ns ws es) ≡ ws
@@ -105,20 +105,21 @@ written_made (suc zero) k n ns ws es a b h = written_none k n ws h
 written_made (suc (suc zero)) k n ns ws es a b h = written_some k n ws h
 written_made (suc (suc (suc v))) k n ns ws es a b h = absurd (omega arith)
 
--- the extras of one more process of version 2 are one more, and lawful
+-- if extras are n and lawful, so are n + 1 with that of a process of version 2 before them
 one_extra : (o : Option Extra) (es : List Extra) (n : ℕ) → IsExtraOf 2 o → length es ≡ n → AllByRecursion IsExtra es →
     (length (listed o ++ es) ≡ suc n) × AllByRecursion IsExtra (listed o ++ es)
 one_extra None es n h q all = absurd (omega (arith, h))
 one_extra (Some e) es n h q all = (ap suc q, (h.1, all))
 
--- the extras of written processes of version 2 are one for each, and lawful
+-- lawful written processes of version 2 have an extra each, which is lawful; by induction
 extras_are : (k n : ℕ) (ws : List Written) → AllByRecursion (IsWritten 2 k n) ws →
     (length (flat_map listed_of ws) ≡ length ws) × AllByRecursion IsExtra (flat_map listed_of ws)
 extras_are k n [] h = (refl, tt)
 extras_are k n (w ∷ ws) h = let r = extras_are k n ws h.1 in
     one_extra w.extra (flat_map listed_of ws) (length ws) h.0.extra r.0 r.1
 
--- a head that is made of lawful processes has lawful extras, if it has any
+-- a head that is made of lawful written processes has lawful extras, one for each process, if it has any; it has any if
+-- the version is 2
 extras_made : (v k n : ℕ) (ns : List (List ℕ)) (ws : List Written) (es : List (ℕ × ℕ)) → v ≤ 2 →
     AllByRecursion (IsWritten v k n) ws →
     IfSome (head_from v k ns ws es).extras (AreExtras (length (map process_of ws)))
@@ -132,20 +133,20 @@ extras_made (suc (suc zero)) k n ns ws es b h =
     }
 extras_made (suc (suc (suc v))) k n ns ws es b h = absurd (omega arith)
 
--- the processes of lawful written processes are lawful, and have names
+-- the processes of lawful written ones are lawful, with well-formed names
 processes_made : (v k n : ℕ) (ws : List Written) → AllByRecursion (IsWritten v k n) ws →
     AllByRecursion (IsHeadProcess k n) (map process_of ws) ×
     AllByRecursion (λ (p : HeadProcess). IsName p.name) (map process_of ws)
 processes_made v k n [] h = (tt, tt)
 processes_made v k n (w ∷ ws) h = let r = processes_made v k n ws h.1 in ((h.0.process, r.0), (h.0.name, r.1))
 
--- the processes after `ones` processes with a condition, one for each label
+-- `count` lawful written processes after `ones` with a condition; with them at most 32 have one
 pub record AreProcesses (version faults nodes count ones : ℕ) (ws : List Written) : Type 0 where
   pub count_is : length ws ≡ count
   pub each : AllByRecursion (IsWritten version faults nodes) ws
   pub conditions : ones + conditions_of ws ≤ 32
 
--- lawful parts make a lawful head
+-- lawful parts make a lawful head; each limit of the head is a premise
 pub made_lawful : (v k : ℕ) (ns : List (List ℕ)) (ws : List Written) (es : List (ℕ × ℕ)) → v ≤ 2 → k ≤ 8 →
     length ns ≤ 16 → AllByRecursion IsName ns →
     length ws ≤ 128 →
@@ -171,7 +172,7 @@ made_lawful v k ns ws es newest few nodes names processes each edges ends =
 
 -- ---- from a head to its parts
 
--- the extras of processes written with them are these extras
+-- if there is an extra for each process, those of the processes that are written with them are these
 extras_back : (ps : List HeadProcess) (es : List Extra) → length es ≡ length ps →
     flat_map listed_of (written_by ps es) ≡ es
 extras_back [] [] e = refl
@@ -179,7 +180,7 @@ extras_back [] (x ∷ es) e = absurd (omega (arith, e))
 extras_back (p ∷ ps) [] e = absurd (omega (arith, e))
 extras_back (p ∷ ps) (x ∷ es) e = ap (λ (xs : List Extra). x ∷ xs) (extras_back ps es (omega (arith, e)))
 
--- a head is made of its parts, with or without extras
+-- a head is made of its parts: in version 1 of its processes alone, in version 2 of these with their extras
 head_of_parts : (k : ℕ) (ns : List (List ℕ)) (ps : List HeadProcess) (es : List (ℕ × ℕ)) (o : Option (List Extra)) →
     IfSome o (AreExtras (length ps))
     → record {
@@ -205,14 +206,15 @@ head_of_parts k ns ps es (Some xs) h =
 pub head_again : (h : Head) → IsHead h → h ≡ head_from (version_of h) h.faults h.nodes (written h) h.edges
 head_again h q = head_of_parts h.faults h.nodes h.processes h.edges h.extras q.extras
 
--- processes written without extras are lawful for version 1
+-- lawful processes with well-formed names, written without extras, are lawful for version 1
 each_none : (k n : ℕ) (ps : List HeadProcess) → AllByRecursion (IsHeadProcess k n) ps →
     AllByRecursion (λ (p : HeadProcess). IsName p.name) ps →
     AllByRecursion (IsWritten 1 k n) (written_by ps [])
 each_none k n [] h names = tt
 each_none k n (p ∷ ps) h names = (record { process = h.0; name = names.0; extra = refl }, each_none k n ps h.1 names.1)
 
--- processes written with one lawful extra each are lawful for version 2
+-- lawful processes with well-formed names, written with a lawful extra each, are lawful for version 2; by induction on
+-- both lists
 each_some : (k n : ℕ) (ps : List HeadProcess) (es : List Extra) → length es ≡ length ps →
     AllByRecursion (IsHeadProcess k n) ps →
     AllByRecursion (λ (p : HeadProcess). IsName p.name) ps →
@@ -225,7 +227,7 @@ each_some k n (p ∷ ps) (x ∷ es) e h names all = (
   each_some k n ps es (omega (arith, e)) h.1 names.1 all.1,
 )
 
--- processes written with the extras of a head are lawful for its version
+-- lawful processes with well-formed names, written with the extras of a head or none, are lawful for its version
 each_of : (k n : ℕ) (ps : List HeadProcess) (o : Option (List Extra)) → IfSome o (AreExtras (length ps)) →
     AllByRecursion (IsHeadProcess k n) ps →
     AllByRecursion (λ (p : HeadProcess). IsName p.name) ps
@@ -233,7 +235,8 @@ each_of : (k n : ℕ) (ps : List HeadProcess) (o : Option (List Extra)) → IfSo
 each_of k n ps None q h names = each_none k n ps h names
 each_of k n ps (Some es) q h names = each_some k n ps es q.count h names (recursion_from_All IsExtra es q.each)
 
--- the written processes of a lawful head are lawful
+-- the written processes of a lawful head are lawful: as many as the head has, each lawful, and with at most 32
+-- conditions
 pub head_processes : (h : Head) → IsPackHead h →
     AreProcesses (version_of h) h.faults (length h.nodes) (length h.processes) 0 (written h)
 head_processes h q = record {
@@ -249,18 +252,18 @@ head_processes h q = record {
       omega (arith, c, b, q.within.few_conditions);
 }
 
--- a version is 1 or 2
+-- a version is 1 or 2, by whether there are extras
 version_either : (b : Bool) → (1 ≤ cond b 2 1) × (cond b 2 1 ≤ 2)
 version_either true = (omega arith, omega arith)
 version_either false = (omega arith, omega arith)
 
--- a version is 1 or 2
+-- the version of a head is 1 or 2
 pub version_within : (h : Head) → (1 ≤ version_of h) × (version_of h ≤ 2)
 version_within h = version_either (is_some h.extras)
 
--- ---- counts that are 0 if there is none below
+-- ---- counts that are 0 if there is nothing to refer to
 
--- a limit above 0 shows that there are things to refer to
+-- if a number above 0 is within the limit, there is something to refer to
 pub limit_some : (below most n : ℕ) → n ≤ limit below most → 0 < n → 0 < below
 limit_some zero most n le some = absurd (omega arith)
 limit_some (suc below) most n le some = omega arith
@@ -270,7 +273,7 @@ pub limit_most : (below most : ℕ) → limit below most ≤ most
 limit_most zero most = omega arith
 limit_most (suc below) most = omega arith
 
--- a number is within the limit, if a number above 0 needs something to refer to
+-- a number up to the most is within the limit, if there is something to refer to whenever it is above 0
 pub limit_from : (below most n : ℕ) → n ≤ most → (0 < n → 0 < below) → n ≤ limit below most
 limit_from zero most zero le some = omega arith
 limit_from zero most (suc n) le some = absurd (let h : 0 < 0 = some (omega arith) in omega arith)
@@ -299,14 +302,14 @@ edges_limit h q = limit_from (length h.processes) 256 (length h.edges) q.few_edg
 
 -- ---- one process after another
 
--- without extras the written process at a place has none
+-- written without extras, the process at a place has none
 at_none : (ps : List HeadProcess) (i : ℕ) (p : HeadProcess) (d : Written) → i < length ps → p ≡ get_or ps i p →
     record { process = p; extra = None } ≡ get_or (written_by ps []) i d
 at_none [] i p d lt e = absurd (omega arith)
 at_none (q ∷ ps) zero p d lt e = ap (λ (r : HeadProcess). record { process = r; extra = None }) e
 at_none (q ∷ ps) (suc i) p d lt e = at_none ps i p d (omega arith) e
 
--- the written process at a place has the process and the extras of that place
+-- written with an extra each, the process at a place has the extra of that place
 at_some : (ps : List HeadProcess) (es : List Extra) (i : ℕ) (p : HeadProcess) (o : Option Extra) (d : Written) →
     length es ≡ length ps → i < length ps → p ≡ get_or ps i p →
     o ≡ slice_get es i
@@ -317,7 +320,7 @@ at_some (q ∷ ps) (x ∷ es) zero p o d n lt e f =
     ap₂ (λ (r : HeadProcess) (s : Option Extra). record { process = r; extra = s }) e f
 at_some (q ∷ ps) (x ∷ es) (suc i) p o d n lt e f = at_some ps es i p o d (omega (arith, n)) (omega arith) e f
 
--- the written process at a place has the extras of that place, if there are any
+-- written with the extras of a head or none, the process at a place has the extra of that place, if there are extras
 at_either : (ps : List HeadProcess) (xs : Option (List Extra)) (i : ℕ) (p : HeadProcess) (o : Option Extra)
     (d : Written) → IfSome xs (AreExtras (length ps)) → i < length ps →
     p ≡ get_or ps i p →
@@ -327,7 +330,7 @@ at_either ps None i p o d q lt e f =
     ap (λ (s : Option Extra). record { process = p; extra = s }) f ∙ at_none ps i p d lt e
 at_either ps (Some es) i p o d q lt e f = at_some ps es i p o d q.count lt e f
 
--- the written process at a place has the process and the extras of that place
+-- the written process of a head at a place is the process of that place with its extra
 pub written_at : (h : Head) (i : ℕ) (p : HeadProcess) (o : Option Extra) → IsHead h → i < length h.processes →
     p ≡ get_or h.processes i p →
     o ≡ extra_at h i →
@@ -340,13 +343,13 @@ written_length h = written_count h.processes (unwrap_or h.extras [])
 
 -- ---- processes and extras as they are read
 
--- without extras one more process is one more written process
+-- written without extras, one more process at the end is one more written process there
 push_none : (ps : List HeadProcess) (p : HeadProcess) →
     written_by (ps ++ p ∷ []) [] ≡ written_by ps [] ++ written_with p None ∷ []
 push_none [] p = refl
 push_none (q ∷ ps) p = ap (λ (ws : List Written). written_with q None ∷ ws) (push_none ps p)
 
--- a process with extras at the end is one more written process
+-- if each process has an extra, one more process and one more extra at the end are one more written process there
 push_some : (ps : List HeadProcess) (es : List Extra) (p : HeadProcess) (e : Extra) → length es ≡ length ps →
     written_by (ps ++ p ∷ []) (es ++ e ∷ []) ≡ written_by ps es ++ written_with p (Some e) ∷ []
 push_some [] [] p e n = refl
@@ -355,7 +358,7 @@ push_some (q ∷ ps) [] p e n = absurd (omega (arith, n))
 push_some (q ∷ ps) (x ∷ es) p e n =
     ap (λ (ws : List Written). written_with q (Some x) ∷ ws) (push_some ps es p e (omega (arith, n)))
 
--- a process and its extras at the end are one more written process
+-- the same for both versions: b says whether there are extras
 pub written_push : (b : Bool) (ps : List HeadProcess) (es : List Extra) (p : HeadProcess) (o : Option Extra) →
     is_some o ≡ b →
     length es ≡ cond b (length ps) 0 →
@@ -366,7 +369,7 @@ written_push false ps es p (Some e) k n = absurd cc
 written_push false ps [] p None k n = push_none ps p
 written_push false ps (x ∷ es) p None k n = absurd (omega (arith, n))
 
--- with one more process there still are extras for all processes, or for none
+-- with one more process there is still an extra for each process, or for none
 pub kept_push : (b : Bool) (ps : List HeadProcess) (es : List Extra) (p : HeadProcess) (o : Option Extra) →
     is_some o ≡ b →
     length es ≡ cond b (length ps) 0 →
@@ -380,7 +383,8 @@ kept_push false ps es p None k n = let a = length-append es (listed None) in ome
 
 -- ---- a head from its parts
 
--- a head without extras that is made of lawful parts is within its limits
+-- if lawful parts make a head, the head of the same parts without extras is within its limits: its processes are those
+-- that were written (`written_back`)
 pub plain_head : (v k : ℕ) (ns : List (List ℕ)) (ps : List HeadProcess) (xs : List Extra) (es : List (ℕ × ℕ)) →
     IsPackHead (head_from v k ns (written_by ps xs) es) →
     IsHead (record { faults = k; nodes = ns; processes = ps; edges = es; extras = None })
@@ -398,7 +402,7 @@ plain_head v k ns ps xs es q =
       extras = tt;
     })
 
--- in version 2 the extras of lawful written processes are lawful
+-- if the parts of version 2 make a lawful head, their extras are lawful, one for each process
 two_extras : (k : ℕ) (ns : List (List ℕ)) (ps : List HeadProcess) (xs : List Extra) (es : List (ℕ × ℕ)) →
     length xs ≡ length ps →
     IsPackHead (head_from 2 k ns (written_by ps xs) es) →
@@ -410,7 +414,7 @@ two_extras k ns ps xs es n q =
     (subst (λ (qs : List HeadProcess). AreExtras (length qs) (flat_map listed_of (written_by ps xs)))
     (written_back ps xs) e)
 
--- a head of version 2 that is made of lawful parts has lawful extras for its processes
+-- the same for a version that is 2
 pub made_extras : (v k : ℕ) (ns : List (List ℕ)) (ps : List HeadProcess) (xs : List Extra) (es : List (ℕ × ℕ)) → v ≡ 2 →
     length xs ≡ cond (eqb v 2) (length ps) 0 →
     IsPackHead (head_from v k ns (written_by ps xs) es) → AreExtras (length ps) xs
@@ -418,7 +422,8 @@ made_extras v k ns ps xs es e n q =
     two_extras k ns ps xs es (subst (λ (u : ℕ). length xs ≡ cond (eqb u 2) (length ps) 0) e n)
     (subst (λ (u : ℕ). IsPackHead (head_from u k ns (written_by ps xs) es)) e q)
 
--- the parts of a head of version 1 join to the head that is made of them
+-- in any version but 2 the head of the parts is the one without extras, as the written processes give back the
+-- processes (`written_back`)
 pub joined_one : (v k : ℕ) (ns : List (List ℕ)) (ps : List HeadProcess) (xs : List Extra) (es : List (ℕ × ℕ)) →
     (v ≡ 2 → ⊥) →
     record {
@@ -439,7 +444,8 @@ joined_one v k ns ps xs es e =
     })
     (sym (written_back ps xs)) (sym f)
 
--- the parts of a head of version 2 join to the head that is made of them
+-- in version 2 the head of the parts is the one with their extras, as the written processes give back both
+-- (`written_back`, `extras_back`)
 joined_some : (k : ℕ) (ns : List (List ℕ)) (ps : List HeadProcess) (xs : List Extra) (es : List (ℕ × ℕ)) →
     length xs ≡ length ps →
     record {
@@ -458,7 +464,7 @@ joined_some k ns ps xs es n =
       extras = Some ys;
     }) (sym (written_back ps xs)) (sym (extras_back ps xs n))
 
--- the parts of a head of version 2 join to the head that is made of them
+-- the same for a version that is 2; the number of extras is then that of the processes
 pub joined_two : (v k : ℕ) (ns : List (List ℕ)) (ps : List HeadProcess) (xs : List Extra) (es : List (ℕ × ℕ)) → v ≡ 2 →
     length xs ≡ cond (eqb v 2) (length ps) 0
     → record {

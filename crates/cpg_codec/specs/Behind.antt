@@ -5,7 +5,8 @@ use Rattle.cpg_head.specs.Head.{Head}
 use Rattle.cpg_codec.specs.Reading.{Reader, pure, ◌>>=◌, read_number, within, read_repeated}
 use Rattle.cpg_codec.specs.Grammar.{read_small, limit, read_processes, read_edge, head_from}
 
--- the processes and the edges, after the names of the nodes
+-- reads the processes and the edges, and gives the whole head: `version`, `faults`, `names` and how many `nodes` there
+-- are were read before
 unfoldable pub behind_names : ℕ → ℕ → ℕ → List (List ℕ) → Reader Head
 behind_names version faults nodes names = do
   count ← read_small 0 (limit nodes MOST_PROCESSES)

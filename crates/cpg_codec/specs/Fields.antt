@@ -1,7 +1,7 @@
--- The fields of a record of bytes.
+-- Numbers in a record of bytes.
 use Rattle.std.specs.Prelude.{ℕ, ◌+◌, ◌*◌, List, take, drop, fold}
 
--- the number that bytes spell, the most significant first
+-- the number that bytes spell in big-endian order
 abbrev pub big_number : List ℕ → ℕ
 big_number bytes = fold (λ n b. n * 256 + b) 0 bytes
 

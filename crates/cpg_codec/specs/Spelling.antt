@@ -1,4 +1,4 @@
--- The one spelling of tables.
+-- The one spelling of tables. Numbers of more than one byte are big-endian.
 use Rattle.std.specs.Prelude.{ℕ, Bool, List, [], ◌∷◌, ◌++◌, length, Option, Some, None, unwrap_or, if◌then◌else◌}
 use Rattle.std.specs.List.{flat_map}
 use Rattle.std.specs.Int.{w16, w32, w64, to_be_bytes}
@@ -10,7 +10,7 @@ use Rattle.cpg_table.specs.Table.{Row, NodeTable}
 use Rattle.cpg_cube.specs.declared.column.Column.{Column}
 use Rattle.cpg_table.specs.Lawful.{Tables, rows_of}
 
--- the text CPGT
+-- the four letters CPGT as one number
 abbrev pub magic : ℕ
 magic = 0x43504754
 
@@ -18,7 +18,7 @@ magic = 0x43504754
 abbrev pub byte : ℕ → List ℕ
 byte n = n ∷ []
 
--- 1 if something holds, and 0 if not
+-- a truth value as 1 or 0
 abbrev pub bit : Bool → ℕ
 bit b = if b then 1 else 0
 
@@ -26,41 +26,41 @@ bit b = if b then 1 else 0
 abbrev pub name_bytes : List ℕ → List ℕ
 name_bytes text = byte (length text) ++ text
 
--- a process without a deadline of its own has eight bytes ff
+-- the number that is written for an own deadline; without one 2^64 - 1, eight bytes ff
 abbrev pub deadline_number : Option ℕ → ℕ
 deadline_number None = 18446744073709551615
 deadline_number (Some d) = d
 
--- what version 2 adds to a process
+-- what version 2 adds to a process: its release and its own deadline
 abbrev pub extra_bytes : Option Extra → List ℕ
 extra_bytes None = []
 extra_bytes (Some e) = to_be_bytes w64 e.release ++ to_be_bytes w64 (deadline_number e.deadline)
 
--- a process, with what version 2 adds to it
+-- a process with what version 2 adds to it; None in version 1
 pub record Written : Type 0 where
   pub process : HeadProcess
   pub extra : Option Extra
 
--- a process with what version 2 adds to it, if it does
+-- a process with this addition
 abbrev pub written_with : HeadProcess → Option Extra → Written
 written_with p o = record { process = p; extra = o }
 
--- processes, each with its element of a list, which may be too short
+-- each process with the addition at its place; with None if the list of additions is too short
 abbrev pub written_by : List HeadProcess → List Extra → List Written
 written_by [] es = []
 written_by (p ∷ ps) [] = record { process = p; extra = None } ∷ written_by ps []
 written_by (p ∷ ps) (e ∷ es) = record { process = p; extra = Some e } ∷ written_by ps es
 
--- the processes of a head
+-- the processes of a head with what version 2 adds to each; a head of version 1 has no extras
 abbrev pub written : Head → List Written
 written h = written_by h.processes (unwrap_or h.extras [])
 
--- a process: its name, its node, its condition flag, its times, and what version 2 adds
+-- a process: its name, its node, 1 if it has a condition, its times, and what version 2 adds
 abbrev pub process_bytes : Written → List ℕ
 process_bytes w = name_bytes w.process.name ++ byte w.process.node ++ byte (bit w.process.condition)
     ++ flat_map (to_be_bytes w64) w.process.times ++ extra_bytes w.extra
 
--- an edge: the processes that it leads from and to
+-- an edge: the process that it leads from, and the one that it leads to
 abbrev pub edge_bytes : ℕ × ℕ → List ℕ
 edge_bytes e = byte e.0 ++ byte e.1
 
@@ -72,7 +72,7 @@ head_bytes h =
     ++ byte (length h.processes) ++ flat_map process_bytes (written h)
     ++ to_be_bytes w16 (length h.edges) ++ flat_map edge_bytes h.edges
 
--- a literal: its variable, and the ends of its range
+-- a literal: its variable, and the least and the greatest number of its range
 abbrev pub literal_bytes : Literal → List ℕ
 literal_bytes l = byte l.variable ++ byte l.low ++ byte l.high
 

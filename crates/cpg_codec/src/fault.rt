@@ -1,4 +1,4 @@
-//! Why tables weren't written or read.
+//! Why tables, or parts of them, weren't written or read.
 
 use cpg_base::OutOfMemory as NoMemory;
 use cpg_io::Failed;
@@ -8,7 +8,7 @@ use thiserror::Error;
 /// Why a pack wasn't written.
 #[derive(Clone, Copy, Debug, PartialEq, Eq, Error)]
 pub enum WriteFault {
-    /// The sink met a fault, and its count of faults rose.
+    /// The sink met a fault, and its count of faults rose or is at its greatest number.
     #[error("the sink met a fault")]
     Failed,
     /// Out of memory.
@@ -60,10 +60,11 @@ pub enum PackFault {
     OutOfMemory,
 }
 
-/// Why a field couldn't be read.
+/// Why a part of a pack couldn't be read.
 #[derive(Clone, Copy, Debug)]
 pub enum ReadError {
-    /// How many bytes are left from the first bad one on.
+    /// A byte is there that no pack has after those before it, or the bytes end too early. The number says how many are
+    /// left from that byte on: 0 if they end.
     Left(usize),
     /// Out of memory.
     Memory,
@@ -105,7 +106,7 @@ impl<T: Drop> From<AllocFailed<T>> for ReadError {
 /// Why rows weren't taken as they stand.
 #[derive(Clone, Copy, Debug)]
 pub enum Untaken {
-    /// They may be no rows of a pack: reading them field by field shows whether they are.
+    /// The bytes may be no lawful row: reading them field by field decides that, and finds the bad byte.
     Odd,
     /// Out of memory.
     Memory,

@@ -1,4 +1,7 @@
 //! Writing the head of a pack.
+//!
+//! Each function that takes a buffer puts bytes into it, which writes them to the sink whenever it is full. It fails
+//! only if the sink meets a fault.
 ghost use Rattle.std.specs.Prelude.{◌≡◌, ◌<◌, ◌≤◌, ◌++◌, All, length};
 ghost use Rattle.std.specs.List.{flat_map};
 ghost use Rattle.std.specs.Int.{w16, w64, to_be_bytes};
@@ -13,17 +16,18 @@ use cpg_base::Name;
 use cpg_head::{Extra, Head, HeadProcess};
 use cpg_io::{Failed, Sink};
 
-/// The bytes of a name, after how many there are.
+/// Puts the letters of a name, after their number.
 fn put_text<O: Sink>(buffer: &mut Buffer, sink: &mut O, text: &[u8]) -> Result<(), Failed>
     requires { length text.now ≤ 32 }
     ensures put { Puts (O.state sink.old).taken (O.state sink.new).taken buffer.old buffer.new result (name_bytes text.now) }
     ensures cause { HasCause (O.state sink.old).faults (O.state sink.new).faults result }
 {
+    // at most 32 letters, so their number fits a byte
     buffer.put(sink, &[text.len() as u8])?;
     buffer.put(sink, text)
 }
 
-/// A name.
+/// Puts a name.
 fn put_name<O: Sink>(buffer: &mut Buffer, sink: &mut O, name: &Name) -> Result<(), Failed>
     ensures put { Puts (O.state sink.old).taken (O.state sink.new).taken buffer.old buffer.new result (name_bytes name.now) }
     ensures cause { HasCause (O.state sink.old).faults (O.state sink.new).faults result }
@@ -31,7 +35,7 @@ fn put_name<O: Sink>(buffer: &mut Buffer, sink: &mut O, name: &Name) -> Result<(
     put_text(buffer, sink, name.as_str().as_bytes())
 }
 
-/// Names, one after another.
+/// Puts names, one after another.
 fn put_names<O: Sink>(buffer: &mut Buffer, sink: &mut O, names: &[Name]) -> Result<(), Failed>
     ensures put { Puts (O.state sink.old).taken (O.state sink.new).taken buffer.old buffer.new result (flat_map name_bytes names.now) }
     ensures cause { HasCause (O.state sink.old).faults (O.state sink.new).faults result }
@@ -42,7 +46,7 @@ fn put_names<O: Sink>(buffer: &mut Buffer, sink: &mut O, names: &[Name]) -> Resu
     Ok(())
 }
 
-/// Times, one after another.
+/// Puts times, one after another.
 fn put_times<O: Sink>(buffer: &mut Buffer, sink: &mut O, times: &[u64]) -> Result<(), Failed>
     ensures put { Puts (O.state sink.old).taken (O.state sink.new).taken buffer.old buffer.new result (flat_map (to_be_bytes w64) times.now) }
     ensures cause { HasCause (O.state sink.old).faults (O.state sink.new).faults result }
@@ -53,7 +57,7 @@ fn put_times<O: Sink>(buffer: &mut Buffer, sink: &mut O, times: &[u64]) -> Resul
     Ok(())
 }
 
-/// The number that stands for an own deadline, or for none.
+/// Returns the number that is written for an own deadline; without one the greatest, eight bytes ff.
 fn deadline_number(deadline: Option<u64>) -> u64
     ensures { result ≡ deadline_number deadline }
 {
@@ -63,7 +67,7 @@ fn deadline_number(deadline: Option<u64>) -> u64
     }
 }
 
-/// What version 2 adds to a process, if it adds anything.
+/// Puts what version 2 adds to a process: its release and its own deadline. For `None` it puts nothing.
 fn put_extra<O: Sink>(buffer: &mut Buffer, sink: &mut O, extra: Option<Extra>) -> Result<(), Failed>
     ensures put { Puts (O.state sink.old).taken (O.state sink.new).taken buffer.old buffer.new result (extra_bytes extra) }
     ensures cause { HasCause (O.state sink.old).faults (O.state sink.new).faults result }
@@ -75,14 +79,14 @@ fn put_extra<O: Sink>(buffer: &mut Buffer, sink: &mut O, extra: Option<Extra>) -
     put_long(buffer, sink, deadline_number(extra.deadline))
 }
 
-/// 1 if a process has a condition, and 0 if it has none.
+/// Returns 1 if a process has a condition, and 0 if not.
 fn bit_of(condition: bool) -> u8
     ensures { result ≡ bit condition }
 {
     if condition { 1 } else { 0 }
 }
 
-/// How long the executions take, and what version 2 adds.
+/// Puts how long the executions of a process take, and what version 2 adds to it.
 fn put_timing<O: Sink>(
     buffer: &mut Buffer,
     sink: &mut O,
@@ -97,7 +101,7 @@ fn put_timing<O: Sink>(
     put_extra(buffer, sink, extra)
 }
 
-/// A process, with what version 2 adds to it.
+/// Puts a process, with what version 2 adds to it.
 fn put_process<O: Sink>(
     buffer: &mut Buffer,
     sink: &mut O,
@@ -112,11 +116,12 @@ fn put_process<O: Sink>(
     ensures cause { HasCause (O.state sink.old).faults (O.state sink.new).faults result }
 {
     put_name(buffer, sink, &process.name)?;
+    // a node's number fits a byte
     buffer.put(sink, &[process.node as u8, bit_of(process.condition)])?;
     put_timing(buffer, sink, process.times.times(), extra)
 }
 
-/// What version 2 says of a process.
+/// Returns what version 2 adds to a process; `None` if the head is of version 1.
 fn extra_of(head: &Head, process: u32) -> Option<Extra>
     requires { process < length head.now.processes }
     ensures { result ≡ extra_at head.now process }
@@ -127,7 +132,7 @@ fn extra_of(head: &Head, process: u32) -> Option<Extra>
     }
 }
 
-/// The processes of a head, one after another.
+/// Puts the processes of a head, one after another.
 fn put_processes<O: Sink>(buffer: &mut Buffer, sink: &mut O, head: &Head) -> Result<(), Failed>
     ensures put { Puts (O.state sink.old).taken (O.state sink.new).taken buffer.old buffer.new result (flat_map process_bytes (written head.now)) }
     ensures cause { HasCause (O.state sink.old).faults (O.state sink.new).faults result }
@@ -141,19 +146,20 @@ fn put_processes<O: Sink>(buffer: &mut Buffer, sink: &mut O, head: &Head) -> Res
     Ok(())
 }
 
-/// Edges, one after another.
+/// Puts edges, one after another.
 fn put_edges<O: Sink>(buffer: &mut Buffer, sink: &mut O, edges: &[(u32, u32)]) -> Result<(), Failed>
     requires { All IsShortEdge edges.now }
     ensures put { Puts (O.state sink.old).taken (O.state sink.new).taken buffer.old buffer.new result (flat_map edge_bytes edges.now) }
     ensures cause { HasCause (O.state sink.old).faults (O.state sink.new).faults result }
 {
     for (from, to) in edges {
+        // both are numbers of processes, so they fit a byte
         buffer.put(sink, &[*from as u8, *to as u8])?;
     }
     Ok(())
 }
 
-/// How many edges there are, and these.
+/// Puts how many edges there are, and these.
 fn put_counted_edges<O: Sink>(
     buffer: &mut Buffer,
     sink: &mut O,
@@ -165,27 +171,30 @@ fn put_counted_edges<O: Sink>(
         ++ flat_map edge_bytes edges.now) }
     ensures cause { HasCause (O.state sink.old).faults (O.state sink.new).faults result }
 {
+    // at most 256 edges, so their number fits two bytes
     put_short(buffer, sink, edges.len() as u16)?;
     put_edges(buffer, sink, edges)
 }
 
-/// The processes and the edges.
+/// Puts the processes and the edges of a head, each list after its length.
 fn put_graph<O: Sink>(buffer: &mut Buffer, sink: &mut O, head: &Head) -> Result<(), Failed>
     ensures put { Puts (O.state sink.old).taken (O.state sink.new).taken buffer.old buffer.new result (byte (length head.now.processes) ++
         (flat_map process_bytes (written head.now) ++ (to_be_bytes w16 (length head.now.edges) ++ flat_map edge_bytes head.now.edges))) }
     ensures cause { HasCause (O.state sink.old).faults (O.state sink.new).faults result }
 {
+    // at most 128 processes, so their number fits a byte
     buffer.put(sink, &[head.processes().len() as u8])?;
     put_processes(buffer, sink, head)?;
     put_counted_edges(buffer, sink, head.edges())
 }
 
-/// The head.
+/// Puts a head.
 pub fn put_head<O: Sink>(buffer: &mut Buffer, sink: &mut O, head: &Head) -> Result<(), Failed>
     ensures put { Puts (O.state sink.old).taken (O.state sink.new).taken buffer.old buffer.new result (head_bytes head.now) }
     ensures cause { HasCause (O.state sink.old).faults (O.state sink.new).faults result }
 {
     let nodes = head.nodes();
+    // at most 16 nodes, so their number fits a byte
     let count = nodes.len() as u8;
     buffer.put(
         sink,

@@ -1,4 +1,7 @@
-//! Reading tables.
+//! Reading a whole pack.
+//!
+//! The functions that take the unread bytes fail with `Left` at the first byte that no pack has there, or with `Memory` if
+//! memory runs out; what was read up to then stays read.
 ghost use Rattle.std.specs.Prelude.{◌≡◌, ◌≤◌, ◌<◌, ◌+◌, ℕ, List, length, Ok, Err, IfOk};
 ghost use Rattle.cpg_table.specs.Lawful.{Tables, space_of};
 ghost use Rattle.cpg_codec.specs.Spelling.{spelling};
@@ -16,7 +19,7 @@ use cpg_head::Head;
 use cpg_table::{NodeItems, NodeTable, Tables, VariableSpace};
 use std::alloc::Global;
 
-/// The tables of all nodes.
+/// Reads the tables of all nodes of a head. `space` has the variables of that head.
 fn nodes_of(
     alloc: Global,
     unread: &mut Unread,
@@ -28,7 +31,9 @@ fn nodes_of(
     ensures { Gives (λ x. (x.items, unread.new)) result (read_nodes head.now unread.old) }
 {
     let mut nodes = Vec::new(alloc);
+    // how many columns were read so far: all tables together may have only so many
     let mut total: u64 = 0;
+    // at most 16 nodes
     let count = head.nodes().len() as u32;
     for node in 0..count {
         let items = NodeItems::of(alloc, head, node)?;
@@ -39,7 +44,7 @@ fn nodes_of(
     Ok(nodes)
 }
 
-/// Reads the head.
+/// Reads the head of a pack.
 fn next_head(alloc: Global, unread: &mut Unread) -> Result<Head, ReadError>
     ensures { Gives (λ x. (x, unread.new)) result (read_head unread.old) }
 {
@@ -49,7 +54,7 @@ fn next_head(alloc: Global, unread: &mut Unread) -> Result<Head, ReadError>
     Ok(head)
 }
 
-/// The tables of a pack, read from their head on.
+/// Reads a pack, and leaves the bytes after it unread.
 #[tactic(auto, unfolding(crate::specs::Grammar::read_tables))]
 fn tables_of(alloc: Global, unread: &mut Unread) -> Result<Tables, ReadError>
     ensures { Gives (λ x. (x, unread.new)) result (read_tables unread.old) }
@@ -60,7 +65,8 @@ fn tables_of(alloc: Global, unread: &mut Unread) -> Result<Tables, ReadError>
     Ok(Tables::of(head, nodes))
 }
 
-/// The tables that all of the bytes spell, or why there are none.
+/// Returns the tables that the bytes as a whole spell; `BadPack` with the place of the first byte that no pack has there,
+/// or `OutOfMemory`.
 #[tactic(auto, unfolding(crate::specs::Grammar::read))]
 fn answer_of(alloc: Global, bytes: Vec<u8>) -> Result<Tables, PackFault>
     ensures { Answers result (read bytes.items) }
@@ -70,6 +76,7 @@ fn answer_of(alloc: Global, bytes: Vec<u8>) -> Result<Tables, PackFault>
     match tables_of(alloc, &mut unread) {
         Ok(tables) => {
             let rest = unread.rest();
+            // bytes after a pack: the first of them is bad. No more bytes are left than there were
             if !rest.is_empty() {
                 return Err(PackFault::BadPack(size.saturating_sub(rest.len()) as u64));
             }
@@ -80,10 +87,10 @@ fn answer_of(alloc: Global, bytes: Vec<u8>) -> Result<Tables, PackFault>
     }
 }
 
-/// The tables that all of the bytes spell.
+/// Returns the tables that the bytes as a whole spell.
 ///
-/// `BadPack` is returned exactly if they spell none, with the length of the longest prefix of them that is a prefix
-/// of some pack. The bytes are given back as they are read.
+/// `BadPack` only if they spell none, with the length of their longest prefix that is a prefix of some pack; the only
+/// other error is `OutOfMemory`. Memory is given back while the bytes are read.
 pub fn read_pack(alloc: Global, bytes: Vec<u8>) -> Result<Tables, PackFault>
     ensures found { IfOk result (λ t. AreLawful t × (bytes.items ≡ spelling t)) }
     ensures only { (t : Tables) → AreLawful t → bytes.items ≡ spelling t → UnlessMemory result (λ u. u ≡ t) }

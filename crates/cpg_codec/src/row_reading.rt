@@ -1,4 +1,8 @@
 //! Reading rows and their columns.
+//!
+//! Each function that takes `bytes` returns what it read, and the bytes after it. It fails with `Left` at the first byte
+//! that no pack has there; with `alloc` it may also fail with `Memory`, if memory runs out. `before` is how many columns
+//! were read before in the pack.
 ghost use Rattle.std.specs.Prelude.{◌≡◌, ◌≤◌, ◌<◌, ◌+◌, ◌-◌, ◌*◌, ◌^◌, IsTrue, true, ℕ, suc, List, length, Ok, Err, IfOk, if◌then◌else◌, nat_lt};
 ghost use Rattle.cpg_cube.specs.declared.literal.Literal.{Literal};
 ghost use Rattle.cpg_cube.specs.Cube.{IsRising};
@@ -21,7 +25,8 @@ use cpg_head::{Head, TIME_END};
 use cpg_table::{NodeTable, Row, VariableSpace};
 use std::alloc::Global;
 
-/// Whether a literal may be on a variable, after those below `least` and with `left` more after it.
+/// Returns whether a literal may be on a variable: it is at least `least`, and `left` more literals find variables above
+/// it.
 fn variable_may(space: &VariableSpace, least: u32, left: u32, variable: u8) -> bool
     requires { IsSpace space.now }
     ensures { result ≡ variable_may space.now least left variable }
@@ -31,7 +36,7 @@ fn variable_may(space: &VariableSpace, least: u32, left: u32, variable: u8) -> b
         && left <= variable_count_from(space, variable + 1)
 }
 
-/// The variable of a literal, and the bytes after it.
+/// Reads the variable of a literal; it is at least `least`, and `left` more literals come after it.
 fn variable_of<'a>(
     bytes: &'a [u8],
     space: &VariableSpace,
@@ -42,6 +47,7 @@ fn variable_of<'a>(
     ensures { Gives (λ x. (x.0, x.1.now)) result (byte_by (variable_may space.now least left) bytes.now) }
 {
     match bytes {
+        // the bytes end too early
         [] => Err(ReadError::Left(0)),
         [byte, rest @ ..] => {
             if !variable_may(space, least, left, *byte) {
@@ -52,7 +58,7 @@ fn variable_of<'a>(
     }
 }
 
-/// A literal with `left` more after it, field by field.
+/// Reads a literal on a variable from `least` on, with `left` more after it, field by field.
 #[tactic(auto, unfolding(crate::specs::Grammar::read_literal))]
 fn literal_by_fields<'a>(
     bytes: &'a [u8],
@@ -76,7 +82,8 @@ fn literal_by_fields<'a>(
     ))
 }
 
-/// Whether a literal may stand here, with `left` more after it.
+/// Returns whether a literal may come here: on a variable from `least` on, with `left` more after it. `true` guarantees
+/// it.
 fn is_next(space: &VariableSpace, left: u32, least: u32, literal: Literal) -> bool
     requires { IsSpace space.now }
     ensures { IsTrue result → (variable_may space.now least left literal.variable ≡ true) ×
@@ -88,7 +95,7 @@ fn is_next(space: &VariableSpace, left: u32, least: u32, literal: Literal) -> bo
     is_range(space, literal)
 }
 
-/// A literal with `left` more after it.
+/// Reads a literal on a variable from `least` on, with `left` more after it.
 fn literal_of<'a>(
     bytes: &'a [u8],
     space: &VariableSpace,
@@ -98,7 +105,7 @@ fn literal_of<'a>(
     requires { IsSpace space.now }
     ensures { Gives (λ x. (x.0, x.1.now)) result (read_literal space.now left least bytes.now) }
 {
-    // the three bytes at once; if that fails, field by field up to the place of the fault
+    // the three bytes at once; if there are fewer or they are no such literal, field by field up to the bad one
     if let [a, b, c, rest @ ..] = bytes {
         let fields = Fixed::new([*a, *b, *c]);
         let literal = Literal {
@@ -113,7 +120,7 @@ fn literal_of<'a>(
     literal_by_fields(bytes, space, left, least)
 }
 
-/// Reads `count` literals, and returns them with the bytes after them.
+/// Reads `count` literals, by rising variable.
 fn literals_of<'a>(
     alloc: Global,
     bytes: &'a [u8],
@@ -127,6 +134,7 @@ fn literals_of<'a>(
     let mut rest = bytes;
     let mut least: u32 = 0;
     for done in 0..count {
+        // how many literals come after this one
         let left = count - (done + 1);
         let (literal, after) = literal_of(rest, space, left as u32, least)?;
         least = literal.variable as u32 + 1;
@@ -136,18 +144,19 @@ fn literals_of<'a>(
     Ok((literals, rest))
 }
 
-/// The cube of literals that rise.
+/// Returns the cube of literals whose variables rise; `Err` only if memory runs out.
 fn cube_of(alloc: Global, literals: &[Literal]) -> Result<Cube, OutOfMemory>
     requires { IsRising literals.now }
     ensures { IfOk result (λ cube. cube ≡ literals.now) }
 {
     match Cube::new(alloc, literals)? {
         Some(cube) => Ok(cube),
+        // a cube is refused only if its variables don't rise
         None => unreachable!(),
     }
 }
 
-/// The time of a column, and how many literals it has; field by field.
+/// Reads the time of a column, and how many literals it has, field by field.
 #[tactic(auto, unfolding(crate::specs::Grammar::read_front))]
 fn front_by_fields<'a>(
     bytes: &'a [u8],
@@ -157,11 +166,12 @@ fn front_by_fields<'a>(
     ensures { Gives (λ x. ((x.0, x.1), x.2.now)) result (read_front space.now bytes.now) }
 {
     let (time, rest) = time_of(bytes)?;
+    // a literal for each variable at most, and there are at most 160, which fits a byte
     let (count, rest) = small_of(rest, 0, variable_count_from(space, 0) as u8)?;
     Ok((time, count, rest))
 }
 
-/// Whether a column's time and count of literals are in range.
+/// Returns whether a column's time and number of literals are in range; `true` guarantees it.
 fn is_front(space: &VariableSpace, time: u64, count: u8) -> bool
     requires { IsSpace space.now }
     ensures { IsTrue result → (time < 2 ^ 60) × (count ≤ variable_count_from space.now 0) }
@@ -169,12 +179,12 @@ fn is_front(space: &VariableSpace, time: u64, count: u8) -> bool
     time < TIME_END && u32::from(count) <= variable_count_from(space, 0)
 }
 
-/// The time of a column, and how many literals it has.
+/// Reads the time of a column, and how many literals it has.
 fn front_of<'a>(bytes: &'a [u8], space: &VariableSpace) -> Result<(u64, u8, &'a [u8]), ReadError>
     requires { IsSpace space.now }
     ensures { Gives (λ x. ((x.0, x.1), x.2.now)) result (read_front space.now bytes.now) }
 {
-    // the nine bytes at once; if that fails, field by field up to the place of the fault
+    // the nine bytes at once; if there are fewer or a number is out of range, field by field up to the bad one
     if let [a, b, c, d, e, f, g, h, i, rest @ ..] = bytes {
         let front = Fixed::new([*a, *b, *c, *d, *e, *f, *g, *h, *i]);
         let time = column_time(&front);
@@ -186,7 +196,7 @@ fn front_of<'a>(bytes: &'a [u8], space: &VariableSpace) -> Result<(u64, u8, &'a 
     front_by_fields(bytes, space)
 }
 
-/// A column.
+/// Reads a column.
 #[tactic(auto, unfolding(crate::specs::Grammar::read_column))]
 fn column_of<'a>(
     alloc: Global,
@@ -202,7 +212,7 @@ fn column_of<'a>(
     Ok((Column { time, cube }, rest))
 }
 
-/// Reads `count` columns, and returns them with the bytes after them.
+/// Reads `count` columns.
 fn columns_of<'a>(
     alloc: Global,
     bytes: &'a [u8],
@@ -223,7 +233,7 @@ fn columns_of<'a>(
     Ok((columns, rest))
 }
 
-/// A row, field by field.
+/// Reads the row of an item, field by field. The number returned is how many columns were read up to its end.
 #[tactic(auto, unfolding(crate::specs::Grammar::read_row))]
 fn row_by_fields<'a>(
     alloc: Global,
@@ -237,13 +247,16 @@ fn row_by_fields<'a>(
     ensures gives { Gives (λ x. (x.0, x.2.now)) result (read_row space.now item before bytes.now) }
     ensures total { IfOk result (λ x. (x.1 ≡ before + length x.0.columns) × (x.1 ≤ MOST_LOAD)) }
 {
+    // `before` is at most MOST_LOAD: the difference is how many columns the pack may still have
     let most = MOST_LOAD.saturating_sub(before).min(MOST_COLUMNS);
     let (count, rest) = number_of(bytes, 2, 0, most)?;
+    // it was read from two bytes
     let (columns, rest) = columns_of(alloc, rest, space, count as u16)?;
     Ok((Row::new(item, columns), before + count, rest))
 }
 
-/// A row, if `before` columns were read before, and how many were read up to its end. `held` is for literals.
+/// Reads the row of an item, and returns with it how many columns were read up to its end. `held` is memory for
+/// literals, used again from row to row.
 fn row_of<'a>(
     alloc: Global,
     held: &mut Vec<Literal>,
@@ -260,12 +273,12 @@ fn row_of<'a>(
     match take_lawful(alloc, held, bytes, space, item, before) {
         Ok(taken) => Ok(taken),
         Err(Untaken::Memory) => Err(ReadError::Memory),
-        // the row isn't lawful: to read it field by field finds the place of the fault
+        // it may be no lawful row: reading it field by field finds the bad byte, if there is one
         Err(Untaken::Odd) => row_by_fields(alloc, bytes, space, item, before),
     }
 }
 
-/// Reads the next row.
+/// Reads the row of an item from the unread bytes, and returns with it how many columns were read up to its end.
 fn next_row(
     alloc: Global,
     held: &mut Vec<Literal>,
@@ -285,7 +298,7 @@ fn next_row(
     Ok((row, total))
 }
 
-/// The rows of these items, if `before` columns were read before, and how many were read up to their end.
+/// Reads a row for each of these items, and returns with them how many columns were read up to their end.
 fn rows_of(
     alloc: Global,
     unread: &mut Unread,
@@ -309,8 +322,8 @@ fn rows_of(
     Ok((rows, total))
 }
 
-/// The table of a node, if `before` columns were read before, and how many were read up to its end. `items` are
-/// those of its rows.
+/// Reads the table of a node, and returns with it how many columns were read up to its end. `items` are the items of its
+/// rows, in their order.
 #[tactic(auto, unfolding(crate::specs::Grammar::read_node_table))]
 pub fn table_of(
     alloc: Global,

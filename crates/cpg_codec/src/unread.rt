@@ -3,11 +3,13 @@ ghost use Rattle.std.specs.Prelude.{◌≡◌, ◌-◌, ◌≤◌, length, drop}
 
 use std::marker::Model;
 
-/// Bytes whose front is read, seen as the bytes after it. The memory of the front is freed on the way, as the tables
-/// that are made of it take just as much.
+/// Bytes of which the first `read` are read, seen as the bytes after these. Their memory is given back on the way, since
+/// the tables that are made of them need as much.
 #[derive(Drop)]
 pub struct Unread {
+    /// The bytes that are still in memory, read and unread.
     bytes: Vec<u8>,
+    /// How many of them are read.
     read: usize,
 }
 
@@ -22,32 +24,33 @@ impl Model for Unread {
 }
 
 impl Unread {
-    /// Bytes of which none is read yet.
+    /// Returns these bytes, none of them read.
     pub fn new(bytes: Vec<u8>) -> Unread
         ensures { result ≡ bytes.items }
     {
         Unread { bytes, read: 0 }
     }
 
-    /// The bytes that aren't read.
+    /// Returns the bytes that aren't read.
     pub fn rest(&self) -> &[u8]
         ensures { result.now ≡ self.now }
     {
         &self.bytes[self.read..]
     }
 
-    /// All but the last `left` bytes are read.
+    /// Notes that all bytes but the last `left` are read.
     pub fn read_to(&mut self, left: usize)
         requires { left ≤ length self.old }
         ensures { self.new ≡ drop (length self.old - left) self.old }
     {
         self.read = self.bytes.len() - left;
+        // more is read than left: to move what is left then costs, over a whole pack, no more than its length
         if self.read > left {
             self.give_back();
         }
     }
 
-    /// Frees the memory of the bytes that are read.
+    /// Moves the unread bytes to the front, and gives back the memory after them.
     fn give_back(&mut self)
         ensures { self.new ≡ self.old }
     {

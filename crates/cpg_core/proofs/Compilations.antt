@@ -86,7 +86,8 @@ module _ (g : Graph) (urgency order : List ℕ) (b : Grown) (is : IsGrownFor g u
   pub late_end : get_or late_times.ends p None ≡ Some (due g p + b.excess.time)
   late_end = some_end (get_or late_times.ends p None) (due g p) (omega (arith, exceeds.0, exceeds.1)) ∙ ap Some end_is
 
-  -- the late process is one of the graph
+  -- The late process is one of the graph.
+  -- It has an end in the run, and there are no more ends than processes.
   pub late_process : p < process_count g
   late_process = elim (cases_lt p (length late_times.ends)) [
     | inl lt ↦ omega (
@@ -98,7 +99,8 @@ module _ (g : Graph) (urgency order : List ℕ) (b : Grown) (is : IsGrownFor g u
     | inr ge ↦ absurd (none-some (due g p + b.excess.time) (sym (get_or_past late_times.ends p None ge) ∙ late_end))
   ]
 
-  -- the end of a late process is no later than the greatest finish
+  -- The end of a late process is no later than the greatest finish.
+  -- It is among the ends of its run, and the finish of that run is no later.
   pub late_small : due g p + b.excess.time ≤ b.worst.time
   late_small = omega (
     arith,

@@ -1,4 +1,4 @@
--- The figures of the compile's order.
+-- Which order the compile takes by the figures of the two orders, in each case of the choice.
 use Rattle.std.proofs.Common.{◌≡◌, ◌≢◌, ◌<◌, ◌∙◌, ℕ, List, Some, None, refl, subst, inl, inr, arith}
 use Rattle.std.proofs.lemmas.Bool.{cases_lt}
 use Rattle.cpg_base.specs.Graph.{Graph}
@@ -40,7 +40,7 @@ module _ (g : Graph) (w : WellFormed g) (urgency : List ℕ) (top : IsTopologica
     abbrev pub by_first : TakenOrder
     by_first = record { figures = record { excess = e; worst = v }; order = None }
 
-    -- the first order is taken if the graph gives one, if it has many tracks, or if the track order is too wide
+    -- the first order is taken if the graph gives one
     pub first_given : g.order ≢ None → IsTaken g urgency by_first
     first_given given = record {
       taken = inr (refl, not_preferred_given g w urgency top first_top narrow e v own given);
@@ -103,7 +103,8 @@ module _ (g : Graph) (w : WellFormed g) (urgency : List ℕ) (top : IsTopologica
         );
       }
 
-      -- if the track order is better and no item is too wide under it, it is taken
+      -- If the track order is better and no item is too wide under it, it is taken.
+      -- If it is late, so is the first order, which is no better.
       pub tracks_better : IsNarrow g order → g.order ≡ None → IsBetter f u e v →
           IsTaken g urgency (record { figures = record { excess = f; worst = u }; order = Some order })
       tracks_better own_narrow ungiven better = record {
@@ -164,7 +165,8 @@ module _ (g : Graph) (w : WellFormed g) (urgency : List ℕ) (top : IsTopologica
       (one_measure g w urgency order order_top t.excess.time t.worst.time e v (found_measured g urgency order t is) m).0
       ∙ z
 
--- a graph under whose compile's order nothing is late is accepted
+-- A graph under whose compile's order nothing is late is accepted.
+-- With the excess 0 the measures say that nothing is late.
 pub accepted : (g : Graph) (urgency : List ℕ) (t : TakenOrder) → (g.order ≡ None → IsNarrow g (first_order g urgency)) →
     IsTaken g urgency t →
     t.figures.excess ≡ 0 →

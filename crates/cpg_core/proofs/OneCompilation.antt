@@ -26,20 +26,21 @@ module _ (g : Graph) (w : WellFormed g) (urgency : List ℕ) (top : IsTopologica
     same_frozen : b.frozen ≡ d.frozen
     same_frozen = frozen_unique g order topological b.frozen d.frozen x.frozen y.frozen
 
-    -- and the same greatest finish, scenario and process
+    -- they have the same greatest finish, with its scenario and process
     same_worst : (b.worst ≡ d.worst) × (b.worst_in ≡ d.worst_in) × (b.worst_by ≡ d.worst_by)
     same_worst = one_worst g urgency top.all order topological b.frozen b.worst d.worst b.worst_in d.worst_in b.worst_by
         d.worst_by x.worst
         (subst (λ f. IsWorst g urgency order f d.worst d.worst_in d.worst_by) (sym same_frozen) y.worst)
 
-    -- and the same times of each item
+    -- each item has the same time in each scenario
     same_times : (n : ℕ) (s : Scenario) → IsScenario g s → at b.tables.nodes n s ≡ at d.tables.nodes n s
     same_times n s is =
         let run = a_run g order b.frozen s topological in
         x.exact.times s run.0 n is run.1
         ∙ sym (y.exact.times s run.0 n is (subst (λ f. IsRun g order f s run.0) same_frozen run.1))
 
-  -- two compilations of a graph ask the same in every scenario
+  -- Two compilations of a graph ask the same in every scenario.
+  -- Both have the compile's order, which is one, and what is built under one order asks the same.
   pub ask_the_same : (c d : Compiled) → IsCompilation g urgency c → IsCompilation g urgency d → AskTheSame g c d
   ask_the_same c d x y =
       let same : d.order ≡ c.order =

@@ -1,4 +1,4 @@
--- The compile's order by its figures, and what is said of a graph whose compile succeeds without its tables.
+-- The compile's order with its figures, and what is said of a graph without making its tables.
 use Rattle.std.specs.Prelude.{ℕ, ◌<◌, List, Option, Some, None, IfSome, ⊤}
 use Rattle.cpg_base.specs.Graph.{Graph}
 use Rattle.cpg_order.specs.Urgency.{IsTopological, first_order}
@@ -9,30 +9,32 @@ use Rattle.cpg_core.specs.declared.choosing.TakenOrder.{TakenOrder}
 use Rattle.cpg_core.specs.declared.fault.CompileFault.{CompileFault}
 use Rattle.cpg_core.specs.declared.fault.CompileFault.TheVariants.{TooWide, Late, OutOfMemory}
 
--- the track order where that is taken, and else the first order
+-- the order that is taken: the track order if one is given here, and otherwise the first order
 abbrev pub order_taken : List ℕ → Option (List ℕ) → List ℕ
 order_taken first None = first
 order_taken first (Some order) = order
 
--- the compile's order with its greatest excess and greatest finish; if something is late under it, something is under
--- the first order, and nothing helps
+-- What is taken is the compile's order, with its greatest excess and greatest finish. `t.order` is None if it is the
+-- first order.
 pub record IsTaken (g : Graph) (urgency : List ℕ) (t : TakenOrder) : Type 0 where
   -- the order is the compile's
   pub taken : IsCompileOrder g urgency (order_taken (first_order g urgency) t.order)
   -- the figures are its greatest excess and its greatest finish
   pub measured : IsMeasured g urgency (order_taken (first_order g urgency) t.order) t.figures.excess t.figures.worst
+  -- the track order, if it is taken, is topological
   pub topological : IfSome t.order (IsTopological g)
-  -- no item has too many views under it
+  -- no item is too wide by its views under it
   pub narrow : IfSome t.order (IsNarrow g)
   -- if it is late, the first order is too, and no track order helps
   pub late : 0 < t.figures.excess → IsLateUnder g urgency (first_order g urgency) × IsHelpless g urgency
 
--- the graph is compiled, with this greatest finish
+-- The compile of the graph succeeds, with this greatest finish. What is made for a given order may still be too large.
 pub record IsAccepted (g : Graph) (urgency : List ℕ) (worst : ℕ) : Type 0 where
   -- the order under which its tables are written
   pub order : List ℕ
+  -- it is the compile's, and nothing is late under it
   pub compiled : IsCompiled g urgency order
-  -- under it nothing is late, and this is the greatest finish
+  -- the greatest excess under it is 0, and this is the greatest finish
   pub measured : IsMeasured g urgency order 0 worst
 
 -- Why a graph has no greatest finish: the first item that is too wide by its views under the first order; or there is

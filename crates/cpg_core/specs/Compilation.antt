@@ -22,7 +22,7 @@ use Rattle.cpg_core.specs.Compiled.{IsCompiled, IsLate, IsShownLate}
 -- The tables for the compile's order are exact and keep all ten rules, and `c` has their greatest finish. No row has
 -- too many columns, nor have all rows together. Nothing is late, and no node knows more than it has seen.
 pub record IsCompilation (g : Graph) (urgency : List ℕ) (c : Compiled) : Type 0 where
-  -- the order is the one that compiles the graph
+  -- the order is the compile's, and nothing is late under it
   pub compiled : IsCompiled g urgency c.order
   -- the tables have the times of the runs under it
   pub built : IsBuiltFor g urgency c.order c.built
@@ -38,7 +38,7 @@ pub record IsCompilation (g : Graph) (urgency : List ℕ) (c : Compiled) : Type 
 -- What is made under the order that a graph gives is too large: a tree on the way to its rows, or, if nothing is late,
 -- the rows.
 pub record HasWideRows (g : Graph) (urgency order : List ℕ) : Type 0 where
-  -- the trees under the order
+  -- what is made on the way to the rows: a tree for each item that tells its times
   pub grown : Grown
   pub is : IsGrownFor g urgency order grown
   -- no end is past its due
@@ -46,7 +46,7 @@ pub record HasWideRows (g : Graph) (urgency order : List ℕ) : Type 0 where
   -- one of their rows has too many columns, or all have together
   pub rows : HaveWideRows g urgency grown.trees.forest.times
 
--- some tree along the order is too large, or the rows are
+-- what is made under this order is too large: some tree on the way to the rows, or the rows themselves
 abbrev pub IsTooLarge : Graph → List ℕ → List ℕ → Type 0
 IsTooLarge g urgency order = HasLargeTree g urgency order ⊎ HasWideRows g urgency order
 
@@ -62,7 +62,7 @@ ShowsCompileFault g urgency OutOfMemory = ⊤
 
 -- ---- the rows of the compile
 
--- tables, with the order and the figures of rows
+-- a compilation of these tables, with the order and the figures of these rows
 abbrev pub compiled_of : BuiltRows → Tables → Compiled
 compiled_of r t = record { built = built_of r t; order = r.order }
 

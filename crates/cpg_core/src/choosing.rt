@@ -20,7 +20,7 @@ use cpg_rules::Admitted;
 use cpg_tracks::merged_order;
 use std::alloc::Global;
 
-/// The compile's order with its figures.
+/// The compile's order, and how late everything ends under it.
 #[derive(Drop)]
 pub(crate) struct TakenOrder {
     /// The greatest excess and the greatest finish under it.
@@ -30,7 +30,7 @@ pub(crate) struct TakenOrder {
 }
 
 impl TakenOrder {
-    /// The first order is taken.
+    /// Returns the choice of the first order, which has these figures.
     fn first(figures: Figures) -> TakenOrder
         ensures { result ≡ record { figures = figures; order = None } }
     {
@@ -41,14 +41,15 @@ impl TakenOrder {
     }
 }
 
-/// Whether two orders are equal.
+/// Whether two orders are equal. The contract says only that true is right: after a wrong false the track order would be
+/// found no better than itself.
 fn are_same(first: &Order, second: &Order) -> bool
     ensures { OnTrue result (first.now ≡ second.now) }
 {
     first.processes() == second.processes()
 }
 
-/// Whether the excess is less, or the excess is equal and the finish earlier.
+/// Whether these figures are better than the others: the excess is less, or it is equal and the finish is earlier.
 fn is_better(figures: &Figures, other: &Figures) -> bool
     ensures { IsTrue result ↔ IsBetter figures.now.excess figures.now.worst other.now.excess other.now.worst }
 {
@@ -59,13 +60,16 @@ fn is_better(figures: &Figures, other: &Figures) -> bool
     figures.excess < other.excess
 }
 
-/// The least item that is too wide by its views under the urgency order of a graph that gives no order.
+/// Returns the least item that is too wide by its views under the urgency order of a graph that gives no order. It is
+/// `None` if the graph gives an order, or no item is too wide.
 pub(crate) fn wide_if_urgent(alloc: Global, admitted: &Admitted) -> Result<Option<u32>, OutOfMemory>
+    // an item that is found is what a compile refuses the graph for
     ensures some { IfOk result (λ found. IfSome found (λ x. ShowsCompileFault admitted.now.graph admitted.now.order (CompileFault.TooWide x))) }
+    // if none is found and the graph gives no order, no item is too wide under the first order
     ensures none { IfOk result (λ found. IfNone found
         (admitted.now.graph.order ≡ None → IsNarrow admitted.now.graph (first_order admitted.now.graph admitted.now.order))) }
 {
-    // with a given order this isn't asked: its trees are bounded while they grow
+    // with a given order views don't count: its trees are bounded while they grow
     if admitted.given().is_some() {
         return Ok(None);
     }
@@ -73,7 +77,9 @@ pub(crate) fn wide_if_urgent(alloc: Global, admitted: &Admitted) -> Result<Optio
     Ok(found)
 }
 
-/// The order that is taken, given the figures of the first order and the track order of a graph that gives no order.
+/// Returns which order is taken for a graph that gives none: the track order (`order`) if it is better than the urgency
+/// order and no item is too wide under it, and otherwise the urgency order, which is the first order here and has the
+/// figures `first`. `tracks` are the outcomes of the graph's tracks.
 fn taken_of_tracks(
     alloc: Global,
     admitted: &Admitted,
@@ -82,24 +88,28 @@ fn taken_of_tracks(
     order: Order,
 ) -> Result<TakenOrder, OutOfMemory>
     requires tracks { AreTracks admitted.now.graph (outcomes_of tracks.now) }
+    // no item is too wide by its views under the first order
     requires narrow { admitted.now.graph.order ≡ None → IsNarrow admitted.now.graph (first_order admitted.now.graph admitted.now.order) }
+    // the graph gives no order
     requires ungiven { admitted.now.graph.order ≡ None }
+    // `first` are the figures of the first order
     requires first { HasFigures admitted.now.graph (first_order admitted.now.graph admitted.now.order) first.excess first.worst }
+    // `order` is the track order, which is topological
     requires track { HasTrackOrder admitted.now.graph order }
     requires topological { IsTopological admitted.now.graph order }
     ensures { IfOk result (IsTaken admitted.now.graph admitted.now.order) }
 {
     let first_order = admitted.first_order();
-    // the track order is the first one: there is no other figure to find
+    // the track order is the urgency order: there are no other figures
     if are_same(&order, first_order) {
         return Ok(TakenOrder::first(first));
     }
     let figures = latest(alloc, admitted, &order, tracks)?;
-    // the track order is no better
+    // the track order isn't better
     if !is_better(&figures, &first) {
         return Ok(TakenOrder::first(first));
     }
-    // the track order is better, but an item would be too wide under it
+    // the track order is better, but some item is too wide under it
     if let Some(_) = too_wide(alloc, admitted, &order)? {
         return Ok(TakenOrder::first(first));
     }
@@ -109,13 +119,14 @@ fn taken_of_tracks(
     })
 }
 
-/// The compile's order with its figures, given the outcomes of a graph's tracks.
+/// Returns the compile's order with its figures. `tracks` are the outcomes of the graph's tracks.
 pub(crate) fn choose(
     alloc: Global,
     admitted: &Admitted,
     tracks: &[Scenario],
 ) -> Result<TakenOrder, OutOfMemory>
     requires tracks { AreTracks admitted.now.graph (outcomes_of tracks.now) }
+    // if the graph gives no order, no item is too wide by its views under the first order
     requires narrow { admitted.now.graph.order ≡ None → IsNarrow admitted.now.graph (first_order admitted.now.graph admitted.now.order) }
     ensures { IfOk result (IsTaken admitted.now.graph admitted.now.order) }
 {
@@ -124,7 +135,7 @@ pub(crate) fn choose(
     if admitted.given().is_some() {
         return Ok(TakenOrder::first(first));
     }
-    // the graph has no track order
+    // there are too many tracks for a track order, so there is nothing else to take
     let Some(order) = merged_order(alloc, admitted)? else {
         return Ok(TakenOrder::first(first));
     };

@@ -18,17 +18,17 @@ use cpg_run::{BuildFault, Built};
 use cpg_tracks::track_outcomes;
 use std::alloc::Global;
 
-/// The tables of a graph, and the order that they were built under.
+/// What a compile makes of a graph.
 #[derive(Drop)]
 pub struct Compiled {
-    /// The tables, with their frozen times, greatest finish and greatest excess.
+    /// The tables, with the frozen times, the greatest finish and the greatest excess.
     pub built: Built,
-    /// The order.
+    /// The order under which they were built.
     pub order: Order,
 }
 
-/// An end that is past its due by an excess. No end is later than the greatest finish. The contract alone names
-/// `worst`.
+/// Returns the end of a process that ends by this excess past its due. Only the contract uses `worst`, the greatest finish:
+/// no end is later than that, so the sum doesn't overflow.
 fn end_past(due: u64, excess: u64, worst: u64) -> u64
     requires { due + excess ≤ worst }
     ensures { result ≡ due + excess }
@@ -36,18 +36,20 @@ fn end_past(due: u64, excess: u64, worst: u64) -> u64
     due + excess
 }
 
-/// The fault that a process ends past its due under the first order: the process of the greatest excess, with its end
-/// in the scenario of that excess.
+/// Returns the fault `Late` of a graph that is late under its first order: the least scenario with the greatest excess, the
+/// least process that has this excess there, and its end. `first` is what was found under the first order.
 pub(crate) fn late(admitted: &Admitted, first: Grown) -> CompileFault
     requires grown { IsGrownFor admitted.now.graph admitted.now.order (first_order admitted.now.graph admitted.now.order) first }
+    // if the graph gives no order, no item is too wide by its views under the first order
     requires narrow { admitted.now.graph.order ≡ None → IsNarrow admitted.now.graph (first_order admitted.now.graph admitted.now.order) }
+    // some end is past its due, and no other order helps
     requires late { 0 < first.excess.time }
     requires helpless { IsHelpless admitted.now.graph admitted.now.order }
     ensures { ShowsCompileFault admitted.now.graph admitted.now.order result }
 {
     let problem = admitted.problem();
     let Grown { worst, excess, .. } = first;
-    // an excess above 0 has a process
+    // an excess above 0 is that of some process
     let Some(process) = excess.process else {
         unreachable!()
     };
@@ -58,9 +60,11 @@ pub(crate) fn late(admitted: &Admitted, first: Grown) -> CompileFault
     }
 }
 
-/// What is found under the order that a graph gives. `TooWide` shows that a tree on the way is too large.
+/// Returns what is found under the order that a graph gives: the trees of its items, the greatest finish and the greatest
+/// excess. The fault `TooWide` shows that a tree on the way is too large.
 fn grow_given(alloc: Global, admitted: &Admitted, order: Order) -> Result<Grown, CompileFault>
     requires topological { IsTopological admitted.now.graph order }
+    // the given order is the first order
     requires first { order ≡ first_order admitted.now.graph admitted.now.order }
     ensures grown { IfOk result (IsGrownFor admitted.now.graph admitted.now.order (first_order admitted.now.graph admitted.now.order)) }
     ensures fault { IfErr result (ShowsCompileFault admitted.now.graph admitted.now.order) }
@@ -72,10 +76,11 @@ fn grow_given(alloc: Global, admitted: &Admitted, order: Order) -> Result<Grown,
     }
 }
 
-/// What is found under the urgency order of a graph that gives no order. `TooWide` shows that an item has too many
-/// views.
+/// Returns what is found under the urgency order of a graph that gives no order. The fault `TooWide` names the least item
+/// that is too wide by its views.
 fn grow_urgent(alloc: Global, admitted: &Admitted, order: Order) -> Result<Grown, CompileFault>
     requires topological { IsTopological admitted.now.graph order }
+    // the urgency order is the first order, since the graph gives none
     requires first { order ≡ first_order admitted.now.graph admitted.now.order }
     requires ungiven { admitted.now.graph.order ≡ None }
     ensures grown { IfOk result (IsGrownFor admitted.now.graph admitted.now.order (first_order admitted.now.graph admitted.now.order)) }
@@ -89,14 +94,15 @@ fn grow_urgent(alloc: Global, admitted: &Admitted, order: Order) -> Result<Grown
     }
 }
 
-/// What is found under the first order.
+/// Returns what is found under the first order: the one that the graph gives, or else the urgency order.
 pub(crate) fn grow_first(alloc: Global, admitted: &Admitted) -> Result<Grown, CompileFault>
     ensures grown { IfOk result (IsGrownFor admitted.now.graph admitted.now.order (first_order admitted.now.graph admitted.now.order)) }
+    // if the graph gives no order, no item is too wide by its views under the first order
     ensures narrow { IfOk result (λ _. admitted.now.graph.order ≡ None → IsNarrow admitted.now.graph (first_order admitted.now.graph admitted.now.order)) }
     ensures fault { IfErr result (ShowsCompileFault admitted.now.graph admitted.now.order) }
 {
     let order = admitted.first_order().copy()?;
-    // a given order is grown within bounds on its trees; the urgency order has bounds on the views of items
+    // a given order is bounded by the sizes of its trees, the urgency order by the views of its items
     if admitted.given().is_some() {
         let grown = grow_given(alloc, admitted, order)?;
         return Ok(grown);
@@ -105,13 +111,15 @@ pub(crate) fn grow_first(alloc: Global, admitted: &Admitted) -> Result<Grown, Co
     Ok(grown)
 }
 
-/// The rows of the first order. `TooWide` shows that they have too many columns.
+/// Returns the rows of the first order, under which nothing is late. The fault `TooWide` shows that a row, or all rows
+/// together, have too many columns.
 fn rows_of_first(
     alloc: Global,
     admitted: &Admitted,
     grown: Grown,
 ) -> Result<BuiltRows, CompileFault>
     requires topological { IsTopological admitted.now.graph grown.order }
+    // `grown` is what was found under the first order
     requires first { grown.order ≡ first_order admitted.now.graph admitted.now.order }
     requires grown { IsGrownFor admitted.now.graph admitted.now.order grown.order grown }
     requires in_time { grown.excess.time ≡ 0 }
@@ -126,7 +134,7 @@ fn rows_of_first(
     }
 }
 
-/// What is found under a track order under which no item is too wide.
+/// Returns what is found under a track order, under which no item is too wide.
 fn grow_tracks(alloc: Global, admitted: &Admitted, order: Order) -> Result<Grown, OutOfMemory>
     requires topological { IsTopological admitted.now.graph order }
     requires narrow { IsNarrow admitted.now.graph order }
@@ -140,13 +148,15 @@ fn grow_tracks(alloc: Global, admitted: &Admitted, order: Order) -> Result<Grown
     }
 }
 
-/// The fault that a process ends past its due, for a graph that is late.
+/// Returns the fault of a graph that is late, or the fault that comes first when its first order is grown: that something
+/// is too wide, or that memory runs out.
 pub(crate) fn shown_late(alloc: Global, admitted: &Admitted) -> CompileFault
+    // some end is past its due under the first order, and no other order helps
     requires late { IsLateUnder admitted.now.graph admitted.now.order (first_order admitted.now.graph admitted.now.order) }
     requires helpless { IsHelpless admitted.now.graph admitted.now.order }
     ensures { ShowsCompileFault admitted.now.graph admitted.now.order result }
 {
-    // called for its contract: the graph is admitted
+    // called for its clause: the graph is admitted
     let _order = admitted.first_order();
     match grow_first(alloc, admitted) {
         Ok(first) => late(admitted, first),
@@ -154,30 +164,32 @@ pub(crate) fn shown_late(alloc: Global, admitted: &Admitted) -> CompileFault
     }
 }
 
-/// The rows of the first order, if nothing is late under it.
+/// Returns the rows of the first order, if that is taken and nothing is late under it.
 fn compile_first(alloc: Global, admitted: &Admitted) -> Result<BuiltRows, CompileFault>
+    // the first order is the compile's, and nothing is late under it
     requires taken { IsCompileOrder admitted.now.graph admitted.now.order (first_order admitted.now.graph admitted.now.order) }
     requires in_time { IsInTimeUnder admitted.now.graph admitted.now.order (first_order admitted.now.graph admitted.now.order) }
     ensures rows { IfOk result (AreCompiledRows admitted.now.graph admitted.now.order) }
     ensures fault { IfErr result (ShowsCompileFault admitted.now.graph admitted.now.order) }
 {
-    // called for its contract: the graph is admitted
+    // called for its clause: the graph is admitted
     let _order = admitted.first_order();
     let first = grow_first(alloc, admitted)?;
     let rows = rows_of_first(alloc, admitted, first)?;
     Ok(rows)
 }
 
-/// The rows of the first order of a graph that has no track order.
+/// Returns the rows of the first order of a graph that has too many tracks for a track order. The fault `Late` comes if
+/// something is late under it.
 fn compile_untracked(alloc: Global, admitted: &Admitted) -> Result<BuiltRows, CompileFault>
     requires { HasManyTracks admitted.now.graph }
     ensures rows { IfOk result (AreCompiledRows admitted.now.graph admitted.now.order) }
     ensures fault { IfErr result (ShowsCompileFault admitted.now.graph admitted.now.order) }
 {
-    // called for its contract: the graph is admitted
+    // called for its clause: the graph is admitted
     let _order = admitted.first_order();
     let first = grow_first(alloc, admitted)?;
-    // some process ends past its due
+    // some process ends past its due, and there is no track order to help
     if first.excess.time > 0 {
         return Err(late(admitted, first));
     }
@@ -185,35 +197,43 @@ fn compile_untracked(alloc: Global, admitted: &Admitted) -> Result<BuiltRows, Co
     Ok(rows)
 }
 
-/// The rows of a track order that is taken, if nothing is late under it.
+/// Returns the rows of the track order, if that is taken and nothing is late under it.
 fn compile_tracks(
     alloc: Global,
     admitted: &Admitted,
     order: Order,
 ) -> Result<BuiltRows, OutOfMemory>
+    // if the graph gives no order, no item is too wide by its views under the first order
     requires first { admitted.now.graph.order ≡ None → IsNarrow admitted.now.graph (first_order admitted.now.graph admitted.now.order) }
+    // the track order is topological, and no item is too wide under it
     requires topological { IsTopological admitted.now.graph order }
     requires narrow { IsNarrow admitted.now.graph order }
+    // it is the compile's order, and nothing is late under it
     requires taken { IsCompileOrder admitted.now.graph admitted.now.order order }
     requires in_time { IsInTimeUnder admitted.now.graph admitted.now.order order }
     ensures { IfOk result (AreCompiledRows admitted.now.graph admitted.now.order) }
 {
-    // called for its contract: the graph is admitted
+    // called for its clause: the graph is admitted
     let _order = admitted.first_order();
     let grown = grow_tracks(alloc, admitted, order)?;
+    // `build` fails only if memory runs out, since no item is too wide under this order
     let rows = grown.build(alloc, admitted)?;
     Ok(rows)
 }
 
-/// The rows of the order that is taken, the track order or else the first one, if nothing is late under it.
+/// Returns the rows of the order that is taken, if nothing is late under it. `order` is the track order if that is taken,
+/// and `None` if the first order is.
 fn compile_taken(
     alloc: Global,
     admitted: &Admitted,
     order: Option<Order>,
 ) -> Result<BuiltRows, CompileFault>
+    // if the graph gives no order, no item is too wide by its views under the first order
     requires first { admitted.now.graph.order ≡ None → IsNarrow admitted.now.graph (first_order admitted.now.graph admitted.now.order) }
+    // the track order, if that is taken, is topological, and no item is too wide under it
     requires topological { IfSome order (IsTopological admitted.now.graph) }
     requires narrow { IfSome order (IsNarrow admitted.now.graph) }
+    // what is taken is the compile's order, and nothing is late under it
     requires taken { IsCompileOrder admitted.now.graph admitted.now.order (order_taken (first_order admitted.now.graph admitted.now.order) order) }
     requires in_time { IsInTimeUnder admitted.now.graph admitted.now.order (order_taken (first_order admitted.now.graph admitted.now.order) order) }
     ensures rows { IfOk result (AreCompiledRows admitted.now.graph admitted.now.order) }
@@ -231,26 +251,26 @@ fn compile_taken(
     }
 }
 
-/// The rows of a graph under the order that compiles it: the order that the graph gives; else the track order if it
-/// gives a lesser greatest excess than the urgency order, or an equal one and an earlier greatest finish; and else
-/// the urgency order. Under it every process ends by its due in every scenario, and each node starts and sends the
-/// same if it has seen the same. The latest times of at most 256 tracks decide which order that is, and the trees of
-/// the other order are not made.
+/// Returns the rows of a graph under the compile's order. This is the order that the graph gives. If it gives none, it is
+/// the track order if that has less excess than the urgency order, or as much and an earlier finish, and no item is too
+/// wide under it; and otherwise the urgency order. Under it every process ends by its due in every scenario, and a node
+/// acts alike in scenarios that it can't tell apart. If there are at most 256 tracks, their latest times decide which order
+/// that is, and no trees of the other order are made.
 pub fn compile_rows(alloc: Global, admitted: &Admitted) -> Result<BuiltRows, CompileFault>
     ensures rows { IfOk result (AreCompiledRows admitted.now.graph admitted.now.order) }
     ensures fault { IfErr result (ShowsCompileFault admitted.now.graph admitted.now.order) }
 {
-    // too many tracks to choose by: the first order is taken
+    // with more than 256 tracks there is no track order to choose, so the first order is taken
     let Some(tracks) = track_outcomes(alloc, admitted)? else {
         let rows = compile_untracked(alloc, admitted)?;
         return Ok(rows);
     };
-    // an item has too many views under the urgency order
+    // `None` also if the graph gives an order: then the sizes of its trees are bounded instead
     if let Some(item) = wide_if_urgent(alloc, admitted)? {
         return Err(CompileFault::TooWide(item));
     }
     let taken = choose(alloc, admitted, tracks.as_slice())?;
-    // even the better order has an end past its due; the fault names the first order's
+    // something is late even under the better order; the fault shows what is late under the first
     if taken.figures.excess > 0 {
         return Err(shown_late(alloc, admitted));
     }
@@ -258,7 +278,7 @@ pub fn compile_rows(alloc: Global, admitted: &Admitted) -> Result<BuiltRows, Com
     Ok(rows)
 }
 
-/// The tables of the rows of a compile.
+/// Returns the tables that have these rows, with the order under which they were built.
 fn assembled(alloc: Global, admitted: &Admitted, rows: BuiltRows) -> Result<Compiled, OutOfMemory>
     requires { AreCompiledRows admitted.now.graph admitted.now.order rows }
     ensures { IfOk result (IsCompilation admitted.now.graph admitted.now.order) }
@@ -268,7 +288,7 @@ fn assembled(alloc: Global, admitted: &Admitted, rows: BuiltRows) -> Result<Comp
     Ok(Compiled { built, order })
 }
 
-/// The tables of a graph: those of the rows that `compile_rows` makes.
+/// Returns the tables of a graph: those of the rows that `compile_rows` makes.
 pub fn compile(alloc: Global, admitted: &Admitted) -> Result<Compiled, CompileFault>
     ensures compiled { IfOk result (IsCompilation admitted.now.graph admitted.now.order) }
     ensures fault { IfErr result (ShowsCompileFault admitted.now.graph admitted.now.order) }

@@ -2,13 +2,14 @@
 
 use cpg_base::{OutOfMemory, Scenario};
 
-/// Why a graph isn't compiled. Of a graph that gives no order the first of these that holds is shown; of one that gives an order, a tree
-/// that is too large comes before a late process, and rows that are too long come after it.
+/// Why a graph isn't compiled. If the graph gives no order, the first of these that holds is shown. If it gives one, a tree
+/// that is too large comes before a late process, and rows with too many columns come after it.
 #[derive(Drop)]
 pub enum CompileFault {
-    /// An item is too wide under the first order. The least such item is shown.
+    /// An item is too wide by its views under the first order: the least such item. If the graph gives an order, what is made
+    /// under it is too large as well.
     TooWide(u32),
-    /// Some process ends past its due, under the first order.
+    /// Some process ends past its due under the first order, and no track order is taken that helps.
     Late {
         /// The least scenario with the greatest excess.
         scenario: Scenario,

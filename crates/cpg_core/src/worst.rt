@@ -17,7 +17,7 @@ use cpg_rules::Admitted;
 use cpg_tracks::track_outcomes;
 use std::alloc::Global;
 
-/// What is found under the first order, if no item is too wide under it.
+/// Returns what is found under the first order, under which no item is too wide by its views.
 fn grow_narrow_first(alloc: Global, admitted: &Admitted) -> Result<Grown, OutOfMemory>
     requires { IsNarrow admitted.now.graph (first_order admitted.now.graph admitted.now.order) }
     ensures { IfOk result (IsGrownFor admitted.now.graph admitted.now.order (first_order admitted.now.graph admitted.now.order)) }
@@ -27,10 +27,13 @@ fn grow_narrow_first(alloc: Global, admitted: &Admitted) -> Result<Grown, OutOfM
     Ok(grown)
 }
 
-/// The fault that a process ends past its due, for a graph in which no item is too wide.
+/// Returns the fault of a late graph in which no item is too wide by its views. `first` is what was found under the first
+/// order.
 fn late_narrow(admitted: &Admitted, first: Grown) -> CompileFault
+    // no item is too wide by its views under the first order
     requires grown { IsGrownFor admitted.now.graph admitted.now.order (first_order admitted.now.graph admitted.now.order) first }
     requires narrow { IsNarrow admitted.now.graph (first_order admitted.now.graph admitted.now.order) }
+    // some end is past its due, and no other order helps
     requires late { 0 < first.excess.time }
     requires helpless { IsHelpless admitted.now.graph admitted.now.order }
     ensures { ShowsNoFinish admitted.now.graph admitted.now.order result }
@@ -38,14 +41,16 @@ fn late_narrow(admitted: &Admitted, first: Grown) -> CompileFault
     late(admitted, first)
 }
 
-/// The fault that a process ends past its due, for a late graph in which no item is too wide.
+/// Returns the fault of a late graph in which no item is too wide by its views, or `OutOfMemory`. What `late_narrow` is
+/// handed is found here.
 fn shown_late_narrow(alloc: Global, admitted: &Admitted) -> CompileFault
     requires narrow { IsNarrow admitted.now.graph (first_order admitted.now.graph admitted.now.order) }
+    // some end is past its due under the first order, and no other order helps
     requires late { IsLateUnder admitted.now.graph admitted.now.order (first_order admitted.now.graph admitted.now.order) }
     requires helpless { IsHelpless admitted.now.graph admitted.now.order }
     ensures { ShowsNoFinish admitted.now.graph admitted.now.order result }
 {
-    // called for its contract: the graph is admitted
+    // called for its clause: the graph is admitted
     let _order = admitted.first_order();
     match grow_narrow_first(alloc, admitted) {
         Ok(first) => late_narrow(admitted, first),
@@ -53,48 +58,54 @@ fn shown_late_narrow(alloc: Global, admitted: &Admitted) -> CompileFault
     }
 }
 
-/// The greatest finish by the trees of the first order alone, for a graph that has no track order.
+/// Returns the greatest finish of a graph that has too many tracks for a track order, by the trees of its first order. The
+/// fault `Late` comes if something is late under it.
 fn grown_finish(alloc: Global, admitted: &Admitted) -> Result<u64, CompileFault>
     requires many { HasManyTracks admitted.now.graph }
     requires narrow { IsNarrow admitted.now.graph (first_order admitted.now.graph admitted.now.order) }
     ensures accepted { IfOk result (IsAccepted admitted.now.graph admitted.now.order) }
     ensures fault { IfErr result (ShowsNoFinish admitted.now.graph admitted.now.order) }
 {
-    // called for its contract: the graph is admitted
+    // called for its clause: the graph is admitted
     let _order = admitted.first_order();
     let first = grow_narrow_first(alloc, admitted)?;
+    // some process ends past its due, and there is no track order to help
     if first.excess.time > 0 {
         return Err(late_narrow(admitted, first));
     }
     Ok(first.worst.time)
 }
 
-/// The greatest finish of a graph in which no item is too wide.
+/// Returns the greatest finish of a graph in which no item is too wide by its views. The fault `Late` comes if the graph is
+/// late.
 fn narrow_finish(alloc: Global, admitted: &Admitted) -> Result<u64, CompileFault>
     requires narrow { IsNarrow admitted.now.graph (first_order admitted.now.graph admitted.now.order) }
     ensures accepted { IfOk result (IsAccepted admitted.now.graph admitted.now.order) }
     ensures fault { IfErr result (ShowsNoFinish admitted.now.graph admitted.now.order) }
 {
+    // with more than 256 tracks there is no track order to choose: the trees of the first order are made
     let Some(tracks) = track_outcomes(alloc, admitted)? else {
         let finish = grown_finish(alloc, admitted)?;
         return Ok(finish);
     };
     let taken = choose(alloc, admitted, tracks.as_slice())?;
+    // something is late even under the better order; the fault shows what is late under the first
     if taken.figures.excess > 0 {
         return Err(shown_late_narrow(alloc, admitted));
     }
     Ok(taken.figures.worst)
 }
 
-/// The greatest finish of a graph that is compiled, in time units: that of the tables that `compile` would make. The
-/// tables are not made. If the graph has at most 256 tracks and nothing is late, no tree is made either: the finish
-/// follows from the latest times of the tracks. `TooWide` shows the least item that is too wide by its views under
-/// the first order, whether or not the graph gives one; views are counted once.
+/// Returns the greatest finish of a graph that compiles, in time units: that of the tables that `compile` would make. No
+/// tables are made. If the graph has at most 256 tracks and nothing is late, no tree is made either: the finish follows
+/// from the latest times of the tracks. `TooWide` names the least item that is too wide by its views under the first
+/// order, also if the graph gives that order.
 pub fn greatest_finish(alloc: Global, admitted: &Admitted) -> Result<u64, CompileFault>
     ensures narrow { IfOk result (λ _. IsNarrow admitted.now.graph (first_order admitted.now.graph admitted.now.order)) }
     ensures accepted { IfOk result (IsAccepted admitted.now.graph admitted.now.order) }
     ensures fault { IfErr result (ShowsNoFinish admitted.now.graph admitted.now.order) }
 {
+    // no finish is told for such a graph, even if it gives the order and `compile` would make its tables
     if let Some(item) = too_wide(alloc, admitted, admitted.first_order())? {
         return Err(CompileFault::TooWide(item));
     }

@@ -27,8 +27,9 @@ pub lawful_if_some : (g : Graph) (order : List ℕ) (test : Scenario → Bool) (
 lawful_if_some g order test None f = tt
 lawful_if_some g order test (Some s) f = f.lawful
 
--- a number below the next one is below this or this
+-- a number is below m + 1 exactly if it is below m, or is m
 one_more : (x m : ℕ) → nat_lt x (m + 1) ≡ (nat_lt x m || (nat_le m x && nat_le x m))
+-- by whether `x` is below `m + 1` and whether `x` is below `m`
 one_more x m = ⊎_elim
     (λ (p : x < m). lt-ltb x (m + 1) (omega arith) ∙ sym (or_left _ _ (lt-ltb x m p)))
     (λ (p : m ≤ x). ⊎_elim
@@ -39,7 +40,8 @@ one_more x m = ⊎_elim
     (cases_lt x (m + 1)))
     (cases_lt x m)
 
--- left with a number up to m: left with a lesser one, or left of the part with m
+-- A truth table: c the cube matches, u no cube of the list does, a the number is below m, b it is m, d it is below m + 1. Left
+-- with a number below m + 1 is left with a lesser one, or left of the part with m.
 shared : (c u a b d : Bool) → d ≡ (a || b) → ((c && u) && d) ≡ (((c && u) && a) || ((b && c) && u))
 shared true true true b d e = e
 shared true true false true d e = e
@@ -53,13 +55,13 @@ shared false u true false d e = refl
 shared false u false true d e = refl
 shared false u false false d e = refl
 
--- a list of cubes, a cube, and the variable by whose numbers the cube is split
+-- given: a list of cubes, a cube, and the variable by whose numbers the cube is split
 module _ (g : Graph) (order : List ℕ) (by : List (List Literal)) (cube : List Literal) (v : ℕ) where
-  -- the number and no other
+  -- the literal that v has this number
   abbrev pub only : ℕ → Literal
   only m = record { variable = v; low = m; high = m }
 
-  -- what is left with a lesser number
+  -- whether a scenario is left and has a number of v below m
   abbrev pub is_left_below : ℕ → Scenario → Bool
   is_left_below m s = is_left by cube s && nat_lt (number_of s v) m
 
@@ -75,7 +77,8 @@ module _ (g : Graph) (order : List ℕ) (by : List (List Literal)) (cube : List 
   pub none_at_first : IsFirst g order (is_left_below 0) None
   none_at_first s i = and_right (is_left by cube s) (nat_lt (number_of s v) 0) (le-ltb (number_of s v) 0 (omega arith))
 
-  -- the earlier of what is found below a number and what is left at it is first of what is left below the next
+  -- if `found` is first of what is left with a number below m, and `next` with m itself, the earlier of both is first of what
+  -- is left with a number below m + 1
   pub with_part : (m : ℕ) (found next : Option Scenario) → IsFirst g order (is_left_below m) found →
       IsFirst g order (is_left by (narrowed_by (only m) cube)) next →
       IsFirst g order (is_left_below (m + 1)) (earlier g order found next)
@@ -91,15 +94,17 @@ module _ (g : Graph) (order : List ℕ) (by : List (List Literal)) (cube : List 
       (λ s i. sym (grown m s ∙ ap (λ b. is_left_below m s || b) (part_none g order by (only m) cube e s i)
       ∙ or-false (is_left_below m s))) f
 
-  -- so it is if no scenario of the cube with the number is before what is found
+  -- if no scenario of the cube with the number m is before what is found below m, that is first of what is left below m + 1
   pub late_part : (m : ℕ) (found : Option Scenario) → IsLate g order (narrowed_by (only m) cube) found →
       IsFirst g order (is_left_below m) found →
       IsFirst g order (is_left_below (m + 1)) found
+  -- a scenario that is left below m + 1 is left below m, and so not before, or is of the part with m, which is late
   late_part m None late f = absurd late
   late_part m (Some s) late f = record {
     lawful = f.lawful;
     holds = grown m s ∙ or_left _ _ f.holds;
     least = λ t i k. ⊎_elim
+        -- t has a number below m, or the number m: then it comes no earlier than s, by `late`
         (λ (a : is_left_below m t ≡ true). f.least t i a)
         (λ (a : is_left by (narrowed_by (only m) cube) t ≡ true).
         late t i (and_parts (matches (narrowed_by (only m) cube) t) _ a).0)

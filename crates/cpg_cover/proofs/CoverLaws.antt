@@ -44,7 +44,8 @@ module _ (g : Graph) (order : List ℕ) where
   least_if_some test None f = tt
   least_if_some test (Some s) f = f
 
-  -- what is outside one cube of the list, of which some literals tell all where the cube matches
+  -- What the others leave of the cube outside one cube of the list is what the whole list leaves. Some literals stand for that
+  -- one: in each scenario that the cube matches, they match exactly if it does.
   pub left_by_taken : {X : Type 0} (seen : X → List Literal) (xs : List X) (i : ℕ) (d : X)
       (literals cube : List Literal) (o : Option Scenario) → i < length xs
       → ((s : Scenario) → IsScenario g s → matches cube s ≡ true →
@@ -74,7 +75,7 @@ module _ (g : Graph) (order : List ℕ) where
       none_of_either true y z w e = ap (λ u. not y && not u) (e refl) ∙ neither y w
       none_of_either false y z w e = refl
 
--- given a list of cubes: a scenario is left in a cube if no cube of the list matches it
+-- given: a list of cubes; a scenario of a cube is left if no cube of the list matches it
 module _ (g : Graph) (few : process_count g ≤ 128) (order : List ℕ) (by : List (List Literal)) where
   -- ---- beside a literal
 
@@ -194,7 +195,7 @@ module _ (g : Graph) (few : process_count g ≤ 128) (order : List ℕ) (by : Li
 
 -- ---- a cube narrowed by a literal
 
--- given a literal by which a cube is narrowed
+-- given: a list of cubes, and a literal by which a cube is narrowed
 module _ (g : Graph) (order : List ℕ) (by : List (List Literal)) (l : Literal) (cube : List Literal) where
   -- if the literal leaves no number, nothing is left
   pub part_none : with_literal l cube ≡ None → IsFirst g order (is_left by (narrowed_by l cube)) None
@@ -206,10 +207,10 @@ module _ (g : Graph) (order : List ℕ) (by : List (List Literal)) (l : Literal)
       IsFirst g order (λ s. is_left by (narrowed_by l cube) s && not (matches ls s)) None
   within_none ls e = λ s i. and_left (is_left by (narrowed_by l cube) s) (not (matches ls s)) (part_none e s i)
 
-  -- the cube narrowed by the literal, and a list of cubes that leaves the same of it
+  -- given: the cube narrowed by the literal, and a list of cubes that leaves the same of it
   module _ (c : List Literal) (some : with_literal l cube ≡ Some c) (kept : List (List Literal))
       (same : (s : Scenario) → IsScenario g s → is_left kept c s ≡ is_left by c s) where
-    -- the cubes that are kept leave the same
+    -- what the cubes that are kept leave outside literals is what the whole list leaves outside them
     pub within_kept : (ls : List Literal) (o : Option Scenario) →
         IsFirst g order (λ s. is_left kept c s && not (matches ls s)) o →
         IsFirst g order (λ s. is_left by (narrowed_by l cube) s && not (matches ls s)) o

@@ -26,7 +26,7 @@ use Rattle.cpg_cube.proofs.Narrow.{matches-narrowed, cube-narrowed}
 
 -- ---- the parts of a cube outside another
 
--- a list that has a cube only if b holds
+-- some cube of a list that has a cube only if b is true matches exactly if b is true and that cube matches
 any_of_one : (b : Bool) (c : List Literal) (s : Scenario) →
     list_any (λ x. matches x s) (cond b (c ∷ []) []) ≡ (b && matches c s)
 any_of_one true c s = or-false (matches c s)
@@ -47,7 +47,8 @@ together true false false m f k = refl
 together false h true m f k = cc (k refl).0
 together false h false m f k = refl
 
--- below, above, or in the range but left by the rest: left by the one cube and the rest
+-- A truth table: a below the range, b above it, h in it (exactly if neither), m the cube matches, r the other literals do. The
+-- cube matches below, above, or in the range outside the rest exactly if it matches and not all literals do.
 joined : (a b h m r : Bool) → not h ≡ (a || b) → (((a && m) || (b && m)) || ((h && m) && not r)) ≡ (m && not (h && r))
 joined true b true m r e = cc
 joined false true true m r e = cc
@@ -60,6 +61,7 @@ joined false true false true r e = refl
 joined false true false false r e = refl
 joined false false false m r e = cc
 
+-- given: a graph of at most 128 processes, and a scenario of it
 module _ (g : Graph) (few : process_count g ≤ 128) (s : Scenario) (lawful : IsScenario g s) where
   -- the part below matches if the cube does and the number is below the literal's low
   matches_below : (l : Literal) (cube : List Literal) →
@@ -78,6 +80,7 @@ module _ (g : Graph) (few : process_count g ≤ 128) (s : Scenario) (lawful : Is
   matches_above : (l : Literal) (cube : List Literal) → IsVariable g l.variable →
       list_any (λ c. matches c s) (part_above g.faults l cube)
       ≡ (nat_lt l.high (number_of s l.variable) && matches cube s)
+  -- a number above the high is in the range from the next one to the top, and the other way round
   matches_above l cube known =
       let m : Literal = record { variable = l.variable; low = l.high + 1; high = top g.faults l.variable } in
       let w = number_within g few s lawful l.variable known in
@@ -93,8 +96,10 @@ module _ (g : Graph) (few : process_count g ≤ 128) (s : Scenario) (lawful : Is
   pub in_range : (l : Literal) →
       not (holds s l) ≡ (nat_lt (number_of s l.variable) l.low || nat_lt l.high (number_of s l.variable))
   in_range l = ⊎_elim
+      -- below the range
       (λ (a : number_of s l.variable < l.low).
       outside (λ h. let b = holds-low s l h in omega arith) (or_left _ _ (lt-ltb _ _ a)))
+      -- above it, or in it
       (λ (a : l.low ≤ number_of s l.variable). ⊎_elim
       (λ (b : l.high < number_of s l.variable).
       outside (λ h. let c = holds-high s l h in omega arith) (or_right _ _ (lt-ltb _ _ b)))
@@ -112,6 +117,7 @@ module _ (g : Graph) (few : process_count g ≤ 128) (s : Scenario) (lawful : Is
   -- some part matches exactly if the cube does and the other doesn't
   pub matches_parts : (ls cube : List Literal) → All (λ l. IsVariable g l.variable) ls →
       list_any (λ c. matches c s) (parts_outside g.faults ls cube) ≡ (matches cube s && not (matches ls s))
+  -- by induction on the literals
   matches_parts [] cube known = sym (and_right (matches cube s) false refl)
   matches_parts (l ∷ ls) cube known =
       let k = All-head (λ m. IsVariable g m.variable) l ls known in
@@ -127,15 +133,17 @@ module _ (g : Graph) (few : process_count g ≤ 128) (s : Scenario) (lawful : Is
 
 -- ---- the steps of a search
 
+-- given: a graph, an order of its processes, a list of cubes, and the cube of which something may be left
 module _ (g : Graph) (order : List ℕ) (by : List (List Literal)) (cube : List Literal) where
   -- nothing is left of a cube that matches nothing
   pub left_of_none : IsFirst g order (matches cube) None → IsFirst g order (is_left by cube) None
   left_of_none none = λ s i. and_left (matches cube s) (not (list_any (λ b. matches b s) by)) (none s i)
 
-  -- its least scenario is left if no cube of the list matches that
+  -- the least scenario of a cube is the least that is left, if no cube of the list matches it
   pub left_at_once : (least : Scenario) → IsFirst g order (matches cube) (Some least) →
       list_any (λ b. matches b least) by ≡ false →
       IsFirst g order (is_left by cube) (Some least)
+  -- each scenario that is left matches the cube, so it isn't before the least one
   left_at_once least first e = record {
     lawful = first.lawful;
     holds = and_from (matches cube least) (not (list_any (λ b. matches b least) by)) first.holds
@@ -144,7 +152,7 @@ module _ (g : Graph) (order : List ℕ) (by : List (List Literal)) (cube : List 
   }
 
 module _ (g : Graph) (few : process_count g ≤ 128) where
-  -- the parts are cubes
+  -- the part below a literal's range is a cube of the graph
   below_is : (l : Literal) (cube : List Literal) → IsVariable g l.variable → IsCube g cube → (c : List Literal) →
       Contains (part_below l cube) c → IsCube g c
   below_is l cube known is c k = one (nat_lt 0 l.low) k
@@ -175,13 +183,16 @@ module _ (g : Graph) (few : process_count g ≤ 128) where
   -- the parts of a cube outside another are cubes of the graph
   pub parts_are : (ls cube : List Literal) → All (λ l. IsVariable g l.variable) ls → IsCube g cube →
       (c : List Literal) → Contains (parts_outside g.faults ls cube) c → IsCube g c
+  -- by induction on the literals
   parts_are [] cube known is c k = absurd (Contains-nil c k)
   parts_are (l ∷ ls) cube known is c k =
       let h = All-head (λ m. IsVariable g m.variable) l ls known in
       ⊎_elim
+      -- a part below or above the first literal's range
       (λ (a : Contains (part_below l cube ++ part_above g.faults l cube) c).
       ⊎_elim (below_is l cube h is c) (above_is l cube h is c)
       (Contains-append_cases (part_below l cube) (part_above g.faults l cube) c a))
+      -- a part for one of the other literals, of the cube narrowed by the first
       (λ (a : Contains (parts_outside g.faults ls (narrowed_by l cube)) c). parts_are ls (narrowed_by l cube)
       (All-tail (λ m. IsVariable g m.variable) l ls known) (cube-narrowed g l cube h is) c a)
       (Contains-append_cases (part_below l cube ++ part_above g.faults l cube)
@@ -212,7 +223,7 @@ module _ (g : Graph) (few : process_count g ≤ 128) where
           spread true false false = refl
           spread false y z = refl
 
-      -- outside of b and of the others is outside of either
+      -- what neither y nor z has is what their disjunction hasn't
       none_of_either : (x y z : Bool) → ((x && not y) && not z) ≡ (x && not (y || z))
       none_of_either true true z = refl
       none_of_either true false z = refl
@@ -245,6 +256,7 @@ module _ (g : Graph) (few : process_count g ≤ 128) where
     pub uncovered_is : (by : List (List Literal)) (cube : List Literal) → All (All (λ l. IsVariable g l.variable)) by →
         IsCube g cube →
         IsFirst g order (is_left by cube) (uncovered g order by cube)
+    -- by induction on the cubes
     uncovered_is [] cube known is = when_met [] cube (Some (lows g cube)) is
         (λ e. left_at_once g order [] cube (lows g cube) (lows-least g few cube is e order) refl)
         (is_met g.faults cube) refl

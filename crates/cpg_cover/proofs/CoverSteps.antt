@@ -19,25 +19,26 @@ use Rattle.cpg_cube.proofs.CubeLows.{holds-low, holds-high, holds-from}
 use Rattle.cpg_cube.proofs.Narrow.{matches-narrowed}
 use Rattle.cpg_cover.proofs.CoverSearch.{uncovered_is}
 
--- a test that says the same as two others may stand for them
+-- if two tests h and n say the same, one may take the place of the other in front of a conjunction
 gather : (h n m u : Bool) → (h ≡ true → n ≡ true) → (n ≡ true → h ≡ true) → ((h && m) && u) ≡ (n && (m && u))
 gather true true m u f k = refl
 gather true false m u f k = cc (f refl)
 gather false true m u f k = cc (k refl)
 gather false false m u f k = refl
 
--- what follows from a test doesn't fail where the test passes
+-- if u follows from m, m and the contrary of u don't hold together
 neither : (m u : Bool) → (m ≡ true → u ≡ true) → (m && not u) ≡ false
 neither true true h = refl
 neither true false h = cc (h refl)
 neither false u h = refl
 
+-- given: a graph of at most 128 processes, an order of them, and a list of cubes
 module _ (g : Graph) (few : process_count g ≤ 128) (order : List ℕ) (by : List (List Literal)) where
-  -- whether a literal's variable is below its range
+  -- whether the number of a literal's variable is below its range
   abbrev pub is_below_range : Literal → Scenario → Bool
   is_below_range l s = nat_lt (number_of s l.variable) l.low
 
-  -- whether it is above
+  -- whether the number of a literal's variable is above its range
   abbrev pub is_above_range : Literal → Scenario → Bool
   is_above_range l s = nat_lt l.high (number_of s l.variable)
 
@@ -47,6 +48,7 @@ module _ (g : Graph) (few : process_count g ≤ 128) (order : List ℕ) (by : Li
   pub left_below : (l : Literal) (rest : List Literal) (o : Option Scenario) → 0 < l.low → IsFirst g order
       (is_left by (narrowed_by (record { variable = l.variable; low = 0; high = l.low - 1 }) rest)) o →
       IsFirst g order (λ s. is_below_range l s && is_left by rest s) o
+  -- a number is in the range from 0 to the low exclusive exactly if it is below the low
   left_below l rest o some f =
       let m : Literal = record { variable = l.variable; low = 0; high = l.low - 1 } in
       first_same g order (is_left by (narrowed_by m rest)) (λ s. is_below_range l s && is_left by rest s) o
@@ -61,6 +63,7 @@ module _ (g : Graph) (few : process_count g ≤ 128) (order : List ℕ) (by : Li
       IsFirst g order (is_left by
       (narrowed_by (record { variable = l.variable; low = l.high + 1; high = top g.faults l.variable }) rest)) o →
       IsFirst g order (λ s. is_above_range l s && is_left by rest s) o
+  -- a number is in the range from the next after the high to the top exactly if it is above the high
   left_above l rest o known f =
       let m : Literal = record { variable = l.variable; low = l.high + 1; high = top g.faults l.variable } in
       first_same g order (is_left by (narrowed_by m rest)) (λ s. is_above_range l s && is_left by rest s) o
@@ -85,6 +88,7 @@ module _ (g : Graph) (few : process_count g ≤ 128) (order : List ℕ) (by : Li
 
 -- ---- what an answer says
 
+-- given: a graph, an order of its processes, a list of cubes, and the cube of which something may be left
 module _ (g : Graph) (order : List ℕ) (by : List (List Literal)) (cube : List Literal) where
   -- if no scenario is left, each that the cube matches is matched by a cube of the list
   pub covered_from_none : IsFirst g order (is_left by cube) None → (s : Scenario) → IsScenario g s →
@@ -108,7 +112,7 @@ module _ (g : Graph) (order : List ℕ) (by : List (List Literal)) (cube : List 
 
   -- ---- the whole search: None exactly if all is covered, else the least that isn't
 
-  -- the cubes of the list are on variables of the graph, and the cube is one of it
+  -- given: the cubes of the list are on variables of the graph, and the cube is one of the graph
   module _ (few : process_count g ≤ 128) (known : All (All (λ l. IsVariable g l.variable)) by)
       (is : IsCube g cube) where
     -- the search finds nothing exactly if each scenario that the cube matches is matched by one of the list

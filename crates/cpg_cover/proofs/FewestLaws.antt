@@ -20,6 +20,7 @@ use Rattle.cpg_cover.specs.Fewest.{IsStep, AreMarked}
 
 -- ---- lists that grow
 
+-- given: a test, and a place i in a list; d is what would be read behind the last element
 module _ {X : Type 0} (test : X → Bool) (xs : List X) (i : ℕ) (d : X) (h : i < length xs) where
   -- all of the first i + 1 elements pass if the first i do and the next one does
   taken_all : list_all test (take (i + 1) xs) ≡ (list_all test (take i xs) && test (get_or xs i d))
@@ -70,6 +71,7 @@ any_inserted test (y ∷ ys) zero x t = turn (test x) (test y || list_any test y
     turn false true e = refl
     turn false false e = e
 any_inserted test (y ∷ ys) (suc i) x t = ⊎_elim
+    -- the test passes for the first element, for another one of the list, or for what is inserted
     (λ (a : test y ≡ true). or_left _ _ (or_left _ _ a))
     (λ (a : list_any test (insert ys i x) ≡ true). ⊎_elim
     (λ (b : list_any test ys ≡ true). or_left _ _ (or_right (test y) _ b))
@@ -105,8 +107,10 @@ pub outside_more : (ls : List Literal) (i : ℕ) (d : Literal) (a r : ℕ) → i
     → ((n : ℕ → ℕ) → holds_at n (get_or ls i d) ≡ false → r ≤ n (get_or ls i d).variable) →
     NeedsOutside (take (i + 1) ls) (min a r)
 outside_more ls i d a r h f small g count e n t = ⊎_elim
+    -- all literals before hold, so the last one doesn't
     (λ (b : list_all (holds_at n) (take i ls) ≡ true).
     by_last (false_from_ne_true _ (λ k. both_ways _ t (all_one_more (holds_at n) ls i d h b k))))
+    -- one before doesn't hold, which takes at least a faults
     (λ (b : list_all (holds_at n) (take i ls) ≡ false). let x = f count e n b in omega arith)
     (cases_Bool (list_all (holds_at n) (take i ls)))
   where
@@ -125,6 +129,7 @@ pub each_more : (cubes : List (List Literal)) (i : ℕ) (d : List Literal) (a r 
     Needs (take i cubes) a →
     NeedsOutside (get_or cubes i d) r →
     Needs (take (i + 1) cubes) (max a r)
+-- if none of one cube more is matched, none of those before is, and the next one isn't
 each_more cubes i d a r h f g count e n values t =
     let x =
     f count e n values (false_from_ne_true _ (λ k. both_ways _ t (any_of_before (matches_at n) cubes i d h k))) in
@@ -147,16 +152,17 @@ after_other v u n h = cond-false (v == u) (n u - 1) (n u) (ne_eqb v u h)
 
 -- no number grows by a step
 after_le : (v u : ℕ) (n : ℕ → ℕ) → after v n u ≤ n u
+-- one is taken from the variable itself; the numbers of others stay
 after_le v u n = ⊎_elim
     (λ (e : v ≡ u). let a = cond-true (v == u) (n u - 1) (n u) (eq-eqb v u e) in omega arith)
     (λ (d : v ≡ u → ⊥). let a = after_other v u n d in omega arith)
     (cases_eq v u)
 
--- values are still at most 1
+-- after a step values are still at most 1
 after_values : (v : ℕ) (n : ℕ → ℕ) → AreValues n → AreValues (after v n)
 after_values v n values u h = let a = after_le v u n in let b = values u h in omega arith
 
--- the sum of the numbers doesn't grow
+-- the sum of the numbers doesn't grow by a step
 after_sum : (v : ℕ) (n : ℕ → ℕ) (count : ℕ) → sum_by (after v n) (numbers_below count) ≤ sum_by n (numbers_below count)
 after_sum v n count = sum_by-le_each (after v n) n (numbers_below count) (λ u c. after_le v u n)
 
@@ -207,14 +213,18 @@ without_from cubes rest v budget r keeps needs count e n values none few t =
 pub value_from : (cubes off on : List (List Literal)) (v budget a b r : ℕ) → 128 ≤ v → Steps cubes v false budget off →
     Needs off a → Steps cubes v true budget on → Needs on b → r ≤ a → r ≤ b →
     r ≤ budget + 1 → Needs cubes r
+-- by whether 0 is below `n v` and whether `budget` is below `sum_by n (numbers_below count)`
 value_from cubes off on v budget a b r large keeps needs keeps' needs' la lb lr count e n values t = ⊎_elim
+    -- more faults than the budget
     (λ (p : budget < sum_by n (numbers_below count)). omega arith)
     (λ (p : sum_by n (numbers_below count) ≤ budget).
     let s = after_sum v n count in
     ⊎_elim
+    -- the value is true: the search of what the cubes ask then bounds the faults
     (λ (q : 0 < n v). let x = by_step cubes on v true budget b count n keeps' needs' e values
     (step_from v true budget count n e values (λ k. cc) (λ k. omega arith) (omega arith)) t in
     omega arith)
+    -- the value is false: the other search does
     (λ (q : n v ≤ 0). let x = by_step cubes off v false budget a count n keeps needs e values
     (step_from v false budget count n e values (λ k. omega arith) (λ k. cc) (omega arith)) t in
     omega arith)
@@ -224,6 +234,7 @@ value_from cubes off on v budget a b r large keeps needs keeps' needs' la lb lr 
 -- if the budget has no room for a fault, what is needed without one, and at most 1, is needed
 pub count_without : (cubes : List (List Literal)) (v budget w r : ℕ) → v < 128 → NeedsWithout cubes v budget w → r ≤ w →
     r ≤ 1 → Needs cubes r
+-- by whether 0 is below `sum_by n (numbers_below count)`
 count_without cubes v budget w r small needs lw lr count e n values t = ⊎_elim
     (λ (p : 0 < sum_by n (numbers_below count)). omega arith)
     (λ (p : sum_by n (numbers_below count) ≤ 0).
@@ -237,29 +248,34 @@ pub count_from : (cubes more : List (List Literal)) (v budget w most b r : ℕ) 
     NeedsWithout cubes v budget w → most ≤ budget → most < w → 0 < most →
     Steps cubes v true (most - 1) more →
     Needs more b → r ≤ b + 1 → r ≤ most + 1 → Needs cubes r
+-- by whether 0 is below `n v` and whether `most` is below `sum_by n (numbers_below count)`
 count_from cubes more v budget w most b r small needs lm lw some keeps needs' lb lr count e n values t = ⊎_elim
+    -- more faults than the budget allows
     (λ (p : most < sum_by n (numbers_below count)). omega arith)
     (λ (p : sum_by n (numbers_below count) ≤ most).
     ⊎_elim
+    -- the count is above 0: one fault of it is taken, and the search goes on with one less
     (λ (q : 0 < n v).
     let s = after_less v n count (omega arith) (omega arith) in
     let x = by_step cubes more v true (most - 1) b count n keeps needs' e values
     (step_from v true (most - 1) count n e values (λ k. cc) (λ k. omega arith) (omega arith)) t in
     omega arith)
+    -- the count is 0
     (λ (q : n v ≤ 0). let y = needs count e n values (omega arith) (omega arith) t in omega arith)
     (cases_lt 0 (n v)))
     (cases_lt most (sum_by n (numbers_below count)))
 
 -- ---- parts without common variables
 
--- the numbers of the variables that are marked so, and 0 of others
+-- the numbers of the variables with this mark, and 0 for the others
 abbrev kept_at : List Bool → Bool → (ℕ → ℕ) → ℕ → ℕ
 kept_at marks wanted n v = cond (same_bool (get_or marks v false) wanted) (n v) 0
 
--- literals on variables that are marked so hold for the kept numbers if they hold for all
+-- literals whose variables all have the mark hold for the kept numbers exactly if they hold for all numbers
 same_all_at : (marks : List Bool) (wanted : Bool) (n : ℕ → ℕ) (ls : List Literal) →
     list_all (λ l. same_bool (get_or marks l.variable false) wanted) ls ≡ true →
     matches_at (kept_at marks wanted n) ls ≡ matches_at n ls
+-- by induction on the literals
 same_all_at marks wanted n [] t = refl
 same_all_at marks wanted n (l ∷ ls) t =
     let r = and_parts (same_bool (get_or marks l.variable false) wanted)
@@ -267,10 +283,11 @@ same_all_at marks wanted n (l ∷ ls) t =
     ap₂ ◌&&◌ (ap (λ x. nat_le l.low x && nat_le x l.high) (cond-true (same_bool (get_or marks l.variable false) wanted)
     (n l.variable) 0 r.0)) (same_all_at marks wanted n ls r.1)
 
--- so do cubes of such literals
+-- of cubes whose variables all have the mark, one matches the kept numbers exactly if one matches all numbers
 same_any_at : (marks : List Bool) (wanted : Bool) (n : ℕ → ℕ) (cubes : List (List Literal)) →
     AreMarked marks wanted cubes →
     is_any_at (kept_at marks wanted n) cubes ≡ is_any_at n cubes
+-- by induction on the cubes
 same_any_at marks wanted n [] h = refl
 same_any_at marks wanted n (c ∷ cs) h = ap₂ ◌||◌ (same_all_at marks wanted n c
     (All-head (λ d. list_all (λ l. same_bool (get_or marks l.variable false) wanted) d ≡ true) c cs h))
@@ -286,7 +303,7 @@ kept_values marks wanted n values v h = one (same_bool (get_or marks v false) wa
     one true = values v h
     one false = omega arith
 
--- a part whose variables are marked so needs its faults of the kept numbers alone
+-- the cubes of a part whose variables all have the mark need their faults of the kept numbers alone
 of_part : (cubes part : List (List Literal)) (marks : List Bool) (wanted : Bool) (r count : ℕ) (n : ℕ → ℕ) →
     AreMarked marks wanted part →
     ((m : ℕ → ℕ) → is_any_at m part ≡ true → is_any_at m cubes ≡ true) → Needs part r
@@ -308,31 +325,32 @@ both_parts marks n count = sym (sum_by-add (kept_at marks true n) (kept_at marks
     one true x = omega arith
     one false x = omega arith
 
--- cubes without common variables need the sum of what the two parts need
+-- if the two parts have no variable in common, the list needs the sum of what they need
 pub parts_from : (cubes first others : List (List Literal)) (marks : List Bool) (a b r : ℕ) →
     AreMarked marks true first →
     AreMarked marks false others →
     ((m : ℕ → ℕ) → is_any_at m first ≡ true → is_any_at m cubes ≡ true)
     → ((m : ℕ → ℕ) → is_any_at m others ≡ true → is_any_at m cubes ≡ true) → Needs first a → Needs others b →
     r ≤ a + b → Needs cubes r
+-- each part needs its faults of the variables with its mark, and the two sums are all faults
 parts_from cubes first others marks a b r m m' k k' f f' l count e n values t =
     let x = of_part cubes first marks true a count n m k f e values t in
     let y = of_part cubes others marks false b count n m' k' f' e values t in
     let z = both_parts marks n count in
     omega arith
 
--- a list that needs some faults needs fewer, too
+-- if it takes at least a faults that no cube of a list matches, it takes at least any lesser number b
 pub needs_fewer : (cubes : List (List Literal)) (a b : ℕ) → b ≤ a → Needs cubes a → Needs cubes b
 needs_fewer cubes a b l f count e n values t = let x = f count e n values t in omega arith
 
--- a list needs what some of its cubes need
+-- if no cube of a list is matched, none of a part of it is, so it takes the faults that the part needs
 pub needs_by : (cubes part : List (List Literal)) (r : ℕ) →
     ((m : ℕ → ℕ) → is_any_at m part ≡ true → is_any_at m cubes ≡ true) → Needs part r → Needs cubes r
 needs_by cubes part r k f count e n values t = f count e n values (false_from_ne_true _ (λ x. both_ways _ t (k n x)))
 
 -- ---- cubes without common variables
 
--- the faults of the marked variables are as many at least
+-- if no cube of the list is matched, the marked variables have at least r faults
 abbrev pub NeedsOfMarked : List (List Literal) → List Bool → ℕ → Type 0
 NeedsOfMarked cubes marks r = (count : ℕ) → count ≡ 128 → (n : ℕ → ℕ) → AreValues n → is_any_at n cubes ≡ false →
     r ≤ sum_by (kept_at marks true n) (numbers_below count)
@@ -346,6 +364,7 @@ same_new_at : (marks later : List Bool) (n : ℕ → ℕ) (ls : List Literal) �
     list_all (λ l. same_bool (get_or marks l.variable false) false) ls ≡ true →
     list_all (λ l. same_bool (get_or later l.variable false) true) ls ≡ true →
     matches_at (new_at marks later n) ls ≡ matches_at n ls
+-- by induction on the literals
 same_new_at marks later n [] t u = refl
 same_new_at marks later n (l ∷ ls) t u =
     let r = and_parts (same_bool (get_or marks l.variable false) false)
@@ -372,6 +391,8 @@ pub marked_more : (cubes : List (List Literal)) (c : List Literal) (marks later 
     ((v : ℕ) → get_or marks v false ≡ true → get_or later v false ≡ true) →
     list_all (λ l. same_bool (get_or later l.variable false) true) c ≡ true → r ≤ a + b
     → NeedsOfMarked cubes later r
+-- x: what the marked variables need; y: what the cube needs of its own, which are new; together they are at most what the
+-- variables marked later have
 marked_more cubes c marks later a b r f one g t h u l count e n values off =
     let x = f count e n values off in
     let y = g count e (new_at marks later n) (same_new_at marks later n c t u ∙ one n off) in
@@ -381,7 +402,7 @@ marked_more cubes c marks later a b r f one g t h u l count e n values off =
     (λ v k. both_marks (get_or marks v false) (get_or later v false) (n v) (h v)) in
     omega arith
 
--- what the marked variables need is needed in all
+-- the faults that the marked variables need are needed in all, since those of the other variables only add to them
 pub marked_all : (cubes : List (List Literal)) (marks : List Bool) (r : ℕ) → NeedsOfMarked cubes marks r → Needs cubes r
 marked_all cubes marks r f count e n values off =
     let x = f count e n values off in
@@ -403,6 +424,7 @@ one_is_off cubes i d h n off = from_any_false (matches_at n) cubes (get_or cubes
 -- marking a variable leaves the marks of others
 pub still_marked : (marks : List Bool) (i v : ℕ) → get_or marks v false ≡ true →
     get_or (slice_set marks i true) v false ≡ true
+-- by induction on the list
 still_marked [] i v t = cc
 still_marked (m ∷ ms) zero zero t = refl
 still_marked (m ∷ ms) zero (suc v) t = t
@@ -415,7 +437,7 @@ now_marked [] i h = absurd (omega arith)
 now_marked (m ∷ ms) zero h = refl
 now_marked (m ∷ ms) (suc i) h = now_marked ms i (omega arith)
 
--- literals on marked variables are still so with more marks
+-- if all variables of a cube are marked, they still are with more marks
 pub all_still_marked : (marks later : List Bool) (ls : List Literal) →
     ((v : ℕ) → get_or marks v false ≡ true → get_or later v false ≡ true) →
     list_all (λ l. same_bool (get_or marks l.variable false) true) ls ≡ true →
@@ -427,12 +449,12 @@ all_still_marked marks later (l ∷ ls) h t =
     and_from _ _ (is_marked (get_or later l.variable false)
     (h l.variable (was_marked (get_or marks l.variable false) r.0))) (all_still_marked marks later ls h r.1)
   where
-    -- the mark of a variable that is marked
+    -- if a mark is the same as true, it is true
     was_marked : (b : Bool) → same_bool b true ≡ true → b ≡ true
     was_marked true e = refl
     was_marked false e = cc
 
-    -- and the other way
+    -- if a mark is true, it is the same as true
     is_marked : (b : Bool) → b ≡ true → same_bool b true ≡ true
     is_marked true e = refl
     is_marked false e = cc

@@ -27,9 +27,10 @@ use Rattle.cpg_cube.proofs.CubeLows.{holds-high, low_in-le, budget_of_cube}
 use Rattle.cpg_cube.proofs.Meeting.{small_variable, holds_where_spanned}
 use Rattle.cpg_cover.proofs.FewestLaws.{held}
 
--- a sum up to numbers from which on all is 0
+-- if a function is 0 from a on, its sum up to b is its sum up to a
 sum_short : (f : ℕ → ℕ) (a b : ℕ) → a ≤ b → ((v : ℕ) → a ≤ v → v < b → f v ≡ 0) →
     sum_by f (numbers_below b) ≡ sum_by f (numbers_below a)
+-- by induction on `b`, and by whether `b` is below `a`
 sum_short f a zero l h = let e : a ≡ 0 = omega arith in ap (λ m. sum_by f (numbers_below m)) (sym e)
 sum_short f a (suc b) l h = ⊎_elim
     (λ (p : b < a). let e : suc b ≡ a = omega arith in ap (λ m. sum_by f (numbers_below m)) e)
@@ -42,13 +43,14 @@ sum_short f a (suc b) l h = ⊎_elim
     let r : sum_by f (numbers_below (suc b)) ≡ sum_by f (numbers_below a) = omega arith in r)
     (cases_lt b a)
 
--- a cube with its bounds and the faults that it leaves, and a scenario that it matches
+-- given: a cube with its bounds and the faults that it leaves, and a scenario that it matches
 module _ (g : Graph) (limits : IsWithinLimits g) (cube : List Literal) (is : IsCube g cube) (low high : List ℕ)
     (are : AreBounds cube low high) (long : length low ≡ 256) (left : ℕ)
     (some : budget_left (is_open g.faults) asked_of_literal g.faults cube ≡ Some left) (s : Scenario)
     (i : IsScenario g s) (t : matches cube s ≡ true) where
   -- no number of the scenario is below the cube's low
   low_le : (v : ℕ) → get_or low v 0 ≤ number_of s v
+  -- for one of the 256 variables the bounds have the cube's low; past these they give 0
   low_le v = ⊎_elim
       (λ (h : v < 256). let a = are.low v h in let b = low_in-le cube s v t in omega arith)
       (λ (h : 256 ≤ v). let a = get_or_past low v 0 (omega arith) in omega arith)
@@ -56,6 +58,7 @@ module _ (g : Graph) (limits : IsWithinLimits g) (cube : List Literal) (is : IsC
 
   -- the numbers of a scenario that the cube matches are on the bounds of the cube
   pub is_on : IsOn low high left (number_of s)
+  -- a spanning literal on a variable of the graph holds wherever the cube matches; any other variable has the number 0
   is_on = record {
     lows = low_le;
     spanned = λ l h. ⊎_elim
@@ -77,7 +80,7 @@ module _ (g : Graph) (limits : IsWithinLimits g) (cube : List Literal) (is : IsC
       let d = holds-high s l (from_all (holds s) cube l t c) in
       omega arith
 
-  -- they are no further beyond the lows than the cube's ranges are wide
+  -- no number of the scenario is further beyond its low than the cube's range is wide
   pub is_narrow : IsNarrow low (number_of s) cube
   is_narrow k d h = narrow_at (get_or cube k d) (Contains-get_or cube k d h)
 
@@ -123,6 +126,7 @@ module _ (g : Graph) (limits : IsWithinLimits g) (cube : List Literal) (is : IsC
       list_any (λ b. matches (seen b) s) by ≡ true
   is_covered seen by cubes few needs more keeps = ⊎_elim
       (λ (p : list_any (λ b. matches (seen b) s) by ≡ true). p)
+      -- if the scenario matched none, what it has beyond the cube's lows would take more faults than are left
       (λ (p : list_any (λ b. matches (seen b) s) by ≡ false).
       let off = false_from_ne_true (is_any_at (beyond low (number_of s)) cubes) (λ k. both_ways _ p (keeps k)) in
       absurd (too_many 128 refl off))

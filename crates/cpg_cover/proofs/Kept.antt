@@ -18,6 +18,7 @@ use Rattle.cpg_cover.specs.Cover.{is_left}
 pub left_same : {X : Type 0} (f : X → List Literal) (xs ys : List X) (cube : List Literal) (s : Scenario) →
     (matches cube s ≡ true → list_any (λ b. matches (f b) s) xs ≡ list_any (λ b. matches (f b) s) ys)
     → is_left (map f xs) cube s ≡ is_left (map f ys) cube s
+-- by whether the cube matches: if it does, both lists match alike, and if not, nothing is left by either
 left_same f xs ys cube s h = ⊎_elim
     (λ (t : matches cube s ≡ true). ap (λ u. matches cube s && not u)
     (any_map (λ b. matches b s) f xs ∙ h t ∙ sym (any_map (λ b. matches b s) f ys)))
@@ -34,7 +35,7 @@ module _ {X : Type 0} (test : X → Bool) where
       ∙ sym (list_any-append test (take i by) (get_or by i d ∷ [])) ∙
       sym (ap (list_any test) (take_more by i d h))
 
-  -- so it is without the next element if the test fails for it
+  -- if the test fails for the next element, it passes for some kept element as it does for one more of all
   pub kept_skip : (kept by : List X) (i : ℕ) (d : X) → i < length by → test (get_or by i d) ≡ false →
       list_any test kept ≡ list_any test (take i by) →
       list_any test kept ≡ list_any test (take (i + 1) by)
@@ -50,7 +51,7 @@ module _ {X : Type 0} (test : X → Bool) where
       ∙ sym (list_all-append test (take i by) (get_or by i d ∷ [])) ∙
       sym (ap (list_all test) (take_more by i d h))
 
-  -- so it is without the next element if the test passes for it
+  -- if the test passes for the next element, it passes for all that are kept as it does for one more of all
   pub all_skip : (kept by : List X) (i : ℕ) (d : X) → i < length by → test (get_or by i d) ≡ true →
       list_all test kept ≡ list_all test (take i by) →
       list_all test kept ≡ list_all test (take (i + 1) by)
@@ -88,6 +89,7 @@ all_unmapped P f (x ∷ xs) h (suc k) d l = all_unmapped P f xs (λ j e m. h (su
 -- in a rising list of literals no variable is less than its place
 rising_place : (ls : List Literal) (i : ℕ) (d : Literal) → IsRising ls → i < length ls →
     i ≤ (slice_index_or ls i d).variable
+-- by induction on `i`
 rising_place ls zero d r h = omega arith
 rising_place ls (suc i) d r h =
     let a = rising_place ls i d r (omega arith) in

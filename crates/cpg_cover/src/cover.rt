@@ -1,4 +1,5 @@
-//! What a list of cubes leaves of a cube.
+//! What a list of cubes leaves of a cube: the least scenario that the cube matches and none of the list does. A first search
+//! splits the cube by the literals of the list. If that takes too long, a second one goes along the order of the variables.
 ghost use Rattle.std.specs.Prelude.{◌≡◌, ◌≤◌, ◌<◌, ◌&&◌, All, IfNone, IfOk, IfSome, IsTrue, None, Some, false, length, map, not, true, vec_len};
 ghost use Rattle.std.specs.Bool.{OnTrue};
 ghost use Rattle.std.specs.List.{list_any};
@@ -22,7 +23,7 @@ use cpg_base::{Order, OutOfMemory, Problem, Scenario, is_before, top};
 use cpg_cube::{Bounds, Cube, Literal, budget_left, variables_along};
 use std::alloc::Global;
 
-/// The earlier of two scenarios, if there are two.
+/// Returns the earlier of two scenarios along the order, or the one that there is; `None` if there is none.
 pub fn earlier(
     problem: &Problem,
     order: &Order,
@@ -47,7 +48,7 @@ pub fn earlier(
     }
 }
 
-/// The place of a cube that matches a scenario.
+/// Returns the place of the first cube that matches a scenario; `None` exactly if none does.
 fn place_of_match(by: &[&Cube], scenario: &Scenario) -> Option<usize>
     ensures none { IfNone result (list_any (λ b. matches b.now scenario.now) by.now ≡ false) }
     ensures within { IfSome result (λ place. place < length by.now) }
@@ -60,7 +61,8 @@ fn place_of_match(by: &[&Cube], scenario: &Scenario) -> Option<usize>
     None
 }
 
-/// The cubes of a list that match some scenario together with a cube: they leave the same of it as the whole list.
+/// Returns those cubes of a list that match some scenario together with `cube`: they leave the same of it as the whole list.
+/// The one error is `OutOfMemory`.
 fn meeting<'a>(
     alloc: Global,
     problem: &Problem,
@@ -76,7 +78,7 @@ fn meeting<'a>(
 {
     let mut kept = Vec::new(alloc);
     let k = problem.faults();
-    // the cube asks for more faults than there may be, so it has no scenario
+    // the cube matches no scenario, so no cube is needed to leave nothing of it
     let Some(left) = budget_left(k, cube.literals()) else {
         return Ok(kept);
     };
@@ -90,7 +92,7 @@ fn meeting<'a>(
     Ok(kept)
 }
 
-/// The literals of a list that aren't known to hold in every scenario that a cube matches. The others hold in each of them.
+/// Returns those literals that may fail in some scenario that a cube matches. The others hold in each of these.
 fn cutting(
     alloc: Global,
     problem: &Problem,
@@ -106,7 +108,7 @@ fn cutting(
 {
     let mut kept = Vec::new(alloc);
     let k = problem.faults();
-    // the cube has no scenario, so every literal holds in each of them
+    // the cube matches no scenario, so no literal fails in one
     let Some(left) = budget_left(k, cube.literals()) else {
         return Ok(kept);
     };
@@ -119,7 +121,7 @@ fn cutting(
     Ok(kept)
 }
 
-/// The numbers below a literal's range, as a literal; none if the range begins at 0.
+/// Returns the numbers below a literal's range, as a literal; `None` if the range begins at 0.
 fn below(literal: &Literal) -> Option<Literal>
     ensures { result ≡ range_below literal.now }
 {
@@ -133,8 +135,8 @@ fn below(literal: &Literal) -> Option<Literal>
     })
 }
 
-/// The numbers above a literal's range, as a literal; none if the range ends at the greatest number that the variable
-/// has in scenarios of at most `k` faults.
+/// Returns the numbers above a literal's range, as a literal; `None` if the range reaches the greatest number that the
+/// variable has in scenarios of at most `k` faults.
 fn above(k: u8, literal: &Literal) -> Option<Literal>
     ensures { result ≡ range_above k literal.now }
 {
@@ -149,7 +151,8 @@ fn above(k: u8, literal: &Literal) -> Option<Literal>
     })
 }
 
-/// The least scenario that a list leaves of a cube narrowed by a literal, if there is one.
+/// Returns the least scenario that a list leaves of a cube narrowed by a literal; `None` if it leaves none, or there is no
+/// literal.
 #[cycle(cover)]
 fn left_of_part(
     alloc: Global,
@@ -167,7 +170,7 @@ fn left_of_part(
     ensures part { IfOk result (λ r. IfSome literal (λ l. IsFirst problem.now order.now (is_left (map (λ b. b.now) by.now) (narrowed_by l cube.now)) r)) }
     ensures none { IfOk result (λ r. IfNone literal (r ≡ None)) }
 {
-    // no number is on this side of the range
+    // no number is on this side of the range that the literal would be for
     let Some(literal) = literal else {
         return Ok(None);
     };
@@ -180,7 +183,8 @@ fn left_of_part(
     Ok(found)
 }
 
-/// The least scenario that the cube matches, the literals don't and none of the list does, if there is one.
+/// Returns the least scenario that a cube matches, in which one of the literals fails, and that none of the list matches;
+/// `None` if there is no such scenario.
 #[cycle(cover)]
 fn left_outside(
     alloc: Global,
@@ -198,19 +202,19 @@ fn left_outside(
     requires list { All (λ b. IsKnown problem.now b.now) by.now }
     ensures { IfOk result (λ r. IsFirst problem.now order.now (λ s. is_left (map (λ b. b.now) by.now) cube.now s && not (matches literals.now s)) r) }
 {
-    // every scenario matches no literals, so none is outside
+    // without literals none can fail
     let Some((literal, rest)) = literals.split_first() else {
         return Ok(None);
     };
     let k = problem.faults();
     let low = left_of_part(alloc, problem, order, cube, below(literal), by, effort)?;
     let high = left_of_part(alloc, problem, order, cube, above(k, literal), by, effort)?;
-    // the least one that fails the first literal; another one holds it and fails the rest
+    // the least one in which the first literal fails; in any other it holds, and one of the rest fails
     let beside = earlier(problem, order, low, high);
     if rest.is_empty() {
         return Ok(beside);
     }
-    // no scenario of the cube holds the literal
+    // the literal holds in no scenario of the cube
     let Some(within) = cube.with(*literal)? else {
         return Ok(beside);
     };
@@ -227,7 +231,8 @@ fn left_outside(
     Ok(earlier(problem, order, beside, found))
 }
 
-/// The least scenario that a list leaves of a cube, if there is one.
+/// Returns the least scenario that a list leaves of a cube; `None` if it leaves none. It fails with `Effort` if it would take
+/// more splittings than are left.
 #[cycle(cover)]
 fn left_of(
     alloc: Global,
@@ -243,7 +248,7 @@ fn left_of(
     ensures { IfOk result (λ r. IsFirst problem.now order.now (is_left (map (λ b. b.now) by.entry.items) cube.now) r) }
 {
     effort.spend()?;
-    // the cube has no scenario
+    // the cube matches no scenario
     let Some(least) = cube.least(alloc, problem)? else {
         return Ok(None);
     };
@@ -251,7 +256,7 @@ fn left_of(
     let Some(place) = place_of_match(by.as_slice(), &least) else {
         return Ok(Some(least));
     };
-    // what is left is outside the cube of the list that matches, and outside the others
+    // what is left is outside the cube of the list that matches, so one of its literals fails, and outside the others
     let mut others = by;
     let first = others.remove(place);
     let cutting = cutting(alloc, problem, cube, first.literals())?;
@@ -268,7 +273,7 @@ fn left_of(
     Ok(found)
 }
 
-/// The least scenario that a list leaves of a cube, by as many splittings as that takes.
+/// Returns the least scenario that a list leaves of a cube, with as many splittings as that takes; `None` if it leaves none.
 fn left_at_last(
     alloc: Global,
     problem: &Problem,
@@ -284,11 +289,12 @@ fn left_at_last(
     let mut effort = Effort::endless();
     match left_of(alloc, problem, order, cube, by, &mut effort) {
         Ok(found) => Ok(found),
+        // the effort is endless, so only memory can have run out
         Err(_) => Err(OutOfMemory),
     }
 }
 
-/// The variables on which some cube has a literal.
+/// Returns marks of the variables on which some cube has a literal.
 fn marked(by: &[&Cube]) -> [bool; 256] {
     let mut marks = [false; 256];
     for other in by {
@@ -297,7 +303,7 @@ fn marked(by: &[&Cube]) -> [bool; 256] {
     marks
 }
 
-/// The variables along an order on which some cube has a literal.
+/// Returns the variables on which some cube has a literal, in the order of the processes. The one error is `OutOfMemory`.
 fn variables_of(
     alloc: Global,
     problem: &Problem,
@@ -318,7 +324,8 @@ fn variables_of(
     Ok(variables)
 }
 
-/// Whether a part has no scenario before one that is found.
+/// Says whether the part needn't be searched: true only if a scenario is found, and none that the part matches comes before it.
+/// The one error is `OutOfMemory`.
 fn is_late(
     alloc: Global,
     problem: &Problem,
@@ -335,13 +342,14 @@ fn is_late(
     let Some(found) = found else {
         return Ok(false);
     };
+    // the part matches no scenario, so its search ends at once anyway
     let Some(least) = part.least(alloc, problem)? else {
         return Ok(false);
     };
     Ok(!is_before(problem, order, &least, found))
 }
 
-/// The least scenario that a list leaves of a part of what it is asked about, if there is one.
+/// Returns the least scenario that a list leaves of a part of the cube in question; `None` if it leaves none.
 #[cycle(along)]
 fn least_of_part(
     alloc: Global,
@@ -363,7 +371,8 @@ fn least_of_part(
     Ok(found)
 }
 
-/// The least scenario that a list leaves of a cube, by the numbers of the first of some variables, from 0 on.
+/// Returns the least scenario that a list leaves of a cube; `None` if it leaves none. It searches the parts of the cube with
+/// each number of the first variable, from 0 on, by the other variables.
 #[cycle(along)]
 fn least_by_number(
     alloc: Global,
@@ -392,6 +401,7 @@ fn least_by_number(
             low: number as u8,
             high: number as u8,
         };
+        // a number that the cube excludes makes no part
         if let Some(part) = cube.with(literal)? {
             let late = is_late(alloc, problem, order, &part, &found)?;
             if !late {
@@ -404,8 +414,8 @@ fn least_by_number(
     Ok(found)
 }
 
-/// The least scenario that a list leaves of a cube, by variables along the order, if there is one. A part that is
-/// found to be covered isn't split, so that each split but for late parts has a scenario that is left.
+/// Returns the least scenario that a list leaves of a cube; `None` if it leaves none. It splits the cube by the variables along
+/// the order, unless the cube is found to be covered: so mostly only cubes of which something is left are split.
 #[cycle(along)]
 fn least_along(
     alloc: Global,
@@ -422,7 +432,7 @@ fn least_along(
     requires variables { All (IsVariable problem.now) variables.now }
     ensures { IfOk result (λ r. IsFirst problem.now order.now (is_left (map (λ b. b.now) by.entry.items) cube.now) r) }
 {
-    // the cube has no scenario
+    // the cube matches no scenario
     let Some(least) = cube.least(alloc, problem)? else {
         return Ok(None);
     };
@@ -438,7 +448,8 @@ fn least_along(
     Ok(found)
 }
 
-/// The least scenario that a list leaves of a cube, by the variables along the order.
+/// Returns the least scenario that a list leaves of a cube, by a search along the order; `None` if it leaves none. The one
+/// error is `OutOfMemory`.
 fn left_along(
     alloc: Global,
     problem: &Problem,
@@ -466,8 +477,8 @@ fn left_along(
     Ok(found)
 }
 
-/// The least scenario along an order that a cube matches and no cube of a list does; `None` exactly if every
-/// scenario within the problem's faults that matches the cube matches one of the list.
+/// Returns the least scenario along an order that a cube matches and no cube of a list does; `None` exactly if the list
+/// matches every scenario within the problem's faults that the cube matches. The one error is `OutOfMemory`.
 pub fn uncovered(
     alloc: Global,
     problem: &Problem,
@@ -485,11 +496,12 @@ pub fn uncovered(
     match left_of(alloc, problem, order, cube, kept, &mut effort) {
         Ok(found) => Ok(found),
         Err(Stop::Memory) => Err(OutOfMemory),
+        // the search takes too long by the literals of the list, so it is made along the order
         Err(Stop::Effort) => left_along(alloc, problem, order, cube, by),
     }
 }
 
-/// A reference to each cube.
+/// Returns a reference to each cube, in their order. The one error is `OutOfMemory`.
 fn lent<'a>(alloc: Global, by: &'a [Cube]) -> Result<Vec<&'a Cube>, OutOfMemory>
     ensures { IfOk result (λ cubes. map (λ b. b.now) cubes.items ≡ by.now) }
 {
@@ -501,8 +513,8 @@ fn lent<'a>(alloc: Global, by: &'a [Cube]) -> Result<Vec<&'a Cube>, OutOfMemory>
     Ok(cubes)
 }
 
-/// Whether a list covers a cube: `None` exactly if every scenario within the problem's faults that matches the cube
-/// matches one of the list, and else the least along the order that doesn't.
+/// Says whether a list covers a cube. It returns `None` exactly if each scenario within the problem's faults that the cube
+/// matches is matched by one of the list, and otherwise the least along the order that isn't. The one error is `OutOfMemory`.
 pub fn covers(
     alloc: Global,
     problem: &Problem,

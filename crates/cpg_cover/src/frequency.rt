@@ -1,4 +1,4 @@
-//! Literals by how often their variables occur.
+//! Literals sorted by how many cubes have a literal on their variable, so that a search splits by the most frequent first.
 ghost use Rattle.std.specs.Prelude.{◌≡◌, IfOk, IsPermutation, map};
 
 use cpg_base::OutOfMemory;
@@ -6,14 +6,16 @@ use cpg_cube::{Cube, Literal};
 use std::alloc::Global;
 use std::cmp::Reverse;
 
-/// A literal, and how many cubes have one on its variable.
+/// A literal, and how many cubes have one on its variable: ranks compare by the count, the greatest first.
 #[derive(Clone, Copy, Debug, PartialEq, Eq, PartialOrd, Ord)]
 struct LiteralRank {
+    /// How many cubes have a literal on the variable; reversed, so that the greatest count comes first.
     count: Reverse<u32>,
+    /// The literal; ranks with equal counts compare by it.
     literal: Literal,
 }
 
-/// Counts the variables of literals.
+/// Adds 1 to the count of each literal's variable.
 pub(crate) fn count_in(counts: &mut [u32; 256], literals: &[Literal]) {
     for literal in literals {
         let place = literal.variable as usize;
@@ -21,7 +23,7 @@ pub(crate) fn count_in(counts: &mut [u32; 256], literals: &[Literal]) {
     }
 }
 
-/// How many of the cubes have a literal on each variable.
+/// Returns by variable how many of the cubes have a literal on it.
 fn frequencies(by: &[&Cube]) -> [u32; 256] {
     let mut counts = [0; 256];
     for cube in by {
@@ -30,7 +32,7 @@ fn frequencies(by: &[&Cube]) -> [u32; 256] {
     counts
 }
 
-/// The literals, each with how many cubes have one on its variable.
+/// Returns the literals in their order, each with the count of its variable.
 fn ranks(
     alloc: Global,
     literals: &[Literal],
@@ -49,7 +51,7 @@ fn ranks(
     Ok(ranks)
 }
 
-/// The literals alone.
+/// Returns the literals of ranks alone.
 fn unranked(alloc: Global, ranks: &[LiteralRank]) -> Result<Vec<Literal>, OutOfMemory>
     ensures { IfOk result (λ literals. literals.items ≡ map (λ r. r.literal) ranks.now) }
 {
@@ -57,7 +59,8 @@ fn unranked(alloc: Global, ranks: &[LiteralRank]) -> Result<Vec<Literal>, OutOfM
     Ok(literals)
 }
 
-/// The literals of a list, first those on variables that most cubes of another list have a literal on.
+/// Returns the literals, those on the variables first that most cubes of `by` have a literal on. The one error is
+/// `OutOfMemory`.
 pub fn by_frequency(
     alloc: Global,
     literals: &[Literal],

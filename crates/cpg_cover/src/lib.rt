@@ -1,4 +1,5 @@
-//! What a list of cubes leaves of a cube, and whether it covers it.
+//! What a list of cubes leaves of a cube: the least scenario that the cube matches and none of the list, or none if the list
+//! covers the cube.
 #![tactic(auto)]
 
 mod cover;

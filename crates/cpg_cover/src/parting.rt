@@ -1,4 +1,4 @@
-//! Cubes parted by the variables that they are on.
+//! Cubes parted by their variables, so that those of one part have none in common with those of the other.
 ghost use Rattle.std.specs.Prelude.{◌≡◌, ℕ, IfOk, false, get_or, true};
 ghost use Rattle.std.specs.List.{list_all};
 ghost use Rattle.cpg_base.specs.Numbers.{same_bool};
@@ -8,7 +8,7 @@ use cpg_base::OutOfMemory;
 use cpg_cube::{Cube, Literal};
 use std::alloc::Global;
 
-/// Whether all literals are on variables that are marked as wanted.
+/// Whether the mark of each literal's variable is `wanted`.
 pub(crate) fn are_all(literals: &[Literal], marks: &[bool; 256], wanted: bool) -> bool
     ensures { result ≡ list_all (λ l. same_bool (get_or marks.now l.variable false) wanted) literals.now }
 {
@@ -26,11 +26,12 @@ pub(crate) fn mark_all(literals: &[Literal], marks: &mut [bool; 256])
     }
 }
 
-/// Marks the variables of each cube that has a marked one, and says whether one was new.
+/// Marks all variables of each cube that has a marked one, and returns whether a mark was added.
 fn mark_more(cubes: &[Cube], marks: &mut [bool; 256]) -> bool {
     let mut more = false;
     for cube in cubes {
         let literals = cube.literals();
+        // the cube has marked variables and unmarked ones
         if !are_all(literals, marks, false) && !are_all(literals, marks, true) {
             mark_all(literals, marks);
             more = true;
@@ -39,12 +40,13 @@ fn mark_more(cubes: &[Cube], marks: &mut [bool; 256]) -> bool {
     more
 }
 
-/// The variables that the first cube's are joined with, by cubes that have literals on both.
+/// Returns marks of the variables that the first cube has, or that are joined with these by cubes that have both.
 pub(crate) fn joined_variables(cubes: &[Cube]) -> [bool; 256] {
     let mut marks = [false; 256];
     if let Some(first) = cubes.first() {
         mark_all(first.literals(), &mut marks);
     }
+    // each round but the last marks at least one more of the 256 variables, so this many rounds are enough
     for _ in 0..256u32 {
         if !mark_more(cubes, &mut marks) {
             return marks;
@@ -53,14 +55,14 @@ pub(crate) fn joined_variables(cubes: &[Cube]) -> [bool; 256] {
     marks
 }
 
-/// Whether a cube has no variable that is marked.
+/// Whether some cube has no marked variable.
 pub(crate) fn has_apart(cubes: &[Cube], marks: &[bool; 256]) -> bool {
     cubes
         .iter()
         .any(|cube| are_all(cube.literals(), marks, false))
 }
 
-/// The cubes all of whose variables are marked, or none.
+/// Returns copies of the cubes whose variables are all marked (`wanted` true) or all unmarked (`wanted` false).
 pub(crate) fn parted(
     alloc: Global,
     cubes: &[Cube],

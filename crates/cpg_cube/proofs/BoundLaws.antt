@@ -1,4 +1,4 @@
--- What the bounds of a cube say about another: whether they meet, and whether it lies within the other.
+-- What the bounds of a cube say about another cube: whether the two meet, and whether the first lies within the other.
 use Rattle.std.proofs.Common.{ℕ, ◌+◌, ◌-◌, ◌<◌, ◌≤◌, ◌≡◌, ◌⊎◌, min, true, cond, not, ◌&&◌, ◌||◌, ◌==◌, List, [], ◌∷◌}
 use Rattle.std.proofs.Common.{get_or, map, sum_by, Contains, arith, refl, sym, ap, ap₂, ◌∙◌, ⊎_elim, inl, inr}
 use Rattle.std.proofs.Common.{lt-ltb, le-ltb, le-leb, leb-true, eq-eqb, ne_eqb}
@@ -23,14 +23,17 @@ use Rattle.cpg_cube.proofs.CubeLows.{budget_of_cube}
 use Rattle.cpg_cube.proofs.Budgets.{budget_is}
 use Rattle.cpg_cube.proofs.BoundSteps.{low_here, low_else, bound_here, bound_else}
 
--- ---- a low, and a bound, is that of a literal or the whole one
+-- ---- A low or a bound is that of a literal, or that of the whole range.
 
 -- the low of a variable is 0 or that of a literal on the variable
 pub low_of_some : (ls : List Literal) (v : ℕ) →
     (low_in ls v ≡ 0) ⊎ ((m : Literal) × Contains ls m × (m.variable ≡ v) × (low_in ls v ≡ m.low))
+-- by induction on the literals, and by whether `l.variable` is `v`
 low_of_some [] v = inl refl
 low_of_some (l ∷ ls) v = ⊎_elim
+    -- the first literal is on v, and the low is its low
     (λ (e : l.variable ≡ v). inr (l, Contains-first l ls, e, low_here l v ls e))
+    -- it isn't: the low is that of the rest, which is 0 or one of the rest's lows
     (λ (n : l.variable ≡ v → ⊥). ⊎_elim
     (λ (z : low_in ls v ≡ 0). inl (low_else l v ls n ∙ z))
     (λ (r : (m : Literal) × Contains ls m × (m.variable ≡ v) × (low_in ls v ≡ m.low)).
@@ -38,10 +41,11 @@ low_of_some (l ∷ ls) v = ⊎_elim
     (low_of_some ls v))
     (cases_eq l.variable v)
 
--- the bound, beside the high
+-- the bound and the high of a variable are 255 and its top, or both the high of a literal on it
 bound_of_some : (k : ℕ) (ls : List Literal) (v : ℕ) →
     ((bound_in ls v ≡ 255) × (low_in ls v ≡ 0) × (high_in k ls v ≡ top k v)) ⊎
     ((m : Literal) × Contains ls m × (m.variable ≡ v) × (bound_in ls v ≡ m.high) × (high_in k ls v ≡ m.high))
+-- by induction on the literals, and by whether `l.variable` is `v`
 bound_of_some k [] v = inl (refl, refl, refl)
 bound_of_some k (l ∷ ls) v = ⊎_elim
     -- the first literal is on the variable, and is the one that bounds it
@@ -66,6 +70,7 @@ bound_of_some k (l ∷ ls) v = ⊎_elim
 -- the bound of a literal's variable in a rising cube is the high of the literal
 pub bound_of_literal : (cube : List Literal) (l : Literal) → IsRising cube → Contains cube l →
     bound_in cube l.variable ≡ l.high
+-- by induction on the literals
 bound_of_literal [] l r c = absurd (Contains-nil l c)
 bound_of_literal (m ∷ ms) l r c = ⊎_elim
     (λ (e : m ≡ l). bound_here m l.variable ms (ap (λ (n : Literal). n.variable) e) ∙ ap (λ (n : Literal). n.high) e)
@@ -75,13 +80,14 @@ bound_of_literal (m ∷ ms) l r c = ⊎_elim
 
 -- ---- the sum of the greater lows
 
--- a literal with its low above another cube's
+-- the literal with only as much of its low as is above that of the cube a: how many more faults it asks for
 raised : List Literal → Literal → Literal
 raised a l = record { variable = l.variable; low = l.low - low_in a l.variable; high = l.high }
 
 -- the low of a raised cube is how far the low of the cube `ls` is above that of `a`
 low_raised : (a ls : List Literal) (v : ℕ) → low_in (map (raised a) ls) v ≡ low_in ls v - low_in a v
 unfolding raised
+-- by induction on the literals, and by whether `l.variable` is `v`
 low_raised a [] v = let z : 0 ≡ 0 - low_in a v = omega arith in z
 low_raised a (l ∷ ls) v = ⊎_elim
     (λ (e : l.variable ≡ v). low_here (raised a l) v (map (raised a) ls) e
@@ -90,7 +96,7 @@ low_raised a (l ∷ ls) v = ⊎_elim
     ∙ ap (λ x. x - low_in a v) (sym (low_else l v ls n)))
     (cases_eq l.variable v)
 
--- a cube of a graph of few processes, and its bounds
+-- given: a cube a of a graph, and its bounds
 module _ (g : Graph) (few : process_count g ≤ 128) (a : List Literal) (is_a : IsCube g a) (lows highs : List ℕ)
     (are : AreBounds a lows highs) where
   -- the raised literals are a cube of the graph, on the same variables
@@ -105,6 +111,7 @@ module _ (g : Graph) (few : process_count g ≤ 128) (a : List Literal) (is_a : 
   -- a raised literal asks for the faults that the literal asks for beyond its variable's low; a value for none
   more_of_raised : (l : Literal) → asked_of_literal (raised a l) ≡ more_asked lows l
   unfolding raised
+  -- a count asks for its raised low, which is what it asks beyond the other's; a value asks for none
   more_of_raised l = ⊎_elim
       (λ (h : l.variable < 128). let e = are.low l.variable (omega arith) in
       cond-true (nat_lt l.variable 128) (l.low - low_in a l.variable) 0 (lt-ltb l.variable 128 h)
@@ -118,6 +125,7 @@ module _ (g : Graph) (few : process_count g ≤ 128) (a : List Literal) (is_a : 
   -- the greater lows add up to what the first cube asks for and what the second asks for beyond
   pub sum_of_both : (b : List Literal) → IsCube g b →
       sum_by (both_low a b) (numbers_below (process_count g)) ≡ asked_faults a + sum_by (more_asked lows) b
+  -- the greater of two lows is the first and what the second is above it; each part is summed up over the literals
   sum_of_both b is =
       same_sum_by (both_low a b) (λ v. low_in a v + low_in (map (raised a) b) v) (numbers_below (process_count g))
       (λ v c. let e = low_raised a b v in omega arith)
@@ -129,7 +137,7 @@ module _ (g : Graph) (few : process_count g ≤ 128) (a : List Literal) (is_a : 
 
   -- ---- two cubes
 
-  -- the cube is met, with some faults left, and there is another cube
+  -- given: the cube a is met, and leaves `left` faults; and another cube b
   module _ (small : condition_count g ≤ 32) (limit : g.faults ≤ 255) (met : is_met g.faults a ≡ true) (left : ℕ)
       (rest : left + asked_faults a ≡ g.faults) (b : List Literal) (is_b : IsCube g b) where
     -- each variable of b is below 256
@@ -141,6 +149,7 @@ module _ (g : Graph) (few : process_count g ≤ 128) (a : List Literal) (is_a : 
 
     -- no variable has a top above 255
     top_small : (v : ℕ) → top g.faults v ≤ 255
+    -- the top of a count is the graph's faults, of which there are few; that of a value is 1
     top_small v = ⊎_elim
         (λ (h : v < 128). let e = top_of_count g.faults v h in omega arith)
         (λ (h : 128 ≤ v). let e = top_of_value g.faults v h in omega arith)
@@ -151,9 +160,10 @@ module _ (g : Graph) (few : process_count g ≤ 128) (a : List Literal) (is_a : 
     open_first l c = from_all (is_open g.faults) a l
         (and_parts (list_all (is_open g.faults) a) (nat_le (asked_faults a) g.faults) met).0 c
 
-    -- what a literal that touches says
+    -- a literal of b that touches the range of its variable can hold, and shares a number with a's range
     touch_parts : (l : Literal) → Contains b l → touches g.faults lows highs l ≡ true →
         (is_open g.faults l ≡ true) × (low_in a l.variable ≤ l.high) × (l.low ≤ bound_in a l.variable)
+    -- the three tests of `touches`, with the low and the bound that the lists have for the variable
     touch_parts l c t =
         let r = and_parts (is_open g.faults l && nat_le (get_or lows l.variable 0) l.high)
         (nat_le l.low (get_or highs l.variable 0)) t in
@@ -167,6 +177,8 @@ module _ (g : Graph) (few : process_count g ≤ 128) (a : List Literal) (is_a : 
     -- the cubes meet if each literal of b touches the range of its variable and asks for no more than the faults left
     meet_from_touch : list_all (touches g.faults lows highs) b ≡ true → sum_by (more_asked lows) b ≤ left →
         do_meet g a b ≡ true
+    -- the literals of a reach b's lows (0, or the low of a literal that touches), those of b reach a's, and the greater lows
+    -- are within the faults
     meet_from_touch t h = and_from _ _
         (and_from _ _
         (all_from (reaches g.faults b) a
@@ -233,6 +245,7 @@ module _ (g : Graph) (few : process_count g ≤ 128) (a : List Literal) (is_a : 
     most_is : (l : Literal) → Contains b l →
         min (get_or highs l.variable 0) (cond (nat_lt l.variable 128) (get_or lows l.variable 0 + left) 1)
         ≡ most_in g.faults a l.variable
+    -- a count is bounded by its low and the faults left, a value by 1
     most_is l c =
         -- the low and the bound of the variable, as the lists have them
         let e = are.low l.variable (is_small l c) in

@@ -36,6 +36,7 @@ module _ (l : Literal) (v : ℕ) where
 -- a literal put last on a variable above all others gives the low of that variable
 pub low_in-last : (ls : List Literal) (l : Literal) → ((m : Literal) → Contains ls m → m.variable < l.variable) →
     low_in (ls ++ l ∷ []) l.variable ≡ l.low
+-- by induction on the literals
 low_in-last [] l h = low_here l l.variable [] refl
 low_in-last (m ∷ ms) l h =
     let less = h m (Contains-first m ms) in
@@ -43,6 +44,7 @@ low_in-last (m ∷ ms) l h =
 
 -- a literal put last leaves the lows of other variables
 pub low_in-before : (ls : List Literal) (l : Literal) (v : ℕ) → l.variable ≢ v → low_in (ls ++ l ∷ []) v ≡ low_in ls v
+-- by induction on the literals, and by whether `m.variable` is `v`
 low_in-before [] l v n = low_else l v [] n
 low_in-before (m ∷ ms) l v n = ⊎_elim
     (λ (e : m.variable ≡ v). low_here m v (ms ++ l ∷ []) e ∙ sym (low_here m v ms e))
@@ -52,20 +54,22 @@ low_in-before (m ∷ ms) l v n = ⊎_elim
 -- the bound of the last literal's variable is its high
 bound_in-last : (ls : List Literal) (l : Literal) → ((m : Literal) → Contains ls m → m.variable < l.variable) →
     bound_in (ls ++ l ∷ []) l.variable ≡ l.high
+-- by induction on the literals
 bound_in-last [] l h = bound_here l l.variable [] refl
 bound_in-last (m ∷ ms) l h =
     let less = h m (Contains-first m ms) in
     bound_else m l.variable (ms ++ l ∷ []) (λ e. omega arith) ∙ bound_in-last ms l (λ n c. h n (Contains-rest m ms n c))
 
--- the bounds of other variables stay
+-- a literal put last leaves the bounds of other variables
 bound_in-before : (ls : List Literal) (l : Literal) (v : ℕ) → l.variable ≢ v → bound_in (ls ++ l ∷ []) v ≡ bound_in ls v
+-- by induction on the literals, and by whether `m.variable` is `v`
 bound_in-before [] l v n = bound_else l v [] n
 bound_in-before (m ∷ ms) l v n = ⊎_elim
     (λ (e : m.variable ≡ v). bound_here m v (ms ++ l ∷ []) e ∙ sym (bound_here m v ms e))
     (λ (d : m.variable ≡ v → ⊥). bound_else m v (ms ++ l ∷ []) d ∙ bound_in-before ms l v n ∙ sym (bound_else m v ms d))
     (cases_eq m.variable v)
 
--- the literals before a place of a rising list
+-- given: a place of a rising list of literals
 module _ (ls : List Literal) (i : ℕ) (d : Literal) (rising : IsRising ls) (within : i < length ls) where
   -- the literals before a place are on lower variables than the literal there
   pub lower_before : (m : Literal) → Contains (take i ls) m → m.variable < (slice_index_or ls i d).variable
@@ -83,6 +87,7 @@ module _ (ls : List Literal) (i : ℕ) (d : Literal) (rising : IsRising ls) (wit
       AreBounds (take i ls) lows highs
       → AreBounds (take (i + 1) ls) (slice_set lows (slice_index_or ls i d).variable (slice_index_or ls i d).low)
       (slice_set highs (slice_index_or ls i d).variable (slice_index_or ls i d).high)
+  -- at the literal's variable its range is written; at any other the range of the literals before stays
   bounds_push lows highs m n small b =
       let l = slice_index_or ls i d in
       subst (λ c. AreBounds c (slice_set lows l.variable l.low) (slice_set highs l.variable l.high))
@@ -112,6 +117,7 @@ module _ (ls : List Literal) (i : ℕ) (d : Literal) (rising : IsRising ls) (wit
       AreRaised (take i ls) lows later
       → AreRaised (take (i + 1) ls) lows (slice_set later (slice_index_or ls i d).variable
       (max (get_or later (slice_index_or ls i d).variable 0) (slice_index_or ls i d).low))
+  -- at the literal's variable the low is the greater of the two; at any other it stays
   raised_push lows later m small are v h =
       let l = slice_index_or ls i d in
       let x = max (get_or later l.variable 0) l.low in

@@ -10,7 +10,7 @@ use Rattle.cpg_cube.specs.Cube.{Literal}
 use Rattle.cpg_cube.specs.Bounds.{budget_left}
 
 module _ (test : Literal → Bool) (demand : Literal → ℕ) where
-  -- a literal that passes and whose demand is met, and one that doesn't
+  -- a literal that passes and demands no more than is left takes its demand, and the others go on with the rest
   budget_first : (left : ℕ) (l : Literal) (ls : List Literal) → test l ≡ true → demand l ≤ left →
       budget_left test demand left (l ∷ ls) ≡ budget_left test demand (left - demand l) ls
   budget_first left l ls t h = ap (λ b. cond b (budget_left test demand (left - demand l) ls) None)
@@ -24,6 +24,7 @@ module _ (test : Literal → Bool) (demand : Literal → ℕ) where
   -- if all literals pass and their demands sum to no more than the budget, something is left of it
   pub budget_fits : (left : ℕ) (ls : List Literal) → list_all test ls ≡ true → sum_by demand ls ≤ left →
       is_some (budget_left test demand left ls) ≡ true
+  -- by induction on the literals
   budget_fits left [] t h = refl
   budget_fits left (l ∷ ls) t h =
       let r = and_parts (test l) (list_all test ls) t in
@@ -33,6 +34,7 @@ module _ (test : Literal → Bool) (demand : Literal → ℕ) where
   -- if something is left of a budget, all literals pass, and what is left and the demands add up to the budget
   pub budget_some : (left rest : ℕ) (ls : List Literal) → budget_left test demand left ls ≡ Some rest →
       (list_all test ls ≡ true) × (rest + sum_by demand ls ≡ left)
+  -- by induction on the literals
   budget_some left rest [] e = let same : left ≡ rest = cc in (refl, omega arith)
   budget_some left rest (l ∷ ls) e = ⊎_elim
       (λ (t : (test l && nat_le (demand l) left) ≡ true).

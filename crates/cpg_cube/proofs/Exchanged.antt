@@ -12,7 +12,7 @@ use Rattle.cpg_cube.specs.Narrow.{meet_literal, narrowed_by, range_left, with_li
 use Rattle.cpg_cube.specs.Undo.{IsOn, IsUndo, left_of, restored_at, restored}
 use Rattle.cpg_cube.proofs.Narrow.{narrowed-before, narrowed-here, narrowed-after, rising-narrowed}
 
--- a literal on a variable below another's
+-- the first literal is on a lower variable than the second
 abbrev Lower : Literal → Literal → Type 0
 Lower a b = a.variable < b.variable
 
@@ -39,6 +39,7 @@ module _ (l : Literal) where
   range_removed : (cube : List Literal) (i : ℕ) (d : Literal) → IsRising cube → i < length cube →
       (get_or cube i d).variable ≡ l.variable →
       range_left l (remove cube i) ≡ l
+  -- by induction on the literals
   range_removed [] i d r h e = absurd (omega (arith, h))
   range_removed (m ∷ ms) zero d r h e =
       range_other ms (λ y c. let k = AllPairs-first Lower m ms r y c in omega (arith, k, e))
@@ -51,6 +52,7 @@ module _ (l : Literal) where
   put_removed : (cube : List Literal) (i : ℕ) (d : Literal) → IsRising cube → i < length cube →
       (get_or cube i d).variable ≡ l.variable →
       narrowed_by l (remove cube i) ≡ slice_set cube i l
+  -- by induction on the literals
   put_removed [] i d r h e = absurd (omega (arith, h))
   put_removed (m ∷ ms) zero d r h e =
       put_first ms (λ y c. let k = AllPairs-first Lower m ms r y c in omega (arith, k, e))
@@ -66,6 +68,7 @@ module _ (l : Literal) where
     range_set : (cube : List Literal) (i : ℕ) (d : Literal) → IsRising cube → i < length cube →
         (get_or cube i d).variable ≡ l.variable →
         range_left l (slice_set cube i was) ≡ meet_literal l was
+    -- by induction on the literals
     range_set [] i d r h e = absurd (omega (arith, h))
     range_set (m ∷ ms) zero d r h e = cond-true _ _ _ (eq-eqb l.variable was.variable (sym same))
     range_set (m ∷ ms) (suc i) d r h e =
@@ -77,6 +80,7 @@ module _ (l : Literal) where
     put_set : (cube : List Literal) (i : ℕ) (d : Literal) → IsRising cube → i < length cube →
         (get_or cube i d).variable ≡ l.variable →
         narrowed_by l (slice_set cube i was) ≡ slice_set cube i (meet_literal l was)
+    -- by induction on the literals
     put_set [] i d r h e = absurd (omega (arith, h))
     put_set (m ∷ ms) zero d r h e = narrowed-here l was ms (sym same)
     put_set (m ∷ ms) (suc i) d r h e =
@@ -86,20 +90,20 @@ module _ (l : Literal) where
 
 -- ---- either
 
--- what stands where there is no literal
+-- what an index past the end would show
 blank : Literal
 blank = record { variable = 0; low = 0; high = 0 }
 
--- a place of a rising cube with a literal on the variable of another one
+-- given: a place of a rising cube, whose literal is on the variable of l
 module _ (l : Literal) (cube : List Literal) (r : IsRising cube) (place : ℕ) (h : place < length cube)
     (e : (get_or cube place blank).variable ≡ l.variable) where
-  -- what the literal leaves at the place, whether a literal was there or not
+  -- the range that l leaves of the cube as it was is met with the literal from before, or l's own if there was none
   range_at : (was : Option Literal) → IfSome was (λ w. w.variable ≡ l.variable) →
       range_left l (restored_at place was cube) ≡ left_of l was
   range_at None b = range_removed l cube place blank r h e
   range_at (Some was) b = range_set l was b cube place blank r h e
 
-  -- the cube as it was, narrowed by the literal, has that at the place
+  -- the cube as it was, narrowed by l, is the cube with that range at the place
   put_at : (was : Option Literal) → IfSome was (λ w. w.variable ≡ l.variable) →
       narrowed_by l (restored_at place was cube) ≡ slice_set cube place (left_of l was)
   put_at None b = put_removed l cube place blank r h e
@@ -123,7 +127,7 @@ back_at : (x : Literal) (cube : List Literal) (place : ℕ) (was : Option Litera
 back_at x cube place None = set_removed x cube place
 back_at x cube place (Some was) = set_twice x was cube place
 
--- a narrowing of a rising cube on the variable of a literal, and the range that the exchange leaves
+-- given: a narrowing of a rising cube on the variable of l, and the range that the exchange leaves
 module _ (l : Literal) (cube : List Literal) (r : IsRising cube) (n : Narrowing) (h : n.place < length cube)
     (is : IsOn l.variable n cube) (left : Literal) (e : left ≡ left_of l n.was) where
   -- the range that the literal leaves of the cube as it was
@@ -141,7 +145,7 @@ module _ (l : Literal) (cube : List Literal) (r : IsRising cube) (n : Narrowing)
       rw range_exchanged (lt-leb left.low left.high empty) in
       cond-false _ _ _ none
 
-  -- else the cube as it was, with the literal, is the cube with what is left at the place
+  -- if the low left is at most the high, the cube as it was, with l, is the cube with what is left at the place
   pub some_exchanged : left.low ≤ left.high → with_literal l (restored n cube) ≡ Some (slice_set cube n.place left)
   some_exchanged met =
       let some : nat_le (range_left l (restored n cube)).low (range_left l (restored n cube)).high ≡ true =
@@ -152,7 +156,7 @@ module _ (l : Literal) (cube : List Literal) (r : IsRising cube) (n : Narrowing)
   pub rising_exchanged : IsRising (restored n cube) → IsRising (slice_set cube n.place left)
   rising_exchanged was = subst IsRising put_exchanged (rising-narrowed l (restored n cube) was)
 
-  -- the narrowing undoes the exchange, too
+  -- the same narrowing leads back from the exchanged cube to the cube as it was
   pub undo_exchanged : (new : List Literal) → new ≡ slice_set cube n.place left → IsUndo n new (restored n cube)
   undo_exchanged new same = record {
     place = rw same (omega (arith, h, length-set cube n.place left));

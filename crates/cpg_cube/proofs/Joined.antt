@@ -1,4 +1,4 @@
--- Rising literals with others behind them.
+-- When literals rise together with others behind them.
 use Rattle.std.proofs.Common.{ℕ, ◌-◌, ◌<◌, ◌≤◌, ◌≡◌, Bool, true, List, [], ◌∷◌, ◌++◌, length, get_or, All, Some}
 use Rattle.std.proofs.Common.{None, Contains, arith, sym, subst, ◌∙◌, ⊎_elim}
 use Rattle.std.specs.Prelude.{slice_get}
@@ -20,6 +20,7 @@ rising_behind (x ∷ xs) ys r = rising_behind xs ys (rising_rest x (xs ++ ys) r)
 -- in literals that rise together, each of the first ones is below each of those behind them
 rising_across : (xs ys : List Literal) → IsRising (xs ++ ys) → (x y : Literal) → Contains xs x → Contains ys y →
     x.variable < y.variable
+-- by induction on the literals
 rising_across [] ys r x y here there = absurd (Contains-nil x here)
 rising_across (z ∷ xs) ys r x y here there = ⊎_elim
     (λ (e : z ≡ x). subst (λ (l : Literal). l.variable < y.variable) e
@@ -39,6 +40,7 @@ least_first f ls r y there = ⊎_elim
 rising_joined : (xs : List Literal) (last first : Literal) (rest : List Literal) → IsRising xs →
     slice_get xs (length xs - 1) ≡ Some last → last.variable < first.variable → IsRising (first ∷ rest) →
     IsRising (xs ++ first ∷ rest)
+-- a literal of the front is below the first behind it, which is no higher than any other behind it
 rising_joined xs last first rest rx is lower ry =
     AllPairs-append (λ (l m : Literal). l.variable < m.variable) xs (first ∷ rest) rx ry
     (λ x y here there.

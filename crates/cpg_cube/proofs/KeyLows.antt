@@ -21,7 +21,7 @@ use Rattle.cpg_cube.proofs.KeyOrder.{within_order}
 
 -- ---- numbers that are the same on all variables
 
--- two functions that agree on all numbers that may be variables
+-- given: two functions that agree on all variables of the graph
 module _ (g : Graph) (few : process_count g ≤ 128) (few_conditions : condition_count g ≤ 32) (low other : ℕ → ℕ)
     (same : (v : ℕ) → v < 256 → low v ≡ other v) where
   -- they give the same low of a process's value
@@ -39,6 +39,7 @@ module _ (g : Graph) (few : process_count g ≤ 128) (few_conditions : condition
 
 -- ---- the key of the least scenario
 
+-- given: a cube that matches some scenario within the graph's faults
 module _ (g : Graph) (few : process_count g ≤ 128) (cube : List Literal) (met : is_met g.faults cube ≡ true) where
   -- no low of the met cube is above its top
   low_le_top : (l : Literal) → Contains cube l → l.low ≤ top g.faults l.variable

@@ -27,7 +27,7 @@ use Rattle.cpg_cube.specs.Keys.{IsKeyOf}
 use Rattle.cpg_cube.specs.declared.sorting.Ranked.{Ranked}
 use Rattle.cpg_cube.specs.declared.sorting.Placed.{Placed}
 
--- one key comes before another
+-- whether the key of the first column comes before that of the second
 abbrev pub is_key_below : {T : Type 0} → Ranked T → Ranked T → Bool
 is_key_below a b = is_lt (slice_cmp nat_cmp a.key.items b.key.items)
 
@@ -59,11 +59,12 @@ same_first x xs ys = ap (λ (o : Ordering). is_lt (ordering_then o (slice_cmp na
 pub more_first : (x y : ℕ) (xs ys : List ℕ) → y < x → is_below (x ∷ xs) (y ∷ ys) ≡ false
 more_first x y xs ys l = ap (λ (o : Ordering). is_lt (ordering_then o (slice_cmp nat_cmp xs ys))) (cmp_more x y l)
 
--- lows of bytes and others
+-- given: the lows of two cubes, of which the first are bytes
 module _ (low high : ℕ → ℕ) (bytes : (v : ℕ) → low v < 256) where
-  -- a low with fewer places left comes before
+  -- a key whose numbers all have fewer places left comes before one that begins with a number above these
   later_below : (left : ℕ) (vs : List ℕ) (first : ℕ) (rest : List ℕ) → left * 256 + 255 < first →
       is_below (asked_from left (map low vs)) (first ∷ rest) ≡ true
+  -- by induction on the numbers, and by whether `low v` is 0
   later_below left [] first rest l = refl
   later_below left (v ∷ vs) first rest l = elim (cases_eq (low v) 0) [
     | inl e ↦ ap (λ (k : List ℕ). is_below k (first ∷ rest)) (asked_zero left (low v) (map low vs) e)
@@ -110,6 +111,7 @@ module _ (low high : ℕ → ℕ) (bytes : (v : ℕ) → low v < 256) where
 
 -- the low of a variable is that of a literal, or 0
 pub low_in-byte : (cube : List Literal) → AreBytes cube → (v : ℕ) → low_in cube v < 256
+-- by induction on the literals, and by whether `l.variable` is `v`
 low_in-byte [] bytes v = omega arith
 low_in-byte (l ∷ ls) bytes v = elim (cases_eq l.variable v) [
   | inl e ↦ subst (λ n. n < 256) (sym (cond-true (l.variable == v) l.low (low_in ls v) (eq-eqb l.variable v e)))
@@ -137,7 +139,7 @@ twice_long g (p ∷ ps) low =
 
 -- ---- the variables along an order
 
--- the low of the value, if there is one
+-- the low of a condition's variable is that of the value, if there is a condition
 low_of_variable : (low : ℕ → ℕ) (o : Option ℕ) → map low (variable_of_value o) ≡ low_of_value low o
 low_of_variable low None = refl
 low_of_variable low (Some c) = refl
@@ -170,6 +172,7 @@ key_is g order variables along cube =
 pub lows_from_keys : (g : Graph) (order : List ℕ) → length order ≤ 128 → (a b : List Literal) → AreBytes a →
     is_below (key_along g order (low_in a)) (key_along g order (low_in b)) ≡ false →
     is_below (lows_along g order (low_in a)) (lows_along g order (low_in b)) ≡ false
+-- if a's lows were below b's, a's key would be below b's (`asked_below`)
 lows_from_keys g order few a b bytes h =
     let along = lows_by_variable g order in
     false_from_ne_true _ (λ below. both_ways _ h (
@@ -219,6 +222,7 @@ module _ {T : Type 0} (cube : T → List Literal) (columns : List T) where
       with_next : (i : ℕ) → ((j : ℕ) (d : T) → j < n → is_below (key_at j d) (key_at i d) ≡ false) →
           ((d : T) → is_below (key_at next.place d) (key_at i d) ≡ false) → (j : ℕ) (d : T) → j < n + 1 →
           is_below (key_at j d) (key_at i d) ≡ false
+      -- a column is one of the first n, or the next one
       with_next i before after j d l = elim (cases_lt j n) [
         | inl m ↦ before j d m
         | inr m ↦ subst (λ o. is_below (key_at o d) (key_at i d) ≡ false) (let e : next.place ≡ j =
@@ -227,6 +231,7 @@ module _ {T : Type 0} (cube : T → List Literal) (columns : List T) where
 
       -- the lows of all these columns are bytes
       all_bytes : (j : ℕ) (d : T) → j < n + 1 → AreBytes (cube (get_or columns j d))
+      -- a column is one of the first n, or the next one
       all_bytes j d l = elim (cases_lt j n) [
         | inl m ↦ h.first.bytes j d m
         | inr m ↦ subst (λ o. AreBytes (cube (get_or columns o d))) (let e : next.place ≡ j = omega (arith, l, m, at) in
@@ -246,6 +251,7 @@ module _ {T : Type 0} (cube : T → List Literal) (columns : List T) where
 
       -- if the next key is before the best one, the next column is the best so far
       comes : is_below next.key.items best.key.items ≡ true → IsBest (n + 1) next
+      -- no key of the first n is before the best one, which is no longer before the next one
       comes t = record {
         first = record {
           there = omega (arith, at);
@@ -277,6 +283,7 @@ pub by_lows : {T : Type 0} (cube : T → List Literal) (g : Graph) (order variab
     (before after : List (Ranked T)) →
     All (λ r. IsKeyOf variables (cube r.column) r.key.items) before → IsPermutation before after →
     IsSortedBy is_key_below after → AreByLows cube g order (map (λ r. r.column) after)
+-- two columns that are sorted by their keys: these are the keys of their lows, so their lows are sorted too
 by_lows {T} cube g order variables few along before after keys p up =
     AllPairs-map (λ (a b : Ranked T).
     is_below (lows_along g order (low_in (cube b.column))) (lows_along g order (low_in (cube a.column))) ≡ false)

@@ -39,13 +39,14 @@ left_later left u v us n = cond-false (u == v) left (left_at (left - 1) us v) (n
 
 -- no variable has more places left than there were
 left_le : (left : ℕ) (us : List ℕ) (v : ℕ) → left_at left us v ≤ left
+-- by induction on the numbers, and by whether `u` is `v`
 left_le left [] v = omega arith
 left_le left (u ∷ us) v = elim (cases_eq u v) [
   | inl e ↦ omega (arith, left_here left u v us e)
   | inr n ↦ omega (arith, left_later left u v us n, left_le (left - 1) us v)
 ]
 
--- a variable that is added at the end has as many left as stand before it fewer
+-- a variable that is added at the end has as many places fewer left as there are variables before it
 left_last : (left : ℕ) (us : List ℕ) (v : ℕ) → ((u : ℕ) → Contains us u → u ≢ v) →
     left_at left (us ++ v ∷ []) v ≡ left - length us
 left_last left [] v h = left_here left v v [] refl ∙ omega arith
@@ -54,6 +55,7 @@ left_last left (u ∷ us) v h = left_later left u v (us ++ v ∷ []) (h u (Conta
 
 -- adding another variable changes nothing for this one
 left_before : (left : ℕ) (us : List ℕ) (w v : ℕ) → w ≢ v → left_at left (us ++ w ∷ []) v ≡ left_at left us v
+-- by induction on the numbers, and by whether `u` is `v`
 left_before left [] w v n = left_later left w v [] n
 left_before left (u ∷ us) w v n = elim (cases_eq u v) [
   | inl e ↦ left_here left u v (us ++ w ∷ []) e ∙ sym (left_here left u v us e)
@@ -142,6 +144,7 @@ put_front number key e = ap (λ n. take n key ++ number ∷ drop n key) e
 -- a low that isn't above the first of the key is put behind that
 put_past : (p low a : ℕ) (key : List ℕ) → p * 256 + low ≤ a →
     with_any_asked p low (a ∷ key) ≡ a ∷ with_any_asked p low key
+-- without a place, the key stays as it is; with one, the new number belongs behind the first
 put_past p low a key l = elim (cases_eq p 0) [
   | inl z ↦ none (a ∷ key) z ∙ ap (λ k. a ∷ k) (sym (none key z))
   | inr n ↦ some (a ∷ key) n ∙ ap (λ m. take m (a ∷ key) ++ (p * 256 + low) ∷ drop m (a ∷ key))
@@ -156,9 +159,10 @@ put_past p low a key l = elim (cases_eq p 0) [
     some : (key : List ℕ) → p ≢ 0 → with_any_asked p low key ≡ with_number (p * 256 + low) key
     some key n = cond-false (p == 0) key (with_number (p * 256 + low) key) (ne_eqb p 0 n)
 
--- before all that have fewer places left
+-- a number with more places left than any of a key belongs in front of the key
 front : (f : ℕ → ℕ) → ((u : ℕ) → f u < 256) → (number left : ℕ) (vs : List ℕ) → left * 256 + 255 < number →
     place_in number (asked_from left (map f vs)) ≡ 0
+-- by induction on the numbers, and by whether `f v` is 0
 front f bytes number left [] l = refl
 front f bytes number left (v ∷ vs) l = elim (cases_eq (f v) 0) [
   | inl z ↦ ap (place_in number) (asked_zero left (f v) (map f vs) z)
@@ -168,12 +172,13 @@ front f bytes number left (v ∷ vs) l = elim (cases_eq (f v) 0) [
       (lt-ltb (left * 256 + f v) number (omega (arith, l, bytes v)))
 ]
 
--- lows that differ at one variable, if the first has none
+-- given: two functions that agree but at v, of which the first is 0 there and the second isn't
 module _ (v : ℕ) (f g : ℕ → ℕ) (nothing : f v ≡ 0) (something : g v ≢ 0) (others : (u : ℕ) → u ≢ v → g u ≡ f u)
     (bytes : (u : ℕ) → f u < 256) (byte : g v < 256) where
   -- with the low of v put in its place, the key by f is the key by g, which differs from f at v alone
   inserted : (left : ℕ) (vs : List ℕ) → AllPairs (λ u w. u ≢ w) vs → length vs ≤ left →
       with_any_asked (left_at left vs v) (g v) (asked_from left (map f vs)) ≡ asked_from left (map g vs)
+  -- by induction on the numbers, and by whether `u` is `v` and whether `f u` is 0
   inserted left [] apart few = refl
   inserted left (u ∷ us) apart few =
       let rest = AllPairs-rest (λ u w. u ≢ w) u us apart in
@@ -210,7 +215,7 @@ module _ (v : ℕ) (f g : ℕ → ℕ) (nothing : f v ≡ 0) (something : g v �
 -- ---- a key literal by literal
 
 module _ (variables places : List ℕ) (are : ArePlaces variables places) where
-  -- the low of a literal above the others
+  -- a key of literals `done` with the low of a literal on a variable above them is the key of these and that literal
   one_more : (done : List Literal) (l : Literal) → AreBytes done → l.low < 256 →
       ((m : Literal) → Contains done m → m.variable < l.variable) →
       with_low_of places l (key_by variables done) ≡ key_by variables (done ++ l ∷ [])
@@ -283,6 +288,7 @@ lows_after places (l ∷ block) rest key = lows_after places block rest (with_lo
 -- literals that all begin at 0 leave the key as it is
 pub none_put : (places : List ℕ) (ls : List Literal) (key : List ℕ) → list_all (λ (l : Literal). l.low == 0) ls ≡ true →
     with_lows_of places ls key ≡ key
+-- by induction on the literals
 none_put places [] key h = refl
 none_put places (l ∷ ls) key h =
     let parts = and_parts (l.low == 0) (list_all (λ (m : Literal). m.low == 0) ls) h in
@@ -317,7 +323,7 @@ module _ (g : Graph) (few : process_count g ≤ 128) where
           (AllPairs-cons_by (λ u v. u ≢ v) (value_variable c) [] (λ y k. absurd (Contains-nil y k))
           (AllPairs-nil (λ u v. u ≢ v)))
 
-  -- the process that a variable is of
+  -- a variable of process p is its count, or the value of its condition
   own_cases : (p v : ℕ) → Contains (variables_of g p) v →
       (p ≡ v) ⊎ ((c : ℕ) × (condition_of g p ≡ Some c) × (value_variable c ≡ v))
   own_cases p v k = elim (Contains-cases p (variable_of_value (condition_of g p)) v k) [
@@ -370,6 +376,7 @@ module _ (g : Graph) (few : process_count g ≤ 128) where
 lows_above : (f h : ℕ → ℕ) (v left : ℕ) (vs : List ℕ) → length vs ≤ left → left_at left vs v ≢ 0 →
     ((u : ℕ) → left_at left vs v < left_at left vs u → f u ≡ h u) → f v < h v →
     is_below (map h vs) (map f vs) ≡ false
+-- by induction on the numbers, and by whether `u` is `v` and whether `u` is `w`
 lows_above f h v left [] few there same less = absurd (there refl)
 lows_above f h v left (u ∷ us) few there same less = elim (cases_eq u v) [
   | inl e ↦ more_first (h u) (f u) (map h us) (map f us) (subst (λ w. f w < h w) (sym e) less)

@@ -56,6 +56,7 @@ small_variable g limits v h =
 -- functions that agree below 256 make the same scenario
 pub same_scenario : (g : Graph) → IsWithinLimits g → (f h : ℕ → ℕ) → ((v : ℕ) → v < 256 → f v ≡ h v) →
     scenario_of g f ≡ scenario_of g h
+-- the values and the counts are made of numbers of variables, which are all below 256
 same_scenario g limits f h same = ap₂ (λ v c. let s : Scenario = record { values = v; faults = c } in s)
     (same_map (λ c. nat_lt 0 (f (value_variable c))) (λ c. nat_lt 0 (h (value_variable c)))
     (numbers_below (condition_count g))
@@ -65,6 +66,7 @@ same_scenario g limits f h same = ap₂ (λ v c. let s : Scenario = record { val
     (same_map f h (numbers_below (process_count g))
     (λ p k. let n = numbers-Contains (process_count g) p k in let m = limits.few_processes in same p (omega arith)))
 
+-- given: a graph within its limits, and a cube of it
 module _ (g : Graph) (limits : IsWithinLimits g) (a : List Literal) (is_a : IsCube g a) where
   -- a cube that isn't met matches no scenario of the graph
   pub unmatched : is_met g.faults a ≡ false → (s : Scenario) → IsScenario g s → matches a s ≡ false
@@ -78,6 +80,8 @@ module _ (g : Graph) (limits : IsWithinLimits g) (a : List Literal) (is_a : IsCu
 
   -- a cube that isn't met meets no other
   pub meet_where_unmet : (b : List Literal) → is_met g.faults a ≡ false → do_meet g a b ≡ false
+  -- if they met, no literal of a would be empty, and a's lows, which are no more than the greater ones, would be within the
+  -- faults: so a would be met
   meet_where_unmet b e = false_from_ne_true (do_meet g a b) (λ t.
       let r = and_parts (list_all (reaches g.faults b) a && list_all (reaches g.faults a) b)
       (nat_le (sum_by (both_low a b) (numbers_below (process_count g))) g.faults) t in
@@ -125,6 +129,7 @@ module _ (g : Graph) (limits : IsWithinLimits g) (a : List Literal) (is_a : IsCu
       (some : budget_left (is_open g.faults) asked_of_literal g.faults a ≡ Some left)
       (l : Literal) → IsVariable g l.variable → spans lows_of highs_of left l ≡ true → (s : Scenario) → IsScenario g s →
       matches a s ≡ true → holds s l ≡ true
+  -- the literal alone is a cube, in which a lies since its literal spans a's bounds
   holds_where_spanned lows_of highs_of are left some l known span s i t =
       let one : IsCube g (l ∷ []) = record {
         rising = λ i j d h k. absurd (omega arith);

@@ -12,7 +12,7 @@ use Rattle.cpg_cube.proofs.Narrow.{narrowed-before, narrowed-here, narrowed-afte
 abbrev pub from_variable : ℕ → Literal → Bool
 from_variable v l = nat_le v l.variable
 
--- at a place stands the first literal on a variable or on one above
+-- the literals before place i are on variables below v, and the one there is on v or above
 abbrev pub IsPlace : ℕ → List Literal → ℕ → Type 0
 IsPlace v [] i = ⊥
 IsPlace v (m ∷ ms) zero = v ≤ m.variable
@@ -31,12 +31,15 @@ module _ (v : ℕ) where
   -- the count of the literals before the first one on the variable or above is the place of that one
   pub place_of_count : (cube : List Literal) (i : ℕ) → position_or_len (from_variable v) cube ≡ i → i < length cube →
       IsPlace v cube i
+  -- by induction on the literals, and by whether `m.variable` is below `v`
   place_of_count [] i e h = absurd (omega arith)
   place_of_count (m ∷ ms) zero e h = ⊎_elim
+      -- none is counted, so the first literal isn't below v
       (λ (k : m.variable < v). let a = counted_rest m ms k in absurd (omega arith))
       (λ (k : v ≤ m.variable). k)
       (cases_lt m.variable v)
   place_of_count (m ∷ ms) (suc i) e h = ⊎_elim
+      -- one is counted at least, so the first literal is below v, and the others are counted among the rest
       (λ (k : m.variable < v). let a = counted_rest m ms k in (k, place_of_count ms i (omega arith) (omega arith)))
       (λ (k : v ≤ m.variable). let a = counted_first m ms k in absurd (omega arith))
       (cases_lt m.variable v)
@@ -44,13 +47,14 @@ module _ (v : ℕ) where
   -- if all literals are counted, all are on variables below
   all_lower : (cube : List Literal) → length cube ≤ position_or_len (from_variable v) cube →
       AllByRecursion (λ m. m.variable < v) cube
+  -- by induction on the literals, and by whether `m.variable` is below `v`
   all_lower [] h = tt
   all_lower (m ∷ ms) h = ⊎_elim
       (λ (k : m.variable < v). let a = counted_rest m ms k in (k, all_lower ms (omega arith)))
       (λ (k : v ≤ m.variable). let a = counted_first m ms k in absurd (omega arith))
       (cases_lt m.variable v)
 
--- what `position` answers
+-- if a search answers a place, that is the number it counted, which is below the length
 found : (n m i : ℕ) → cond (nat_lt n m) (Some n) None ≡ Some i → (n ≡ i) × (i < m)
 found n m i e = by_case (nat_lt n m) refl e
   where
@@ -59,7 +63,7 @@ found n m i e = by_case (nat_lt n m) refl e
     by_case true t h = let same : n ≡ i = cc in let k = ltb-true n m t in (same, omega arith)
     by_case false t h = cc
 
--- if none is answered, the number is the length at least
+-- if a search answers none, the number that it counted is at least the length
 not_found : (n m : ℕ) → cond (nat_lt n m) (Some n) None ≡ None → m ≤ n
 not_found n m e = by_case (nat_lt n m) refl e
   where
@@ -100,6 +104,7 @@ module _ (l : Literal) where
   pub narrowed-in : (cube : List Literal) (i : ℕ) (d : Literal) → IsPlace l.variable cube i →
       ((slice_index_or cube i d).variable ≡ l.variable → ⊥) →
       narrowed_by l cube ≡ insert cube i l
+  -- by induction on the literals, and by whether `l.variable` is below `m.variable`
   narrowed-in [] i d p n = absurd p
   narrowed-in (m ∷ ms) zero d p n = narrowed-before l m ms
       (let a : l.variable ≤ m.variable = p in

@@ -10,7 +10,7 @@ use Rattle.cpg_cube.proofs.CubeLows.{low_in-later, low_in-none}
 use Rattle.cpg_cube.proofs.Narrow.{narrowed-before, narrowed-here, narrowed-after}
 use Rattle.cpg_cube.proofs.Ranges.{rising_rest, rising_first, low_in-here, high_in-here, high_in-later, high_in-none}
 
--- the variables of a rising cube are above one that its first is above
+-- if v is below the variable of the first literal of a rising cube, no literal of the cube is on v
 above_first : (v : ℕ) (m : Literal) (ms : List Literal) → IsRising (m ∷ ms) → v < m.variable → (x : Literal) →
     Contains (m ∷ ms) x → x.variable ≢ v
 above_first v m ms r h x c e = elim (Contains-cases m ms x c) [
@@ -23,6 +23,7 @@ above_first v m ms r h x c e = elim (Contains-cases m ms x c) [
 module _ (k : ℕ) (l : Literal) where
   -- narrowing by a literal leaves the lows of other variables
   pub low-other : (cube : List Literal) (v : ℕ) → l.variable ≢ v → low_in (narrowed_by l cube) v ≡ low_in cube v
+  -- by induction on the literals, and by whether `m.variable` is `v`
   low-other [] v n = low_in-later l [] v n
   low-other (m ∷ ms) v n = elim (cases_order l.variable m.variable) [
     | inl e ↦ let o : m.variable ≢ v = λ s. n (omega (arith, e, s)) in
@@ -37,6 +38,7 @@ module _ (k : ℕ) (l : Literal) where
 
   -- narrowing by a literal leaves the highs of other variables
   pub high-other : (cube : List Literal) (v : ℕ) → l.variable ≢ v → high_in k (narrowed_by l cube) v ≡ high_in k cube v
+  -- by induction on the literals, and by whether `m.variable` is `v`
   high-other [] v n = high_in-later k l [] v n
   high-other (m ∷ ms) v n = elim (cases_order l.variable m.variable) [
     | inl e ↦ let o : m.variable ≢ v = λ s. n (omega (arith, e, s)) in
@@ -52,7 +54,9 @@ module _ (k : ℕ) (l : Literal) where
   -- the low of the literal's variable becomes the greater of both lows
   pub low-same : (cube : List Literal) → IsRising cube →
       low_in (narrowed_by l cube) l.variable ≡ max l.low (low_in cube l.variable)
+  -- by induction on the literals
   low-same [] r = low_in-here l [] l.variable refl ∙ omega arith
+  -- m is on the variable, and is met with l; or m is on a later one, and l, put before it, is alone; or l is left to the rest
   low-same (m ∷ ms) r = elim (cases_order l.variable m.variable) [
     | inl e ↦ ap (λ c. low_in c l.variable) (narrowed-here l m ms e)
         ∙ low_in-here (meet_literal l m) ms l.variable (sym e)
@@ -70,7 +74,9 @@ module _ (k : ℕ) (l : Literal) where
   -- the high of the literal's variable becomes the lesser of both highs
   pub high-same : (cube : List Literal) → IsRising cube → l.high ≤ top k l.variable →
       high_in k (narrowed_by l cube) l.variable ≡ min l.high (high_in k cube l.variable)
+  -- by induction on the literals
   high-same [] r w = high_in-here k l [] l.variable refl ∙ omega arith
+  -- m is on the variable, and is met with l; or m is on a later one, and l, put before it, is alone; or l is left to the rest
   high-same (m ∷ ms) r w = elim (cases_order l.variable m.variable) [
     | inl e ↦ ap (λ c. high_in k c l.variable) (narrowed-here l m ms e)
         ∙ high_in-here k (meet_literal l m) ms l.variable (sym e)

@@ -12,17 +12,21 @@ use Rattle.cpg_cube.proofs.Ranges.{rising_rest, rising_first}
 -- if the variables rise from a least one on, none is below it
 from_least : (least : ℕ) (ls : List Literal) → rises_from least ls ≡ true → (m : Literal) → Contains ls m →
     least ≤ m.variable
+-- by induction on the literals
 from_least least [] h m c = absurd (Contains-nil m c)
 from_least least (l ∷ ls) h m c =
     let r = and_parts (nat_le least l.variable) (rises_from (l.variable + 1) ls) h in
     let a = leb-true least l.variable r.0 in
     ⊎_elim
+    -- m is the first literal, which isn't below the least
     (λ (e : l ≡ m). let b : l.variable ≡ m.variable = rw e refl in omega arith)
+    -- m is one of the rest, which rise from above the first
     (λ (d : Contains ls m). let b = from_least (l.variable + 1) ls r.1 m d in omega arith)
     (Contains-cases l ls m c)
 
 -- if the pass says that the variables rise, they do
 pub rising_from : (least : ℕ) (ls : List Literal) → rises_from least ls ≡ true → IsRising ls
+-- by induction on the literals
 rising_from least [] h = AllPairs-nil (λ l m. l.variable < m.variable)
 rising_from least (l ∷ ls) h =
     let r = and_parts (nat_le least l.variable) (rises_from (l.variable + 1) ls) h in
@@ -32,6 +36,7 @@ rising_from least (l ∷ ls) h =
 -- if the variables rise from at least the given one, the pass says so
 pub rises_by : (least : ℕ) (ls : List Literal) → IsRising ls → ((l : Literal) → Contains ls l → least ≤ l.variable) →
     rises_from least ls ≡ true
+-- by induction on the literals
 rises_by least [] r h = refl
 rises_by least (l ∷ ls) r h = and_from (nat_le least l.variable) (rises_from (l.variable + 1) ls)
     (le-leb least l.variable (h l (Contains-first l ls)))

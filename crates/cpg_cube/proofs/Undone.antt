@@ -7,35 +7,35 @@ use Rattle.cpg_cube.specs.Cube.{Literal}
 use Rattle.cpg_cube.specs.Undo.{IsOn, IsUndo}
 
 module _ {T : Type 0} (x : T) where
-  -- what was put last is taken off
+  -- taking off the last element, which was put there, gives the list from before
   removed_last : (xs : List T) → remove (xs ++ x ∷ []) (length xs) ≡ xs
   removed_last [] = refl
   removed_last (y ∷ ys) = ap (λ zs. y ∷ zs) (removed_last ys)
 
-  -- it stands at the end
+  -- the list with an element put last has a place behind all from before
   last_there : (xs : List T) → length xs < length (xs ++ x ∷ [])
   last_there [] = omega arith
   last_there (y ∷ ys) = omega (arith, last_there ys)
 
-  -- what was put in at a place is taken off
+  -- taking off an element that was put in at a place gives the list from before
   removed_in : (xs : List T) (i : ℕ) → i < length xs → remove (insert xs i x) i ≡ xs
   removed_in [] i h = absurd (omega (arith, h))
   removed_in (y ∷ ys) zero h = refl
   removed_in (y ∷ ys) (suc i) h = ap (λ zs. y ∷ zs) (removed_in ys i (omega (arith, h)))
 
-  -- it stands at that place
+  -- the list with an element put in still has the place
   in_there : (xs : List T) (i : ℕ) → i < length xs → i < length (insert xs i x)
   in_there [] i h = absurd (omega (arith, h))
   in_there (y ∷ ys) zero h = omega arith
   in_there (y ∷ ys) (suc i) h = omega (arith, in_there ys i (omega (arith, h)))
 
-  -- what was set is set back
+  -- setting back the element from before gives the list from before
   set_back : (xs : List T) (i : ℕ) (d : T) → i < length xs → slice_set (slice_set xs i x) i (slice_index_or xs i d) ≡ xs
   set_back [] i d h = absurd (omega (arith, h))
   set_back (y ∷ ys) zero d h = refl
   set_back (y ∷ ys) (suc i) d h = ap (λ zs. y ∷ zs) (set_back ys i d (omega (arith, h)))
 
-  -- the place is still there
+  -- the list with an element set still has the place
   set_there : (xs : List T) (i : ℕ) → i < length xs → i < length (slice_set xs i x)
   set_there [] i h = absurd (omega (arith, h))
   set_there (y ∷ ys) zero h = omega arith
@@ -89,7 +89,7 @@ module _ (l : Literal) (xs : List Literal) where
     before = tt;
   }
 
-  -- so it is if the literal was put in
+  -- at the place of a narrowing is a literal on the variable, if it was put in there
   pub on_in : (new : List Literal) (place : ℕ) → place < length xs → new ≡ insert xs place l →
       IsOn l.variable (record { place = place; was = None }) new
   on_in new place h is = record {
@@ -97,7 +97,7 @@ module _ (l : Literal) (xs : List Literal) where
     before = tt;
   }
 
-  -- so it is if the literal was set, and the literal before was on the variable, too
+  -- at the place of a narrowing is a literal on v, and so was the one before, if both are on v and the one was set there
   pub on_set : (new : List Literal) (place v : ℕ) (was : Literal) → place < length xs → was.variable ≡ v →
       l.variable ≡ v →
       new ≡ slice_set xs place l →

@@ -1,4 +1,4 @@
-//! The ranges of a cube by variable, and what fits beside them.
+//! The ranges of a cube by variable, and which literals fit beside them.
 ghost use Rattle.std.specs.Prelude.{◌≡◌, ◌≤◌, get_or, is_some, length, map, nat_lt};
 ghost use Rattle.std.specs.List.{list_all};
 ghost use Rattle.cpg_base.specs.Graph.{condition_count, process_count, value_variable};
@@ -11,10 +11,10 @@ ghost use Rattle.cpg_cube.specs.Bounds.{AreBounds, AreRaised, budget_left, touch
 use crate::Literal;
 use cpg_base::{FIRST_VALUE, Problem, Scenario};
 
-/// How many variables there may be.
+/// How many variables there may be: the number of a variable is a byte.
 pub const VARIABLES: usize = 256;
 
-/// The least and the greatest number of each variable in a cube, 0 and 255 if it has no literal on the variable.
+/// The least and the greatest number of each variable in a cube; 0 and 255 if it has no literal on the variable.
 #[derive(Drop)]
 pub struct Bounds {
     /// The least number of each variable, 0 without a literal.
@@ -23,8 +23,8 @@ pub struct Bounds {
     pub high: [u8; VARIABLES],
 }
 
-/// What is left of `k` faults after those that the literals ask for; `None` if they match no scenario of at most `k`
-/// faults.
+/// Returns what is left of `k` faults after those that the literals ask for; `None` exactly if some literal can't hold with
+/// at most `k` faults, or all together ask for more. So a cube with `None` matches no scenario of at most `k` faults.
 pub fn budget_left(k: u8, literals: &[Literal]) -> Option<u8>
     ensures { result ≡ budget_left (is_open k) asked_of_literal k literals.now }
 {
@@ -44,7 +44,7 @@ pub fn budget_left(k: u8, literals: &[Literal]) -> Option<u8>
 }
 
 impl Bounds {
-    /// The ranges of a cube.
+    /// Returns the ranges of a cube, given as its literals.
     pub fn of(literals: &[Literal]) -> Bounds
         requires { IsRising literals.now }
         ensures { AreBounds literals.now result.low result.high }
@@ -58,7 +58,7 @@ impl Bounds {
         Bounds { low, high }
     }
 
-    /// Whether a literal's range has a number in common with the range of its variable.
+    /// Whether a literal can hold with at most `k` faults, and its range shares a number with its variable's range here.
     fn touches(&self, k: u8, literal: &Literal) -> bool
         ensures { result ≡ touches k self.now.low self.now.high literal.now }
     {
@@ -67,7 +67,7 @@ impl Bounds {
         literal.is_open(k) && low <= literal.high && literal.low <= high
     }
 
-    /// How many faults a literal asks for beyond those of the cube.
+    /// Returns how many faults a literal asks for beyond the low of its variable here.
     fn more_asked(&self, literal: &Literal) -> u8
         ensures { result ≡ more_asked self.now.low literal.now }
     {
@@ -76,7 +76,8 @@ impl Bounds {
             .saturating_sub(self.low[literal.variable as usize])
     }
 
-    /// Whether all literals touch the ranges, with no more faults than are left.
+    /// Whether all literals share a number with the ranges here, and ask together for no more than `room` faults beyond the
+    /// lows. So the cube of these ranges, which leaves `room` faults, matches some scenario together with them.
     pub fn fits(&self, k: u8, room: u8, literals: &[Literal]) -> bool
         ensures { result ≡ is_some (budget_left (touches k self.now.low self.now.high) (more_asked self.now.low) room literals.now) }
     {
@@ -96,7 +97,7 @@ impl Bounds {
         true
     }
 
-    /// Whether a literal's range has all numbers of its variable if this many faults are left.
+    /// Whether a literal's range has all numbers that its variable can have here if this many faults are left.
     pub fn spans(&self, left: u8, literal: &Literal) -> bool
         ensures { result ≡ spans self.now.low self.now.high left literal.now }
     {
@@ -111,14 +112,14 @@ impl Bounds {
         literal.low <= low && high.min(most) <= literal.high
     }
 
-    /// Whether the ranges of all literals have all numbers of their variables if this many faults are left.
+    /// Whether the range of each literal has all numbers that its variable can have here if this many faults are left.
     pub(crate) fn span_all(&self, left: u8, literals: &[Literal]) -> bool
         ensures { result ≡ list_all (spans self.now.low self.now.high left) literals.now }
     {
         literals.iter().all(|literal| self.spans(left, literal))
     }
 
-    /// Raises the least numbers to those of a cube, if they are greater.
+    /// Raises each low to that of a cube, if the cube's is greater.
     pub(crate) fn raise(&mut self, literals: &[Literal])
         requires { IsRising literals.now }
         ensures { AreRaised literals.now self.old.low self.new.low }
@@ -129,7 +130,7 @@ impl Bounds {
         }
     }
 
-    /// Writes the least number of each process's variable as its fault count.
+    /// Writes the low of each process's variable to `least`, as its fault count.
     fn write_faults(&self, least: &mut Scenario, processes: u32)
         requires few { processes ≤ 128 }
         requires counts { length least.old.faults ≡ processes }
@@ -140,7 +141,7 @@ impl Bounds {
         }
     }
 
-    /// Writes the value of each condition: true if the least number of its variable is above 0.
+    /// Writes the value of each condition to `least`: true if the low of its variable is above 0.
     fn write_values(&self, least: &mut Scenario, conditions: u32)
         requires few { conditions ≤ 32 }
         requires values { length least.old.values ≡ conditions }
@@ -152,7 +153,7 @@ impl Bounds {
         }
     }
 
-    /// Writes the scenario in which each variable is the least number of its range.
+    /// Writes to `least` the scenario in which each variable has the low of its range.
     pub(crate) fn write_lows(&self, problem: &Problem, least: &mut Scenario)
         requires values { length least.old.values ≡ condition_count problem.now }
         requires faults { length least.old.faults ≡ process_count problem.now }

@@ -1,11 +1,11 @@
-//! A time with the scenarios that it is for.
+//! Columns of a row: a time with the scenarios that it is for.
 ghost use Rattle.std.specs.Prelude.{◌≡◌, IfOk, map};
 
 use crate::{Cube, Cubed};
 use cpg_base::OutOfMemory;
 use std::alloc::{AllocError, Global};
 
-/// A column of a row.
+/// A column of a row: a time of an item, and the scenarios that it is for.
 #[derive(Drop)]
 pub struct Column {
     /// When it is, in time units of the graph file.
@@ -15,7 +15,7 @@ pub struct Column {
 }
 
 impl Column {
-    /// An equal column.
+    /// Returns an equal column. The one error is `OutOfMemory`.
     pub fn copy(&self) -> Result<Column, OutOfMemory>
         ensures { IfOk result (λ column. column ≡ self.now) }
     {
@@ -26,7 +26,7 @@ impl Column {
     }
 }
 
-/// A clone is an equal column.
+/// A clone is an equal column, as `copy` makes it.
 impl Clone for Column {
     ghost is_clone = { λ column copy. copy ≡ column };
 
@@ -43,7 +43,7 @@ impl Cubed for Column {
     }
 }
 
-/// A reference to the cube of each column.
+/// Returns a reference to the cube of each column, in their order. The one error is `OutOfMemory`.
 pub fn cubes_of<'a>(alloc: Global, columns: &'a [Column]) -> Result<Vec<&'a Cube>, OutOfMemory>
     ensures { IfOk result (λ cubes. map (λ b. b.now) cubes.items ≡ map (λ c. c.cube) columns.now) }
 {

@@ -1,4 +1,4 @@
-//! Columns that may stand by their least scenarios already.
+//! A row's columns that may be sorted already.
 ghost use Rattle.std.specs.Prelude.{IfOk, IsPermutation};
 ghost use Rattle.std.specs.Bool.{OnTrue};
 ghost use Rattle.cpg_base.specs.Graph.{process_count};
@@ -9,18 +9,18 @@ use crate::{Column, by_least_scenario};
 use cpg_base::{Order, OutOfMemory, Problem};
 use std::alloc::Global;
 
-/// The columns of a row, and whether they are known to stand by the least scenario along an order that they match.
+/// The columns of a row, and whether they are known to stand in the order of the least scenarios that they match.
 #[derive(Drop)]
 pub struct Listing {
     /// The columns.
     pub columns: Vec<Column>,
-    /// Whether they are known to stand so.
+    /// Whether they are known to be sorted: if not, they may be or not.
     pub is_sorted: bool,
 }
 
 impl Listing {
-    /// The columns by the least scenario along the order that they match: none has the lows of its cube before those of an
-    /// earlier one. The one error is `OutOfMemory`.
+    /// Returns the columns sorted by the least scenario that each matches: no cube's lows come before those of an earlier
+    /// column, along the order. The one error is `OutOfMemory`.
     pub fn sorted(
         self,
         alloc: Global,

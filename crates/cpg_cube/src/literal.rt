@@ -1,4 +1,4 @@
-//! Ranges of variables.
+//! Literals: a range of one variable each.
 ghost use Rattle.std.specs.Prelude.{◌≡◌, ◌==◌, ◌<◌, ◌≤◌, ◌+◌, ◌↔◌, ◌⊎◌, IsTrue};
 ghost use Rattle.std.specs.List.{list_all};
 ghost use Rattle.cpg_cube.specs.Cube.{holds};
@@ -18,10 +18,10 @@ pub struct Literal {
     pub high: u8,
 }
 
-/// How many literals are looked at together.
+/// How many literals `begin_at_zero` looks at together.
 pub const BLOCK: usize = 4;
 
-/// Whether all literals begin at 0, as most do. It never stops early, so that it is one test.
+/// Whether the ranges of all literals begin at 0, as most do. It never stops early, so that it compiles to one test.
 pub fn begin_at_zero(literals: &[Literal; BLOCK]) -> bool
     ensures { result ≡ list_all (λ l. l.low == 0) literals.now }
 {
@@ -30,7 +30,7 @@ pub fn begin_at_zero(literals: &[Literal; BLOCK]) -> bool
 }
 
 impl Literal {
-    /// Whether the variable is in range in a scenario.
+    /// Whether the literal holds in a scenario: the number of its variable is in its range.
     pub(crate) fn holds(&self, scenario: &Scenario) -> bool
         ensures { result ≡ holds scenario.now self.now }
     {
@@ -38,7 +38,7 @@ impl Literal {
         self.low <= number && number <= self.high
     }
 
-    /// Whether the variable is one of a graph with this many processes and conditions.
+    /// Whether the literal's variable is one of a graph with this many processes and conditions.
     pub(crate) fn is_known(&self, processes: usize, conditions: u32) -> bool
         ensures { IsTrue result ↔ (self.now.variable < processes) ⊎ ((128 ≤ self.now.variable) × (self.now.variable < 128 + conditions)) }
     {
@@ -48,14 +48,14 @@ impl Literal {
         self.variable >= FIRST_VALUE && u32::from(self.variable - FIRST_VALUE) < conditions
     }
 
-    /// Whether the range has a number that the variable may be in scenarios of at most `k` faults.
+    /// Whether the range has a number that the variable can be in scenarios of at most `k` faults.
     pub(crate) fn is_open(&self, k: u8) -> bool
         ensures { result ≡ is_open k self.now }
     {
         self.low <= self.high && self.low <= top(k, self.variable)
     }
 
-    /// How many faults a scenario needs to be in range.
+    /// Returns how many faults a scenario needs for the literal to hold: the low for a fault count, and none for a value.
     pub(crate) fn asked(&self) -> u8
         ensures { result ≡ asked_of_literal self.now }
     {
@@ -66,7 +66,8 @@ impl Literal {
         }
     }
 
-    /// What this range and that of another literal on the variable have in common.
+    /// Returns what this range and that of another literal on the same variable have in common. If that is nothing, the low
+    /// is above the high.
     pub fn met(&self, other: Literal) -> Literal
         ensures { result ≡ meet_literal self.now other }
     {

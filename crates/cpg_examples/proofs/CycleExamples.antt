@@ -28,15 +28,15 @@ pair_tables =
 pub pair-cycle : least_cycle pair pair_tables ≡ 120
 pair-cycle = refl
 
--- one unit less is no multiple of the round, and one round less is before the deadline
+-- 119, one unit less, is no multiple of the round of 20
 pub pair-one_shorter : IsCycle pair pair_tables 119 → ⊥
 pair-one_shorter c = let whole : 119 ≡ c.rounds * 20 = c.whole in absurd (omega (arith, whole))
 
--- 100 is before the deadline 105
+-- 100, one round less, is before the deadline 105
 pub pair-one_round_shorter : IsCycle pair pair_tables 100 → ⊥
 pair-one_round_shorter c = let deadline : 105 ≤ 100 = c.deadline in absurd (omega (arith, deadline))
 
--- after one unit less the slots stand elsewhere: that of N1 starts at 0, and none of N1 at 119
+-- after one unit less the slots are elsewhere: that of N1 starts at 0, and none of N1 at 119
 pub pair-slots_elsewhere : HasSlotsAt pair 0 119 → ⊥
 pair-slots_elsewhere h =
     let there : IsOccurrence pair 0 119 = h.later 0 (0, refl) in
@@ -46,7 +46,7 @@ pair-slots_elsewhere h =
 abbrev pub pair_world : World
 pair_world = record { scenario = scenario (numbers 1 0); lengths = numbers 72 15 }
 
--- N1 is asked four times, and then N2 five times
+-- N1 is asked five times, and then N2 four times
 abbrev pub pair_turns : List ℕ
 pair_turns = 0 ∷ 0 ∷ 0 ∷ 0 ∷ 0 ∷ 1 ∷ 1 ∷ 1 ∷ 1 ∷ []
 
@@ -64,11 +64,11 @@ pair-not_over_by_100 o =
     let end : 105 ≤ 100 = o.starts 1 (act 90 1 1) (omega arith) (0, omega arith, refl) (omega arith) in
     absurd (omega (arith, end))
 
--- a deadline on the bus's own time, and one past it
+-- a deadline of 120, itself a multiple of the round, is the least cycle
 pub pair-by_120 : least_cycle (record pair { deadline = 120 }) pair_tables ≡ 120
 pair-by_120 = refl
 
--- past 120, the next multiple is 140
+-- for a deadline one past it the least cycle is the next multiple, 140
 pub pair-by_121 : least_cycle (record pair { deadline = 121 }) pair_tables ≡ 140
 pair-by_121 = refl
 
@@ -100,11 +100,11 @@ late_tables =
 pub late-cycle : least_cycle late_broadcast late_tables ≡ 60
 late-cycle = refl
 
--- by the deadline alone that frame would stand in the next cycle
+-- by the deadline alone that frame would be in the next cycle
 pub late-at_the_deadline : IsCycle late_broadcast late_tables 40 → ⊥
 late-at_the_deadline c = let arrivals : 50 ≤ 40 = c.arrivals in absurd (omega (arith, arrivals))
 
--- and so it does in a play in which A says that B follows
+-- what happens in a play in which A says that B follows, so that its value comes late
 abbrev pub late_world : World
 late_world = record { scenario = record { values = true ∷ []; faults = 0 ∷ 0 ∷ 0 ∷ [] }; lengths = 30 ∷ 10 ∷ 10 ∷ [] }
 
@@ -116,7 +116,7 @@ late_play = play late_broadcast late_world (initial_cluster late_broadcast late_
 pub late-acts : late_play.acts ≡ (act 0 0 0 ∷ act 30 1 0 ∷ act 40 4 0 ∷ []) ∷ [] ∷ []
 late-acts = refl
 
--- that frame isn't there by 40
+-- the frame of A's value isn't there by 40, so the play isn't over then
 pub late-not_over_by_40 : IsOverBy late_broadcast late_world.scenario late_play 40 → ⊥
 late-not_over_by_40 o =
     let arrival : 50 ≤ 40 = o.sends 0 (act 40 4 0) (omega arith) (2, omega arith, refl) (omega arith) in

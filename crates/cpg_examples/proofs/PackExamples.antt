@@ -9,7 +9,7 @@ use Rattle.cpg_codec.specs.Spelling.{spelling}
 pub whole-is_not_bad : (t : Tables) → AreLawful t → (n : ℕ) → IsBadPack (spelling t) n → ⊥
 whole-is_not_bad t lawful n bad = bad.no_pack t lawful refl
 
--- nor is a pack a bad front of itself
+-- a whole pack isn't a bad front of itself
 pub whole_front-is_not_bad : (t : Tables) → AreLawful t →
     IsBadPack (take (length (spelling t)) (spelling t)) (length (spelling t)) → ⊥
 whole_front-is_not_bad t lawful bad = bad.no_pack t lawful (take_all (length (spelling t)) (spelling t) (omega arith))

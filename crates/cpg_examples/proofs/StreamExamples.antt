@@ -38,14 +38,14 @@ start-is_not_quiet q = let one : 1 ≡ 0 = ap length q.acts in absurd (omega (ar
 pub start-is_done : acts_of_turn (initial_dispatcher (own_table pair 0 (table_at pair_tables 0))) 0 [] [] ≡ [] → ⊥
 start-is_done e = let one : 1 ≡ 0 = ap length e in absurd (omega (arith, one))
 
--- a turn at which the report of an execution is due may not be left out
+-- N1 after its turn at 0: A has run since then, and has reported that it ends without faults
 abbrev pub reported : Dispatcher
 reported = record (initial_dispatcher (own_table pair 0 (table_at pair_tables 0))) {
   running = Some (record { start = 0; report = Some (record { process = 0; faults = 0; value = false }) }) ∷ [];
   last = Some 0;
 }
 
--- at 35 the report is due, so a turn isn't quiet
+-- at 35 the report is due, so a turn then isn't quiet and may not be left out
 pub report-is_not_quiet : IsQuiet reported 35 → ⊥
 report-is_not_quiet q = let one : 1 ≡ 0 = ap length q.ends in absurd (omega (arith, one))
 
@@ -70,7 +70,7 @@ overtold-awaited = (3, omega arith, refl)
 pub overtold-no_candidate : Contains (candidates overtold) 7 → ⊥
 overtold-no_candidate c = true≢false (from_any_false (λ t. t == 7) (candidates overtold) 7 refl c)
 
--- N2, where A had a fault
+-- the table of N2 in the pair
 abbrev pub second : NodeTable
 second = own_table pair 1 (table_at pair_tables 1)
 

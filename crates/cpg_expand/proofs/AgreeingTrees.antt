@@ -1,4 +1,4 @@
--- What the operations on trees make of trees that agree with what is carried.
+-- If trees agree with given literals in a scenario (`Agrees`), so do the trees that the operations make of them.
 use Rattle.std.proofs.Common.{ℕ, ◌≤◌, ◌≡◌, max, min, Bool, true, false, if◌then◌else◌, List, [], ◌∷◌, ◌++◌, Contains}
 use Rattle.std.proofs.Common.{arith, refl, sym, subst, inl, inr}
 use Rattle.std.proofs.lemmas.List.Elements.{Contains-append_left, Contains-append_right}
@@ -22,8 +22,9 @@ use Rattle.cpg_expand.specs.Agreeing.{Agrees}
 
 -- ---- what is kept of two lists
 
+-- given: two lists of literals, and a variable
 module _ (xs ys : List Literal) (v : ℕ) where
-  -- two lists of literals together leave of a range no lower numbers than each of them
+  -- the low that both lists leave together is no less than that of either
   kept_low_both : max (kept_low xs v) (kept_low ys v) ≤ kept_low (xs ++ ys) v
   kept_low_both = omega (
     arith,
@@ -31,7 +32,7 @@ module _ (xs ys : List Literal) (v : ℕ) where
     kept_low_below ys v (kept_low (xs ++ ys) v) (λ m j e. low_kept (xs ++ ys) v m (Contains-append_right xs ys m j) e),
   )
 
-  -- and no higher ones
+  -- and the high is no greater
   kept_high_both : (k : ℕ) → kept_high k (xs ++ ys) v ≤ min (kept_high k xs v) (kept_high k ys v)
   kept_high_both k = omega (
     arith,
@@ -43,12 +44,14 @@ module _ (xs ys : List Literal) (v : ℕ) where
 
 -- ---- the operations
 
+-- `s` is the scenario in which trees agree
 module _ (s : Scenario) where
-  -- a tree that agrees by some literals agrees by more, with any fact that follows
+  -- a tree that agrees with some literals agrees with more of them, and has any fact that follows
   pub agrees_weaker : {T : Type 0} (t : TreeState T) (some more : List Literal) (fact other : T → Type 0) →
       ((l : Literal) → Contains some l → Contains more l) →
       ((x : T) → fact x → other x) →
       Agrees s some fact t → Agrees s more other t
+  -- more literals keep no less of each range
   agrees_weaker t some more fact other within follows a = record {
     value = λ x on. follows x.1 (a.value x on);
     says = λ x on.
@@ -72,11 +75,12 @@ module _ (s : Scenario) where
       only : (y : Path _) → Contains (([], x) ∷ []) y → ([], x) ≡ y
       only y c = only_one ([], x) y c
 
-  -- a tree that is made by answers to the values of another agrees with the answers, by the same literals
+  -- the tree of the answers to another one's values agrees with the same literals
   pub agrees_map : {T U : Type 0} (answers : T → U → Type 0) (a : TreeState T) (r : TreeState U)
       (literals : List Literal) (fact : T → Type 0) (other : U → Type 0) →
       HasAtMostFaults a.faults s → HasOnePathEach a.faults a.paths → IsMap answers a r →
       ((x : T) (z : U) → fact x → answers x z → other z) → Agrees s literals fact a → Agrees s literals other r
+  -- the scenario's path in the new tree has the answer to its value in the old one, and no wider ranges
   agrees_map answers a r literals fact other few each is follows of_a =
       let x = the_path a.faults a.paths each s few in
       record {
@@ -90,7 +94,7 @@ module _ (s : Scenario) where
             });
       }
 
-  -- a tree that is made of two agrees with the answers to both values, by the literals of both
+  -- the tree of the answers to two trees' values agrees with the literals of both
   pub agrees_join : {T U V : Type 0} (answers : T → U → V → Type 0) (a : TreeState T) (b : TreeState U)
       (r : TreeState V) (first second : List Literal) (fact_a : T → Type 0) (fact_b : U → Type 0)
       (fact : V → Type 0) →
@@ -116,7 +120,8 @@ module _ (s : Scenario) where
             });
       }
 
-  -- the value of a tree that is made where a chooser is true, if the chooser is
+  -- a tree that is made of two where a chooser is true: if it is true, the answer to both values, by the literals of
+  -- all three
   pub agrees_where : {T U V : Type 0} (answers : T → U → V → Type 0) (none : V) (chooser : TreeState Bool)
       (a : TreeState T) (b : TreeState U) (r : TreeState V) (given first second : List Literal)
       (fact_a : T → Type 0) (fact_b : U → Type 0) (fact : V → Type 0) →
@@ -166,7 +171,7 @@ module _ (s : Scenario) where
             });
       }
 
-  -- the value of a tree that is made where a chooser is true, if the chooser is false
+  -- the same if the chooser is false: the one value, by the chooser's literals alone
   pub agrees_elsewhere : {T U V : Type 0} (answers : T → U → V → Type 0) (none : V) (chooser : TreeState Bool)
       (a : TreeState T) (b : TreeState U) (r : TreeState V) (given : List Literal) →
       HasAtMostFaults chooser.faults s → HasOnePathEach chooser.faults chooser.paths →
@@ -187,8 +192,7 @@ module _ (s : Scenario) where
             });
       }
 
-  -- a tree that a chooser picks agrees with the tree that is picked in the scenario, by its literals and the
-  -- chooser's
+  -- the tree that a chooser picks has the picked value, by the literals of that tree and the chooser's
   pub agrees_pick : {T : Type 0} (chooser : TreeState Bool) (on off r : TreeState T) (b : Bool)
       (first second : List Literal) (fact : T → Type 0) →
       HasAtMostFaults chooser.faults s → on.faults ≡ chooser.faults → off.faults ≡ chooser.faults →
@@ -237,7 +241,7 @@ module _ (s : Scenario) where
       picked_says true a x h = subst (λ k. ContainsKept k x.0 second) same_on (a.says x h)
       picked_says false a x h = subst (λ k. ContainsKept k x.0 second) same_off (a.says x h)
 
-  -- a tree of the number of a variable says that number
+  -- a tree of a variable's number has that number, by the literal that says it
   pub agrees_number : {T : Type 0} (v k : ℕ) (number : T → ℕ) (t : TreeState T) → HasAtMostFaults k s →
       number_of s v ≤ top k v →
       IsNumber v k number t →

@@ -1,5 +1,5 @@
--- Once the start, the end and the readiness of its node are set, a process has begun: trees that were grown before
--- its place still give the runs.
+-- A process has begun: its start, its end and the readiness of its node are set. If the trees before its place gave
+-- the runs, the new ones do, so the process is ready to send.
 use Rattle.std.proofs.Common.{ℕ, ◌+◌, ◌*◌, ◌<◌, ◌≤◌, ◌≡◌, ◌≢◌, max, Bool, true, false, if◌then◌else◌, List, [], length}
 use Rattle.std.proofs.Common.{map, get_or, flat_map, Option, Some, None, unwrap_or, Contains, ◌⊎◌, arith}
 use Rattle.std.proofs.Common.{refl, sym, ap, ◌∙◌, subst, inl, inr, get_or-set_same, get_or-set_other}
@@ -67,7 +67,7 @@ use Rattle.cpg_expand.proofs.StartValue.{most, start_value, waited_ends, end_lin
 pub path_column : Path (Option ℕ) → Column
 path_column path = record { time = unwrap_or path.1 0; cube = path.0 }
 
--- rows that hold, for each item, the paths of its tree as columns
+-- for each item a row that has the paths of its tree as columns
 abbrev pub own_rows : ForestState → List (List Column)
 own_rows f = map (λ (t : TreeState (Option ℕ)). map path_column t.paths) f.times
 
@@ -120,7 +120,7 @@ module _ (g : Graph) (urgency : List ℕ) (guards : Guards) (a : IsAdmitted g ur
   waits_before node w =
       record { other = w.other; within = w.within; there = w.there; later = omega (arith, w.later); thawed = w.thawed }
 
-  -- the producer of p's start is p itself
+  -- p is the producer of its start
   its_producer : producer g p ≡ p
   its_producer = ap (producer_of_item g) (item_at-start g p l)
 
@@ -137,7 +137,7 @@ module _ (g : Graph) (urgency : List ℕ) (guards : Guards) (a : IsAdmitted g ur
   unset : get_or before p None ≡ None
   unset = grown.settled.others p (λ h f e. early_apart p e refl)
 
-  -- items of earlier processes rank before p's start
+  -- each item of an earlier process has an earlier moment than p's start
   later : (y : ℕ) → y < item_count g → IsEarlier g order (place order p) y → moment g order y < moment g order p
   later y h e =
       let at = moment_of_start g order topological p l in
@@ -349,11 +349,11 @@ module _ (g : Graph) (urgency : List ℕ) (guards : Guards) (a : IsAdmitted g ur
     leads_there : outcome_at guard s.values ≡ activation g s.values p
     leads_there = is_guard.is s.values law.values
 
-    -- if p is active, this run is one by which a frozen start has to be judged
+    -- if p is active, p's start would have its unfrozen time in this run
     would : active g s.values p ≡ true → WouldHave g order after p (unfrozen_time g order s t p)
     would on = record { scenario = s; lawful = law; times = t; run = run; active = acts_as s.values ∙ on; has = refl }
 
-    -- the frozen time is the run's
+    -- if p is frozen, its frozen time where it is active, and none elsewhere, is its time in the run
     frozen_time : is_frozen g p ≡ true → (latest : Option ℕ) → get_or after p None ≡ latest →
         (if active g s.values p then Some (unwrap_or latest 0) else None) ≡ get_or t.times p None
     frozen_time is (Some time) e = frozen_value g order after s t run p l time e
@@ -403,6 +403,8 @@ module _ (g : Graph) (urgency : List ℕ) (guards : Guards) (a : IsAdmitted g ur
     readied : IsWaitedFor g order (place order p) (node_of g p) →
         IsReadyOnce g old (node_of g p) guard chooser b.end (goes_on b.end b.ready) →
         IsReadyLine g order rows s t (place order p + 1) (node_of g p) (goes_on b.end b.ready)
+    -- `ready_next` says when the node is ready after p, and `ready_line` that the tree gives that time by what is
+    -- carried
     readied waited made =
         let was = was_ready waited in
         ready_next g order topological (place order p) p l refl rows s after t run was.time
@@ -442,7 +444,7 @@ module _ (g : Graph) (urgency : List ℕ) (guards : Guards) (a : IsAdmitted g ur
           (λ z e. e) was_free.has_value);
     }
 
-    -- so they are, if an item waits for the slots of p's node
+    -- so that holds if an item waits for the slots of p's node
     freed : IsQueuedFor g order (place order p) (node_of g p) → IsFreeOnce g order rows s t p 0 new
     freed q = freed_by (lines_before.free (node_of g p) (nodes p l) q)
 
@@ -509,7 +511,7 @@ module _ (g : Graph) (urgency : List ℕ) (guards : Guards) (a : IsAdmitted g ur
   new_unsent x big h is = subst (λ (tree : TreeState (Option ℕ)). IsConstant None g.faults tree)
       (sym (other_time x (λ e. absurd (omega (arith, big, e, l))))) (grown.unsent x big h is)
 
-  -- a process that has begun is ready to send
+  -- so the trees are those of a process that has begun and has sent nothing yet
   pub begun_sends : IsSending g order p 0 after new
   begun_sends = record {
     trees = trees;

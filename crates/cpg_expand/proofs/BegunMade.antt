@@ -1,4 +1,5 @@
--- The trees of a process that begins, as the code finds them.
+-- The trees of a process that begins, as the code finds them: the graph, the guards and the order that it reads are
+-- the ones that the contract speaks of.
 use Rattle.std.proofs.Common.{ℕ, ◌<◌, ◌≤◌, ◌≡◌, Bool, List, All, set, length-set, get_or, get_or-set_same}
 use Rattle.std.proofs.Common.{get_or-set_other, Option, length, arith, refl, sym, ap, ◌∙◌, subst, inl, inr}
 use Rattle.std.proofs.lemmas.Bool.{cases_eq}
@@ -53,6 +54,8 @@ pub along_here : (g : Graph) (urgency : List ℕ) (guards : Guards) → IsAdmitt
     (found : Guards) → found ≡ guards →
     (order : List ℕ) →
     length order ≡ process_count g → AreAlong h found order
+-- what an admitted graph and its guards have in common is what `AreAlong` asks for; h and `found` are other names of
+-- them
 along_here g urgency guards admitted h same found is order long = subst (λ (k : Graph). AreAlong k found order)
     (sym same) (subst (λ (x : Guards). AreAlong g x order) (sym is) (record {
       few = admitted.well_formed.few_conditions;
@@ -66,13 +69,15 @@ pub inputs_here : (h : Graph) (p : ℕ) (edges : List ℕ) → edges ≡ inputs 
 inputs_here h p edges is =
     all_below (edge_count h) (edge_count h) edges (inputs h p) refl is (λ e c. (inputs_parts h p e c).0)
 
--- the latest start is that of the same graph, order, guards, node and inputs
+-- if the graph, the order, the guards, the node and the inputs that the code reads are the given ones, its latest
+-- start is that of these
 pub latest_as : (f : ForestState) (from p : ℕ) (active : TreeState Bool) (latest : Option ℕ) (h k : Graph) → k ≡ h →
     (order other : List ℕ) → other ≡ order →
     (guards found : Guards) →
     found ≡ guards → (node at : ℕ) → at ≡ node → (edges es : List ℕ) → es ≡ edges →
     IsLatestStart k other found f at from (place other p) (process_at k p).release es active latest →
     IsLatestStart h order guards f node from (place order p) (process_at h p).release edges active latest
+-- each of the five is replaced by its equal in turn
 latest_as f from p active latest h k same order other in_order guards found is node at there edges es into start =
     subst (λ (g : Graph).
     IsLatestStart g order guards f node from (place order p) (process_at g p).release edges active latest) same
@@ -86,7 +91,7 @@ latest_as f from p active latest h k same order other in_order guards found is n
 
 -- ---- what is put
 
--- after a process begins, its node is ready after its own ends, or by a tree of the graph
+-- what is put for the node's readiness is of the graph: the process itself, or a tree
 ready_waits : (g : Graph) (p : ℕ) (r : Ready) → p < process_count g → IsReadyAfter g p r → IsWait g r
 ready_waits g p (After q) l e = subst (λ n. n < process_count g) (sym e) l
 ready_waits g p (At t) l is = is

@@ -1,4 +1,5 @@
--- What the trees behind a start say is carried beside it.
+-- What a start's trees say is carried beside it: literals of ends on its node, of conditions that the node hears, and
+-- of inputs.
 use Rattle.std.proofs.Common.{ℕ, ◌<◌, ◌≡◌, ◌==◌, Bool, true, false, if◌then◌else◌, List, [], ◌∷◌, ◌++◌, filter}
 use Rattle.std.proofs.Common.{flat_map, Contains, ◌⊎◌, arith, eq-eqb, eqb-true, refl, sym, ◌∙◌, subst, inl, inr}
 use Rattle.std.proofs.lemmas.Bool.{cases_eq, ne_eqb}
@@ -29,7 +30,7 @@ use Rattle.cpg_expand.specs.Guarded.{value_known, support_of}
 
 -- ---- the literals of a column that matches
 
--- the literals of a column that matches are carried by its row
+-- each literal of a column that matches the scenario is carried by the row
 pub valued_there : (rows : List (List Column)) (s : Scenario) (x : ℕ) (c : Column) → Contains (row_at rows x) c →
     matches c.cube s ≡ true → (l : Literal) →
     Contains c.cube l →
@@ -38,11 +39,13 @@ valued_there rows s x c j m l i =
     Contains-flat_map (λ (d : Column). d.cube) (filter (λ (d : Column). matches d.cube s) (row_at rows x)) c l
     (Contains-filter (λ (d : Column). matches d.cube s) (row_at rows x) c m j) i
 
--- a tree whose paths of a scenario are columns of the row agrees with what the row carries
+-- if the path of the scenario has a fact and is the cube of a column of the row, the tree agrees with what the row
+-- carries
 pub valued_by_tree : {T : Type 0} (k : ℕ) (rows : List (List Column)) (s : Scenario) (x : ℕ) (fact : T → Type 0)
     (t : TreeState T) → t.faults ≡ k →
     ((p : Path T) → IsOnPath t.paths s p → fact p.1 × ((c : Column) × Contains (row_at rows x) c × (c.cube ≡ p.0))) →
     Agrees s (carried_by_row rows s x) fact t
+-- the path's cube is that of a column that matches, so the row carries its literals
 valued_by_tree k rows s x fact t same there = record {
   value = λ p on. (there p on).0;
   says = λ p on.
@@ -53,13 +56,15 @@ valued_by_tree k rows s x fact t same there = record {
       record { low = λ v. (kept v).0; high = λ v. (kept v).1 };
 }
 
+-- given: a topological order, rows, and a scenario
 module _ (g : Graph) (order : List ℕ) (topological : IsTopological g order) (rows : List (List Column))
     (s : Scenario) where
   -- ---- of ends on the node
 
-  -- what stands before a process on its node, stands before each later one of that node
+  -- a process before one that stands before p on its node stands before p on it, too
   before_grows : (p q r : ℕ) → Contains (before_on_node g order p) q → Contains (before_on_node g order q) r →
       Contains (before_on_node g order p) r
+  -- both stand on the node of p, and the order between places goes on
   before_grows p q r j i =
       let of_q = on_node_before g order p q j in
       let of_r = on_node_before g order q r i in
@@ -71,7 +76,7 @@ module _ (g : Graph) (order : List ℕ) (topological : IsTopological g order) (r
       (eq-eqb (node_of g r) (node_of g p) (node_r ∙ node_q))
       (Contains-before order r p of_r.0 (omega (arith, of_q.1, of_r.1)))
 
-  -- what a process passes on beside what decides it and what it hears: its inputs' and its own numbers, if it is active
+  -- what process q passes on beside what decides it and what it hears: what its execution adds, if it is active
   abbrev more : ℕ → List Literal
   more q = if active g s.values q then executed g rows s q else []
 
@@ -170,15 +175,16 @@ module _ (g : Graph) (order : List ℕ) (topological : IsTopological g order) (r
   heard_support node c = if node_of g (process_of g c) == node then carried_at_end g order rows s (process_of g c)
       else carried_by_row rows s (broadcast_item g c)
 
-  -- a process before another one on the same node is among those before it there
+  -- a process that stands before p and is on p's node is among those before p on it
   own_before : (p q : ℕ) → q < process_count g → place order q < place order p → node_of g q ≡ node_of g p →
       Contains (before_on_node g order p) q
   own_before p q l less same = Contains-filter (λ (u : ℕ). node_of g u == node_of g p) (before order p) q
       (eq-eqb (node_of g q) (node_of g p) same)
       (Contains-before order q p (Contains-order (process_count g) order topological.all q l) less)
 
+  -- given: an urgency order, by which conditions decide, and a process
   module _ (urgency : List ℕ) (is_urgency : IsUrgencyOrder g urgency) (urgent : IsTopological g urgency) (p : ℕ) where
-    -- the literals that say when a condition that decides a process is heard are carried
+    -- if a condition decides p, the literals by which p's node hears it are carried
     pub heard_carried : (c : ℕ) → Contains (deciding g s.values p) c → (l : Literal) →
         Contains (heard_support (node_of g p) c) l →
         Contains (flat_map (passed g rows s) (before_on_node g order p) ++ heard g rows s p) l
@@ -206,10 +212,12 @@ module _ (g : Graph) (order : List ℕ) (topological : IsTopological g order) (r
               (ne_eqb (node_of g (process_of g c)) (node_of g p) n) i)))
         ]
 
-    -- all literals that support the tests on the way of a guard are carried
+    -- if each condition on a guard's way decides p, the literals by which the tests are heard, and their values, are
+    -- carried
     pub tests_carried : (ws : List ℕ) → ((c : ℕ) → Contains ws c → Contains (deciding g s.values p) c) → (l : Literal) →
         Contains (support_of s (heard_support (node_of g p)) ws) l →
         Contains (flat_map (passed g rows s) (before_on_node g order p) ++ decided g s p ++ heard g rows s p) l
+    -- a literal is known of how a test is heard, or it is that test's value, which is among what decides p
     tests_carried ws of l i =
         let r = Contains-flat_map_parts (λ c. heard_support (node_of g p) c ++ value_known s c ∷ []) ws l i in
         elim (Contains-append_cases (heard_support (node_of g p) r.0) (value_known s r.0 ∷ []) l r.2) [
@@ -233,12 +241,12 @@ module _ (g : Graph) (order : List ℕ) (topological : IsTopological g order) (r
 
   -- ---- of inputs
 
-  -- the literals that say when an input is there
+  -- the literals by which an input is there
   abbrev pub input_support : ℕ → List Literal
   input_support e = if is_message g e then carried_by_row rows s (message_item g e)
       else carried_at_end g order rows s (source g e)
 
-  -- the literals that say when a live input is there are carried
+  -- if the source of an input is active, the literals by which the input is there are carried
   pub input_carried : (p e : ℕ) → Contains (inputs g p) e →
       node_of g (source g e) ≡ node_of g p ⊎ (is_message g e ≡ true) → source g e < process_count g →
       active g s.values (source g e) ≡ true →
@@ -270,7 +278,8 @@ module _ (g : Graph) (order : List ℕ) (topological : IsTopological g order) (r
 
   -- ---- the start
 
-  -- all that a start that isn't frozen rests on: when its node is ready, what its guard tests, and its live inputs
+  -- whatever a start that isn't frozen rests on is carried beside it: the literals of its wait, and those of its
+  -- inputs
   pub start_carried : (p : ℕ) → (process_at g p).frozen ≡ false → (l : Literal) →
       Contains (flat_map (passed g rows s) (before_on_node g order p) ++ decided g s p ++ heard g rows s p) l ⊎
       Contains (flat_map (passed g rows s) (before_on_node g order p) ++ received g rows s p) l →
@@ -296,11 +305,12 @@ module _ (g : Graph) (order : List ℕ) (topological : IsTopological g order) (r
             (Contains-append_left on (decided g s p) l n))
       ]
 
-  -- what decides a process, and what its node carries and hears before it, is carried on by the node after it
+  -- what decides p, and what its node carries and hears before it, the node carries on after it
   pub ready_carried : (p : ℕ) (l : Literal) →
       Contains (decided g s p) l ⊎
       Contains (flat_map (passed g rows s) (before_on_node g order p) ++ decided g s p ++ heard g rows s p) l →
       Contains (flat_map (passed g rows s) (before_on_node g order p) ++ passed g rows s p) l
+  -- literal by literal: those passed before stay, and those that decide p or are heard are passed on by p
   ready_carried p l (inl m) = Contains-append_right (flat_map (passed g rows s) (before_on_node g order p))
       (passed g rows s p) l (passed_decided p l m)
   ready_carried p l (inr m) =
@@ -320,7 +330,7 @@ module _ (g : Graph) (order : List ℕ) (topological : IsTopological g order) (r
 
   -- ---- the end
 
-  -- what is carried beside the end of an active process is carried before it, or passed on by it
+  -- what is carried beside the end of an active process is passed on by it, or by one before it on the node
   pub end_parts : (q : ℕ) → active g s.values q ≡ true → (l : Literal) → Contains (carried_at_end g order rows s q) l →
       Contains (flat_map (passed g rows s) (before_on_node g order q)) l ⊎
       Contains (passed g rows s q) l

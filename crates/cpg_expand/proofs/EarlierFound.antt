@@ -1,4 +1,5 @@
--- What the code finds of the processes of a node between two places.
+-- What the code finds of a node's processes between two places: whether one is between them, a cut, and trees of where
+-- they test a condition.
 use Rattle.std.proofs.Common.{ℕ, ◌+◌, ◌<◌, ◌≤◌, ◌≡◌, ◌==◌, ◌&&◌, nat_le, nat_lt, Bool, true, false, if◌then◌else◌, List}
 use Rattle.std.proofs.Common.{arith, eq-eqb, eqb-true, lt-ltb, refl, sym, ap, ◌∙◌, subst, inl, inr}
 use Rattle.std.proofs.lemmas.Bool.{and_from, and_parts, cases_lt, le-leb, leb-true, ltb-true}
@@ -14,20 +15,22 @@ use Rattle.cpg_expand.specs.Earlier.{IsAskedOf, IsAskedTree, IsBetween, IsBothTr
 use Rattle.cpg_expand.specs.Guarded.{IsTestedOn, is_tested}
 use Rattle.cpg_expand.proofs.AgreeingTrees.{agrees_constant}
 
--- what is excluded: a test that passes and fails
+-- true isn't false
 apart : true ≡ false → ⊥
 apart e = cc
 
--- a tree of one path has its value there
+-- a tree of one value has it on each scenario's path
 constant_there : {T : Type 0} (x : T) (k : ℕ) (t : TreeState T) → IsConstant x k t → (s : Scenario) (y : Path T) →
     IsOnPath t.paths s y → y.1 ≡ x
 constant_there x k t is s y on = (agrees_constant s x k t (λ z. z ≡ x) refl is).value y on
 
+-- given: a node, two places and a process
 module _ (g : Graph) (order : List ℕ) (node from to q : ℕ) where
   -- a process that passes the code's test is between the two places
   pub between_from : q < process_count g →
       (node_of g q == node && (nat_le from (place order q) && nat_lt (place order q) to)) ≡ true →
       IsBetween g order node from to q
+  -- part by part of the test
   between_from l is =
       let both = and_parts (node_of g q == node) (nat_le from (place order q) && nat_lt (place order q) to) is in
       let places = and_parts (nat_le from (place order q)) (nat_lt (place order q) to) both.1 in
@@ -46,6 +49,7 @@ module _ (g : Graph) (order : List ℕ) (node from to q : ℕ) where
       (and_from (nat_le from (place order q)) (nat_lt (place order q) to) (le-leb from (place order q) b.after)
       (lt-ltb (place order q) to b.sooner))) ∙ is)
 
+-- given: a node and a place
 module _ (g : Graph) (order : List ℕ) (guards : Guards) (node to : ℕ) where
   -- the place 0 is a cut: nothing stands before it
   pub no_cut : IsCut g order guards node to 0
@@ -57,18 +61,20 @@ module _ (g : Graph) (order : List ℕ) (guards : Guards) (node to : ℕ) where
   cut_there from z b always =
       inr (z, record { within = b.within; there = b.there; after = omega arith; sooner = b.sooner }, always)
 
+-- given: a node, two places and a condition
 module _ (g : Graph) (order : List ℕ) (guards : Guards) (node from to c : ℕ) where
-  -- the tree is true in the outcomes in which one of the first k processes between the places tests c
+  -- the tree is true just where the guard of one of the processes 0 .. k - 1, between the places, tests c
   abbrev Asked : ℕ → TreeState Bool → Type 0
   Asked k t = IsAskedTree g order guards node from to c k t
 
-  -- what one of the first k processes tests is tested by one of more
+  -- what one of fewer processes tests is tested by one of more
   more : (k n : ℕ) (s : Scenario) → k ≤ n → IsAskedOf g order guards node from to c k s.values →
       IsAskedOf g order guards node from to c n s.values
   more k n s l a =
       record { process = a.process; below = omega (arith, a.below, l); between = a.between; tested = a.tested }
 
-  -- what one process more asks is asked by the ones before, unless that process itself asks it
+  -- if process q doesn't test c between the places, what one of the first q + 1 processes tests is tested by one of
+  -- the first q
   less : (q : ℕ) (s : Scenario) →
       (IsBetween g order node from to q → is_tested (tree_of guards q) s.values c ≡ true → ⊥) →
       IsAskedOf g order guards node from to c (q + 1) s.values →
@@ -138,7 +144,7 @@ module _ (g : Graph) (order : List ℕ) (guards : Guards) (node from to c : ℕ)
             λ a. picked ∙ (asks s few y.0 y.1).1 (less q s (λ b h. apart (sym (value ∙ h) ∙ e)) a),
           )
 
--- a tree that is the second where the first is true, and false elsewhere, is true where both are
+-- the tree that has b's value where a is true, and false elsewhere, is true just where both are
 pub both_true : (g : Graph) (a b never t : TreeState Bool) → IsTree g a → IsTree g never →
     IsConstant false g.faults never → IsPick a b never t →
     IsBothTree g.faults a b t

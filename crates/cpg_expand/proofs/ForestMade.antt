@@ -1,4 +1,4 @@
--- Trees that are added to trees.
+-- Lists of trees that are made one tree at a time.
 use Rattle.std.proofs.Common.{ℕ, ◌+◌, ◌≡◌, List, [], ◌∷◌, ◌++◌, length, All, arith, sym, ap, subst, length-append}
 use Rattle.std.proofs.lemmas.List.Elements.{All-push}
 use Rattle.cpg_base.specs.Graph.{Graph}

@@ -1,4 +1,4 @@
--- The trees of when slots are free, as the code reads and puts them.
+-- How the code reads and puts the trees of when slots are free.
 use Rattle.std.proofs.Common.{ℕ, ◌<◌, ◌≡◌, length, get_or, set, length-set, Option, arith, refl, sym, ap, ◌∙◌, subst}
 use Rattle.std.proofs.lemmas.List.{get_or_read_under}
 use Rattle.std.proofs.lemmas.List.Elements.{All-get_or, All-set}
@@ -25,6 +25,7 @@ pub has_put : (g : Graph) (f new : ForestState) (x node : ℕ) (times : TreeStat
       free = set f.free node free;
       wide = f.wide;
     } → HasTrees g new
+-- putting changes no length, and both trees that are put are trees of the graph
 has_put g f new x node times free has of_times of_free is = subst (HasTrees g) (sym is) (record {
   times = length-set f.times x times ∙ has.times;
   ends = has.ends;

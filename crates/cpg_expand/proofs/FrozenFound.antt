@@ -1,4 +1,5 @@
--- The latest time of an item, as the trees of what it waits for give it, is its frozen time.
+-- If the latest time that is found for an item is reached in some scenario and exceeded in none, it is the item's
+-- frozen time.
 use Rattle.std.proofs.Common.{ℕ, ◌<◌, ◌≤◌, ◌≡◌, ◌≢◌, true, List, length, get_or, Option, Some, None, unwrap_or, arith}
 use Rattle.std.proofs.Common.{refl, sym, ap, ◌∙◌, get_or-set_same, get_or-set_other}
 use Rattle.std.proofs.lemmas.List.{length-set}
@@ -22,34 +23,38 @@ pub set_count : (old : List (Option ℕ)) (x : ℕ) (latest : Option ℕ) → le
 set_count old x None = refl
 set_count old x (Some time) = length-set old x (Some time)
 
--- the times of other items stay
+-- setting it changes no other item's frozen time
 pub set_other : (old : List (Option ℕ)) (x y : ℕ) (latest : Option ℕ) → y ≢ x →
     get_or (set_if old x latest) y None ≡ get_or old y None
 set_other old x y None other = refl
 set_other old x y (Some time) other = get_or-set_other old x y (Some time) None other
 
--- an item that had no frozen time has the latest time then, if there is one
+-- an item without a frozen time has the latest time then, or none if there is none
 pub set_here : (old : List (Option ℕ)) (x : ℕ) (latest : Option ℕ) → x < length old → get_or old x None ≡ None →
     get_or (set_if old x latest) x None ≡ latest
 set_here old x None l unset = unset
 set_here old x (Some time) l unset = get_or-set_same old x (Some time) None l
 
+-- given: frozen times, an item, and the latest time found for it
 module _ (g : Graph) (order : List ℕ) (old : List (Option ℕ)) (x : ℕ) (latest : Option ℕ) where
-  -- if the item is active, there is a latest time, which is no earlier than what it would have
+  -- in each scenario in which the item is active there is a latest time, and its unfrozen time isn't later
   abbrev pub IsAbove : Type 0
   IsAbove = (s : Scenario) → IsScenario g s → (t : Times) → IsRun g order old s t →
       item_active g s.values (item_at g x) ≡ true → (m : ℕ) × (latest ≡ Some m) × (unfrozen_time g order s t x ≤ m)
 
-  -- in some scenario in which the item is active the latest time is no later than what it would have
+  -- if there is a latest time, the item's unfrozen time is no earlier in some scenario in which it is active
   abbrev pub IsReachedBy : Type 0
   IsReachedBy =
       (m : ℕ) → latest ≡ Some m → (s : Scenario) × IsScenario g s × (item_active g s.values (item_at g x) ≡ true) ×
       ((t : Times) → IsRun g order old s t → m ≤ unfrozen_time g order s t x)
 
--- what is set is what the item would have at most, and nothing else is
+-- x's frozen time in `new` is the greatest that it would have under `old`, and no other one has changed
 pub record IsFound (g : Graph) (order : List ℕ) (old : List (Option ℕ)) (x : ℕ) (new : List (Option ℕ)) : Type 0 where
+  -- x has the greatest time that it would have under `old`, or none if it is never active
   pub is : IsUnfrozenTime g order old x (get_or new x None)
+  -- no other item's frozen time has changed
   pub same : (y : ℕ) → y ≢ x → get_or new y None ≡ get_or old y None
+  -- there are as many as before
   pub long : length new ≡ length old
 
 -- given: an item without a frozen time, and a latest time that no scenario exceeds and one reaches

@@ -1,4 +1,4 @@
--- The trees of where an edge is live and an item is sent.
+-- Trees of where an edge is live, and where an item is sent.
 use Rattle.std.proofs.Common.{ℕ, ◌<◌, ◌≡◌, ◌&&◌, Bool, true, false, true≢false, if◌then◌else◌, List, [], ◌∷◌, ◌++◌, map}
 use Rattle.std.proofs.Common.{get_or, Option, Some, None, unwrap_or, option_to_list, is_some, ◌⊎◌, inl, inr}
 use Rattle.std.proofs.Common.{refl, sym, ap, ap₂, ◌∙◌, subst}
@@ -25,17 +25,17 @@ use Rattle.cpg_expand.proofs.AgreeingTrees.{agrees_map, agrees_weaker}
 use Rattle.cpg_expand.proofs.GuardTrees.{each_of}
 use Rattle.cpg_tree.proofs.GraphTrees.{few_of}
 
--- the value that is wanted, if it is true, is the condition's own
+-- a value is the same as true just if it is true
 same_true : (b : Bool) → same_bool true b ≡ b
 same_true true = refl
 same_true false = refl
 
--- and with true changes nothing
+-- a conjunction with true is its other part
 and_true : (b : Bool) → (b && true) ≡ b
 and_true true = refl
 and_true false = refl
 
--- a tree that is true where another one is has its value, by those literals or more
+-- a tree that is true just where another one is has its value, by the same literals or more
 pub same_valued : (g : Graph) (chooser t : TreeState Bool) → IsTree g chooser →
     IsMap (λ x z. z ≡ same_bool true x) chooser t → (s : Scenario) →
     HasAtMostFaults g.faults s →
@@ -75,8 +75,9 @@ a_question (Some v) (Some f) d w e =
     some_condition None = None
     some_condition (Some q) = Some q.0
 
+-- given: an edge
 module _ (g : Graph) (e : ℕ) where
-  -- an edge that asks for nothing has no condition: that of a conditional edge's source is there
+  -- an edge that asks for nothing has no `when`: the source of one with a `when` has a condition
   asks_nothing : e < edge_count g → source g e < process_count g → asked g e ≡ None → (edge_at g e).when ≡ None
   asks_nothing l h none = elim (no_question (edge_at g e).when (condition_of g (source g e)) none) [
     | inl simple ↦ simple
@@ -89,11 +90,13 @@ module _ (g : Graph) (e : ℕ) where
   pub asks_condition : (c : ℕ) (w : Bool) → asked g e ≡ Some (c, w) → condition_of g (source g e) ≡ Some c
   asks_condition c w is = (a_question (edge_at g e).when (condition_of g (source g e)) c w is).1
 
+  -- given: the tree of where the edge's source is active, and the one that is made of it
   module _ (chooser t : TreeState Bool) where
     -- an edge that asks for nothing is live where its source is active
     pub live_simple : e < edge_count g → source g e < process_count g → asked g e ≡ None → IsTree g chooser →
         IsMap (λ x z. z ≡ same_bool true x) chooser t →
         IsLiveTree g e chooser t
+    -- the tree is the chooser's copy, and an edge that asks for nothing is live just if its source is active
     live_simple l h none of_chooser made s few first valued =
         let simple = asks_nothing l h none in
         let b : Bool = active g s.values (source g e) in
@@ -106,6 +109,7 @@ module _ (g : Graph) (e : ℕ) where
     -- an edge that asks for a value is live where its source is active and the condition has that value
     pub live_tested : (c : ℕ) (w : Bool) → asked g e ≡ Some (c, w) → IsTestedTree g.faults c w chooser t →
         IsLiveTree g e chooser t
+    -- the edge's literals and its value, for an edge with that question, are those of the test
     live_tested c w is tested s few first valued =
         let both = a_question (edge_at g e).when (condition_of g (source g e)) c w is in
         let b : Bool = active g s.values (source g e) in
@@ -118,11 +122,13 @@ module _ (g : Graph) (e : ℕ) where
         (subst (λ (z : Bool). HasValueFrom s (first ++ (if b then value_known s c ∷ [] else [])) z t) value
         (tested s few b first valued))
 
+-- given: an item, the tree of where its producer is active, and the one that is made of it
 module _ (g : Graph) (x : ℕ) (chooser t : TreeState Bool) where
-  -- a message is sent if its edge is live
+  -- a message goes just where its edge is live
   pub goes_message : (e : ℕ) → item_at g x ≡ Message e → is_sent_item g (item_at g x) ≡ true →
       IsLiveTree g e chooser t →
       IsGoesTree g x chooser t
+  -- a message is sent just if its edge is live, and the literals of its send are those of the edge's value
   goes_message e is sent lives s few first valued =
       let message = sym (ap (is_sent_item g) is) ∙ sent in
       subst (λ (i : Item). HasValueFrom s first (active g s.values (producer_of_item g i)) chooser →
@@ -133,10 +139,11 @@ module _ (g : Graph) (x : ℕ) (chooser t : TreeState Bool) where
       (sym (ap (λ (b : Bool). b && live g s.values e) message)) (lives s few first by_source))
       valued
 
-  -- a broadcast is sent if its process is active
+  -- a broadcast goes just where its process is active
   pub goes_broadcast : (c : ℕ) → item_at g x ≡ Broadcast c → is_sent_item g (item_at g x) ≡ true → IsTree g chooser →
       IsMap (λ x z. z ≡ same_bool true x) chooser t →
       IsGoesTree g x chooser t
+  -- the tree is the chooser's copy, and a broadcast that is sent at all is active just if its process is
   goes_broadcast c is sent of_chooser made s few first valued =
       let many = sym (ap (is_sent_item g) is) ∙ sent in
       let value : item_active g s.values (item_at g x) ≡ active g s.values (producer g x) =
@@ -151,7 +158,7 @@ module _ (g : Graph) (x : ℕ) (chooser t : TreeState Bool) where
   no_start : (p : ℕ) → item_at g x ≡ Start p → is_sent_item g (item_at g x) ≡ true → ⊥
   no_start p is sent = true≢false (sym sent ∙ ap (is_sent_item g) is)
 
-  -- an item that is sent and is no message is a broadcast, so it is sent if its process is active
+  -- an item that is sent and isn't a message is a broadcast, so it goes just where its process is active
   pub goes_other : (i : Item) → item_at g x ≡ i → ((e : ℕ) → i ≡ Message e → ⊥) → is_sent_item g (item_at g x) ≡ true →
       IsTree g chooser →
       IsMap (λ x z. z ≡ same_bool true x) chooser t →

@@ -1,5 +1,5 @@
--- Trees that are grown say what starts and sends rest on; lines go over to other frozen times; the first trees are
--- grown.
+-- What the lines of trees say (`Lines`): the times that starts and sends rest on; lines under other frozen times; and
+-- the lines of the first trees.
 use Rattle.std.proofs.Common.{ℕ, ◌*◌, ◌<◌, ◌≡◌, List, [], length, get_or, Option, None, arith, refl, sym, ◌∙◌, subst}
 use Rattle.std.proofs.lemmas.Option.{none-some}
 use Rattle.std.proofs.lemmas.List.{length-replicate}
@@ -35,12 +35,13 @@ use Rattle.cpg_expand.proofs.GuardTrees.{times_tree}
 
 -- ---- what the lines say
 
--- lines before a place give the values of the trees there
+-- lines up to a place give what starts and sends there rest on (`HasTreeValues`)
 pub valued_from_lines : (g : Graph) (order : List ℕ) (rows : List (List Column)) (i : ℕ) (f : ForestState) →
     HasTrees g f →
     RowsHold g order i f rows →
     (frozen : List (Option ℕ)) (s : Scenario) (t : Times) → IsRun g order frozen s t →
     Lines g order rows s t i f → HasTreeValues g order rows s t i f
+-- an item's time is one that its row has a column for, since the rows hold what the trees list
 valued_from_lines g order rows i f has hold frozen s t run lines = record {
   ends = λ q l sooner on. lines.ends q l sooner;
   sends = λ x l sent sooner on. valued_by_tree g.faults rows s x (λ (y : Option ℕ). y ≡ get_or t.times x None)
@@ -56,9 +57,10 @@ valued_from_lines g order rows i f has hold frozen s t run lines = record {
 -- `rows`: the rows of the items; `s`: a scenario; `i`, `f`: a place of the order and the trees up to it
 module _ (g : Graph) (order : List ℕ) (topological : IsTopological g order) (rows : List (List Column)) (s : Scenario)
     (i : ℕ) (f : ForestState) where
-  -- lines for one list of times are lines for any other that agrees with it before the place
+  -- lines for one run are lines for any other that agrees with it before the place
   lines_same : (t u : Times) → AgreeBefore g order t u (i * phases g) → Lines g order rows s t i f →
       Lines g order rows s u i f
+  -- line by line: what stands before the place has the same times in both runs
   lines_same t u a lines = record {
     times = λ x h l. subst (λ (o : Option ℕ). HasValueFrom s (carried g order rows s x) o (times_of g f x))
         (a.items x h (item_before g order topological s t u i a x h l)) (lines.times x h l);
@@ -76,7 +78,7 @@ module _ (g : Graph) (order : List ℕ) (topological : IsTopological g order) (r
     };
   }
 
-  -- lines go over to a list of frozen times that is the same for what is made before the place
+  -- lines under some frozen times are lines under others that agree with them for items before the place
   pub lines_over : (frozen others : List (Option ℕ)) →
       ((x : ℕ) → x < item_count g → place order (producer g x) < i → get_or frozen x None ≡ get_or others x None) →
       ((t : Times) → IsRun g order frozen s t → Lines g order rows s t i f) → (u : Times) → IsRun g order others s u →
@@ -96,6 +98,7 @@ module _ (g : Graph) (order : List ℕ) (f : ForestState) (bare : IsBare g f) (h
     (rows : List (List Column)) (s : Scenario) (t : Times) where
   -- at the first place each node is ready from 0 on, and nothing is said of it
   ready_first : (node : ℕ) → node < length g.nodes → IsReadyLine g order rows s t 0 node (ready_of g f node)
+  -- no process stands before the first place, so 0 is the least time at which all of them have ended
   ready_first node l = record {
     time = 0;
     is = record {

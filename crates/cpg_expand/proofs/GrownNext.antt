@@ -1,4 +1,4 @@
--- Once a process has sent all that it sends, the trees are grown up to the next place.
+-- Once a process has sent its whole queue, the trees are grown up to the place behind it.
 use Rattle.std.proofs.Common.{ℕ, ◌+◌, ◌<◌, ◌≤◌, ◌≡◌, ◌≢◌, ◌&&◌, Bool, true, false, List, [], length, take, get_or}
 use Rattle.std.proofs.Common.{flat_map, Option, None, Contains, ◌⊎◌, arith, refl, sym, ap, ◌∙◌, subst, inl, inr}
 use Rattle.std.proofs.lemmas.Bool.{and_parts, cases_Bool, cases_eq, cases_lt, cond-false}
@@ -46,7 +46,7 @@ frozen_kind g x (inr (inr c)) f = absurd (apart (sym (ap (is_frozen_item g) c.3)
     apart : false ≡ true → ⊥
     apart e = cc
 
--- what is no start and isn't sent is active in no scenario
+-- an item that is no start and is never sent is active in no scenario
 unsent_idle : (g : Graph) (values : List Bool) (x : ℕ) → process_count g ≤ x → ItemCases g x → is_sent g x ≡ false →
     item_active g values (item_at g x) ≡ false
 unsent_idle g values x big (inl c) h = absurd (let k = c.0 in omega (arith, big, k))
@@ -60,7 +60,7 @@ unsent_idle g values x big (inr (inr c)) h = ap (item_active g values) c.3
 module _ (g : Graph) (order : List ℕ) (topological : IsTopological g order) (p : ℕ) (l : p < process_count g)
     (frozen : List (Option ℕ)) (f : ForestState)
     (sending : IsSending g order p (length (queue_of g p)) frozen f) where
-  -- an item of p or of an earlier process is done, if it has times at all
+  -- an item of p or of an earlier process is done, if it is a start or is sent
   done : (x : ℕ) → x < item_count g → (x < process_count g) ⊎ (is_sent g x ≡ true) →
       IsEarlier g order (place order p + 1) x →
       IsDone g order p (length (queue_of g p)) x
@@ -155,6 +155,7 @@ module _ (g : Graph) (order : List ℕ) (topological : IsTopological g order) (p
         -- what the node has sent, with all items of p, is what it has sent before the next place
         more : (y : ℕ) → Contains (sent_so_far g order p (length (queue_of g p))) y →
             Contains (sent_before g order (place order p + 1) (node_of g p)) y
+        -- an item sent before p's place stays among those sent, and one of p's queue is p's
         more y j = elim (Contains-append_cases (sent_before g order (place order p) (node_of g p))
             (take (length (queue_of g p)) (queue_of g p)) y j) [
               | inl i ↦ let r =
@@ -170,6 +171,7 @@ module _ (g : Graph) (order : List ℕ) (topological : IsTopological g order) (p
     free_line_other : (node : ℕ) → node < length g.nodes → node ≢ node_of g p →
         IsQueuedFor g order (place order p) node →
         IsFreeLine g order rows s t (place order p + 1) node (free_of g f node)
+    -- the node has no process at p's place, so the items sent from it before the next place are the same
     free_line_other node h other q =
         let line = lines.free node h other q in
         record {

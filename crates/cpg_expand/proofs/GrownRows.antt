@@ -1,5 +1,5 @@
--- Trees that are grown along a whole order: the rows of their times are rows that a builder finds, and the trees say
--- when the processes end.
+-- Trees that are grown along a whole order: their rows are rows that a builder may find, and they say when processes
+-- end.
 use Rattle.std.proofs.Common.{ℕ, ◌<◌, ◌≤◌, ◌≡◌, List, [], length, get_or, Option, Contains, arith, refl, sym, ◌∙◌}
 use Rattle.std.proofs.Common.{subst, inl, inr}
 use Rattle.std.proofs.lemmas.Bool.{both_ways, cases_lt}
@@ -36,7 +36,7 @@ use Rattle.cpg_tree_columns.proofs.TreeColumns.{column_there}
 use Rattle.cpg_expand.proofs.RowsCarry.{tree_row_carries, merged_row_carries}
 use Rattle.cpg_expand.proofs.GuardTrees.{times_tree}
 
--- what is said of a problem, an order and a slice of trees is said of the graph, the list and the trees that they are
+-- what holds of the graph, the order and the trees that the code reads holds of those they are
 pub said_of : (P : Graph → List ℕ → List (TreeState (Option ℕ)) → Type 0) (g h : Graph) (us vs : List ℕ)
     (ts rs : List (TreeState (Option ℕ))) → h ≡ g → vs ≡ us → rs ≡ ts → P h vs rs → P g us ts
 said_of P g h us vs ts rs e f i holds =
@@ -52,7 +52,7 @@ module _ (g : Graph) (urgency : List ℕ) (guards : Guards) (a : IsAdmitted g ur
   placed : (q : ℕ) → q < process_count g → place order q < process_count g
   placed q l = place_in_order (process_count g) order topological.all q (omega (arith, l))
 
-  -- every item is of an earlier process
+  -- each item is of a process before the last place's end
   earlier : (x : ℕ) → x < item_count g → IsEarlier g order (process_count g) x
   earlier x l = placed (producer g x) (producer_within g a.well_formed x l)
 
@@ -78,6 +78,7 @@ module _ (g : Graph) (urgency : List ℕ) (guards : Guards) (a : IsAdmitted g ur
   faults_of : (x : ℕ) → x < item_count g → (times_of g f x).faults ≡ g.faults
   faults_of x l = (times_tree g f grown.trees x l).faults
 
+  -- given: rows that are made from the trees of the items' times
   module _ (rows : List Row) (are : AreRowsOf g urgency f.times rows) where
     -- the columns of the rows, row by row
     abbrev columns : List (List Column)

@@ -1,4 +1,4 @@
--- The values of the trees down guards.
+-- The values of the trees down guards, and of those that the code makes of them.
 use Rattle.std.proofs.Common.{ℕ, ◌+◌, ◌-◌, ◌<◌, ◌≡◌, ◌==◌, ◌&&◌, ◌||◌, nat_lt, max, length, Bool, true, false, if◌then◌else◌, List, [], ◌∷◌, ◌++◌}
 use Rattle.std.proofs.Common.{map, flat_map, get_or, Option, Some, None, All}
 use Rattle.std.proofs.Common.{Contains, ◌⊎◌, arith, le-ltb, lt-ltb, eq-eqb, refl, sym, ap, ap₂, ◌∙◌, subst, inl, inr}
@@ -135,10 +135,7 @@ no_more g tree t is made s few ls x has_value =
 
 -- ---- the later of two
 
--- what is made of the later of two trees that are read as numbers
--- `number`, `other_number`: how the two trees are read as numbers; `makes`: what is made of the greater one
--- `a`, `b`, `of_a`, `of_b`: the two trees, of the graph; `t`, `made`: the tree that joins them so
--- `s`, `few`: a scenario; `first`, `second`, `x`, `y`: what the two trees say there, and their values
+-- given: t is made of the greater of two numbers, one read from each of two trees; and what these say in s
 module _ {T U V : Type 0} (g : Graph) (number : T → ℕ) (other_number : U → ℕ) (makes : ℕ → V) (a : TreeState T) (b : TreeState U) (t : TreeState V)
     (of_a : IsTree g a) (of_b : IsTree g b)
     (made : IsJoin (λ x y z. z ≡ makes (max (number x) (other_number y))) a b t) (s : Scenario) (few : HasAtMostFaults g.faults s)
@@ -177,9 +174,7 @@ pub latest_ends : (g : Graph) (end : TreeState (Option ℕ)) (there t : TreeStat
 latest_ends g end there t of_end of_there made s few first second x y has_value other =
     made_turned g (λ n. n) (time_later 0) (λ n. n) there end t of_there of_end made s few second first y x other (from_ends s end first x has_value)
 
--- the value of a tree that is read of a forest
--- `delay`, `d`, `same_delay`: the delay and its other name; `times`, `read`, `is`, `of_times`: the tree and its other
--- name
+-- given: a tree and a delay, each also by the name by which the code has it (`times`, `delay`)
 module _ {V : Type 0} (g : Graph) (makes : ℕ → V) (delay d : ℕ) (same_delay : delay ≡ d) (times read : TreeState (Option ℕ)) (is : times ≡ read)
     (of_times : IsTree g times) where
   -- if the later tree has a value, the tree that is read agrees with it
@@ -187,8 +182,7 @@ module _ {V : Type 0} (g : Graph) (makes : ℕ → V) (delay d : ℕ) (same_dela
   as_read s ls n h = from_times delay s times ls n (subst (λ (m : ℕ). HasValueFrom s ls n (later_by m times)) (sym same_delay)
       (subst (λ (u : TreeState (Option ℕ)). HasValueFrom s ls n (later_by d u)) (sym is) h))
 
-  -- what is made of a tree that is read from a forest and of another tree has what is made of the later of their
-  -- values
+  -- what is made of the later of the read tree and another has what is made of the later of their values
   pub valued_and_read : (other : TreeState ℕ) (t : TreeState V) → IsTree g other →
       IsJoin (λ x y z. z ≡ makes (max x (time_later delay y))) other times t →
       (s : Scenario) → HasAtMostFaults g.faults s → (first second : List Literal) (x y : ℕ) → HasValueFrom s first x other →
@@ -197,7 +191,7 @@ module _ {V : Type 0} (g : Graph) (makes : ℕ → V) (delay d : ℕ) (same_dela
   valued_and_read other t of_other made s few first second x y has_value there =
       made_valued g (λ n. n) (time_later delay) makes other times t of_other of_times made s few first second x y has_value (as_read s second y there)
 
-  -- such a tree has what is made of the later of the two values
+  -- the same with the read tree first
   pub read_and_valued : (other : TreeState ℕ) (t : TreeState V) → IsTree g other →
       IsJoin (λ x y z. z ≡ makes (max (time_later delay x) y)) times other t →
       (s : Scenario) → HasAtMostFaults g.faults s → (first second : List Literal) (x y : ℕ) → HasValueFrom s first x (later_by d read) →
@@ -206,7 +200,7 @@ module _ {V : Type 0} (g : Graph) (makes : ℕ → V) (delay d : ℕ) (same_dela
   read_and_valued other t of_other made s few first second x y there has_value =
       made_valued g (time_later delay) (λ n. n) makes times other t of_times of_other made s few first second x y (as_read s first x there) has_value
 
-  -- what is made of a tree that is read from a forest and of ends has what is made of the later of their values
+  -- the same with ends in place of the other tree
   pub ends_and_read : (end read_end : TreeState (Option ℕ)) (t : TreeState V) → end ≡ read_end → IsTree g end →
       IsJoin (λ x y z. z ≡ makes (max (time_later delay x) (time_later 0 y))) times end t →
       (s : Scenario) → HasAtMostFaults g.faults s → (first second : List Literal) (x y : ℕ) → HasValueFrom s first x (later_tree read_end) →
@@ -264,12 +258,12 @@ active_test k c off on f y t of_off of_on picks s few = go (get_or s.values c fa
 
 -- ---- when a node has heard what a guard tests
 
--- a leaf tests nothing, so the node has heard all of it at 0
+-- a leaf tests nothing, so nothing has to be heard, and the time is 0
 pub heard_leaf : (g : Graph) (f : ForestState) (node : ℕ) (a : Activation) (t : TreeState ℕ) → IsConstant 0 g.faults t →
     IsHeardTree g f node (Leaf a) t
 heard_leaf g f node a t is s few support time valued = agrees_constant s 0 g.faults t (λ y. y ≡ 0) refl is
 
--- the literals of the first value, and then its own and those of the others
+-- the literals of the first condition and of the others are those of all
 support_first : (s : Scenario) (support : ℕ → List Literal) (c : ℕ) (ws : List ℕ) (l : Literal) →
     Contains (support c ++ value_known s c ∷ support_of s support ws) l
     → Contains (support_of s support (c ∷ ws)) l
@@ -347,6 +341,7 @@ own_early g time x e es own there = subst (λ (b : Bool). time_later (if b then 
 -- if all inputs are from the node itself, the latest is there once the node is ready
 own_latest : (g : Graph) (time : ℕ → Option ℕ) (x : ℕ) (es : List ℕ) → All (λ e. is_message g e ≡ false) es → AreThere g time x es →
     latest_of (input_delay g) time es ≤ x
+-- by induction on the list
 own_latest g time x [] own there = omega arith
 own_latest g time x (e ∷ es) own there =
     let parts = all_parts (λ d. is_message g d ≡ false) (e ∷ es) e es refl own in
@@ -410,8 +405,7 @@ module _ (g : Graph) (f : ForestState) (s : Scenario) (first : List Literal) whe
       within l (inl j) =
           support_as_first base (support e) (support e ++ flat_map support es) (λ m i. Contains-append_left (support e) (flat_map support es) m i) l j
 
-  -- if only inputs from the node itself are left, the starts after the wait and the last other input are those with
-  -- all
+  -- if only inputs of the node itself follow, the starts by the wait and this message are those with all
   pub last_input : (wait : TreeState ℕ) (t : TreeState (Option ℕ)) (release e : ℕ) (es : List ℕ) → All (λ d. is_message g d ≡ false) es →
       ((base second : List Literal) (x y : ℕ) → HasValueFrom s base x wait → HasValueFrom s second y (later_by (input_delay g e) (input_tree g f e)) →
       HasValueFrom s (first ++ (base ++ second)) (Some (max (max x y) release)) t) →
@@ -453,7 +447,7 @@ start_valued g f wait t release of_wait made s few base x has_value support time
     (each_of g wait.faults wait of_wait.faults of_wait) made
     (λ y z e i. i ∙ ap (λ n. Some (max n release)) e) has_value)
 
--- the same if the wait is for an end
+-- if the wait is for an end, a tree of the end or the release, whichever is later, has the starts without inputs
 pub start_after_ends : (g : Graph) (f : ForestState) (end t : TreeState (Option ℕ)) (release : ℕ) → IsTree g end →
     IsMap (λ x z. z ≡ Some (max (time_later 0 x) release)) end t →
     IsStartAfter g f (later_tree end) release [] t
@@ -619,13 +613,13 @@ ready_valued g active end wait after t of_active of_end of_wait later each known
     (each_of g active.faults wait of_active.faults of_wait) made of_b
     (picked b refl)
   where
-    -- by whether the process is active: the node is ready at the end, or when the wait is over
+    -- the process is active: its end; or it isn't: when the wait is over
     picked : (d : Bool) → b ≡ d → Agrees s second (λ z. z ≡ v) (if d then after else wait)
     picked true e = let both = ends e in
         subst (λ n. Agrees s second (λ z. z ≡ n) after) (sym both.1) (later_has_value g 0 end after of_end later s few second x both.0)
     picked false e = let both = waits e in subst (λ n. Agrees s second (λ z. z ≡ n) wait) (sym both.1) both.0
 
--- a chooser that is true everywhere has no other value
+-- a chooser that is true everywhere is true in this scenario
 always_true : (active : TreeState Bool) → IsConstant true active.faults active → (s : Scenario) (b : Bool) (first : List Literal) →
     HasValueFrom s first b active → b ≡ true
 always_true active always s b first of_b =
@@ -679,9 +673,7 @@ ready_waits g f has node l = All-get_or (IsWait g) f.ready node (At (no_tree g.f
 
 -- ---- what is sent
 
--- given: a tree that says whether something is active, and its value in one scenario
--- `active`, `of_active`: the tree; `s`, `few`: the scenario; `b`, `first`, `of_b`: its value there and the literals
--- it says
+-- given: whether something is active, as a tree, and its value b in scenario s by `first`
 module _ (g : Graph) (active : TreeState Bool) (of_active : IsTree g active) (s : Scenario) (few : HasAtMostFaults g.faults s) (b : Bool)
     (first : List Literal)
     (of_b : HasValueFrom s first b active) where
@@ -702,12 +694,12 @@ module _ (g : Graph) (active : TreeState Bool) (of_active : IsTree g active) (s 
       by true e = valued e
       by false e = other
 
--- a value if a test passes, and else false, is both together
+-- a value if a test passes, and otherwise false, is the conjunction
 and_if : (b v : Bool) → (if b then v else false) ≡ (b && v)
 and_if true v = refl
 and_if false v = refl
 
--- a tree that is true where another is and a condition has a value is one of that test
+-- the tree that is made of `active` and of a condition's value is true where both are as wanted
 pub tested_valued : (g : Graph) (c : ℕ) (wanted : Bool) (active value is never t : TreeState Bool) → IsTree g active →
     IsNumber (128 + c) g.faults number_of_value value →
     HasOnePathEach value.faults value.paths →
@@ -754,7 +746,7 @@ sent_valued g share goes end free slots never t of_goes of_end of_free joined ea
     -- elsewhere: no time
     (agrees_constant s None g.faults never (λ z. z ≡ None) refl none)
 
--- if the item always goes, the tree of free slots says when it is sent
+-- if the item always goes, the tree of the first free slots from its end on says when it is sent
 pub sent_always : (g : Graph) (share : ShareState) (goes : TreeState Bool) (end : TreeState (Option ℕ)) (free : TreeState ℕ)
     (t : TreeState (Option ℕ)) →
     IsConstant true goes.faults goes →

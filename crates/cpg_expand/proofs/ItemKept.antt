@@ -15,16 +15,16 @@ use Rattle.cpg_expand.specs.Waiting.{ready_of, free_of}
 -- `new`, `after`, `added`: those with it
 module _ (g : Graph) (order : List ℕ) (chooser : TreeState Bool) (x : ℕ) (old new : ForestState)
     (before after : List (Option ℕ)) (added : IsItemAdded g order chooser x old new before after) where
-  -- another item's times, all ends, and when each node is ready stay as they were
+  -- another item keeps its tree of times
   pub other_times : (y : ℕ) → y ≢ x → times_of g new y ≡ times_of g old y
   other_times y other = ap (λ (f : ForestState). times_of g f y) added.is
       ∙ get_or-set_other old.times x y added.sent (no_tree g.faults) other
 
-  -- the trees of ends stay as they were
+  -- all processes keep their trees of ends
   pub same_ends : (q : ℕ) → ends_of g new q ≡ ends_of g old q
   same_ends q = ap (λ (f : ForestState). ends_of g f q) added.is
 
-  -- so do the trees of when nodes are ready
+  -- all nodes are ready when they were
   pub same_ready : (node : ℕ) → ready_of g new node ≡ ready_of g old node
   same_ready node = ap (λ (f : ForestState). ready_of g f node) added.is ∙ kept (ready_at g old node)
     where
@@ -37,7 +37,7 @@ module _ (g : Graph) (order : List ℕ) (chooser : TreeState Bool) (x : ℕ) (ol
       kept (After q) = refl
       kept (At t) = refl
 
-  -- the free slots of another node stay as they were
+  -- another node has its slots free when it had
   pub other_free : (node : ℕ) → node ≢ home g x → free_of g new node ≡ free_of g old node
   other_free node other = ap (λ (f : ForestState). free_of g f node) added.is
       ∙ get_or-set_other old.free (home g x) node added.freed (no_tree g.faults) other

@@ -1,4 +1,4 @@
--- Trees of parts that have too many leaves: of a guard's parts, and with some of the inputs.
+-- If a tree of a part of a guard, or one with some of the inputs, has too many leaves, that is a fault of the whole.
 use Rattle.std.proofs.Common.{ℕ, ◌≡◌, false, List, ◌∷◌, Option, sym, subst, inl, inr}
 use Rattle.cpg_base.specs.Graph.{Graph, is_message}
 use Rattle.cpg_base.specs.declared.activation.Activation.{Activation}
@@ -22,7 +22,7 @@ module _ {T : Type 0} (large : Activation → Type 0) (fits : Guard → TreeStat
   pub large_leaf : (a : Activation) → guard ≡ Leaf a → ShowsLarge wide (large a) fault → IsShown guard
   large_leaf a is h = subst IsShown (sym is) h
 
-  -- a fault for one side of a test, or for the test's own tree, is one for the guard
+  -- given: the guard tests a condition
   module _ (c : ℕ) (off on : Guard) (is : guard ≡ Test c off on) where
     -- a fault for the side of `false` is one for the guard
     pub large_off : IsShown off → IsShown guard

@@ -1,4 +1,4 @@
--- Faults that name an item where a tree has too many leaves, and where along an order that comes about.
+-- What faults show: how one is handed on, and where along an order a tree has too many leaves.
 use Rattle.std.proofs.Common.{ℕ, ◌+◌, ◌<◌, ◌≡◌, ◌∙◌, Bool, List, [], ◌∷◌, length, get_or, Option, None, Some, arith}
 use Rattle.std.proofs.Common.{refl, sym, ap, subst, inl, inr}
 use Rattle.std.specs.Prelude.{IfErr, IsErrAnd, Result, Ok, Err}
@@ -18,7 +18,7 @@ use Rattle.cpg_expand.specs.Grown.{IsGrown}
 use Rattle.cpg_expand.specs.Large.{HasLargeFree, HasLargeTree, IsLargeBegun, IsLargeLeft, IsLargeThawed, ShowsLarge}
 use Rattle.cpg_expand.specs.Sent.{AreItemsAdded}
 
--- a fault that names an item for one cause names it for another that follows
+-- a fault shown for one cause is shown for another that follows from it
 pub shown_as : (A B : Type 0) (wide : Option ℕ) (fault : BuildFault) → (A → B) → ShowsLarge wide A fault →
     ShowsLarge wide B fault
 shown_as A B wide (TooWide x) f h = (h.0, f h.1)
@@ -53,22 +53,23 @@ none_named A is_shown (TooWide x) h = absurd (no_name x h.0)
     no_name x e = cc
 none_named A is_shown OutOfMemory h = tt
 
--- a tree that is too large for one name of a graph and a guard is too large for an equal name
+-- what is too large by other names of the graph and the guard is so by these
 pub thawed_as : (g h : Graph) → h ≡ g → (p : ℕ) (f : ForestState) (guard found : Guard) → found ≡ guard →
     IsLargeThawed h p f found →
     IsLargeThawed g p f guard
 thawed_as g h same p f guard found is large =
     subst (λ (k : Graph). IsLargeThawed k p f guard) same (subst (IsLargeThawed h p f) is large)
 
--- items that are added leave the name of the wide item as it is
+-- adding items leaves the item to name as it is
 pub added_wide : (g : Graph) (order : List ℕ) (chooser : TreeState Bool) (xs : List ℕ) (old new : ForestState)
     (before after : List (Option ℕ)) →
     AreItemsAdded g order chooser xs old new before after → new.wide ≡ old.wide
+-- by induction on the list
 added_wide g order chooser [] old new before after h = ap (λ (f : ForestState). f.wide) h.0
 added_wide g order chooser (x ∷ xs) old new before after h =
     added_wide g order chooser xs h.0 new h.1 after h.3 ∙ ap (λ (f : ForestState). f.wide) h.2.is
 
--- a process that begins leaves the name of the wide item as it is
+-- beginning a process leaves the item to name as it is
 pub begun_wide : (g : Graph) (order : List ℕ) (guards : Guards) (p : ℕ) (old new : ForestState)
     (before after : List (Option ℕ)) (chooser : TreeState Bool) →
     IsBegun g order guards p old new before after chooser → new.wide ≡ old.wide

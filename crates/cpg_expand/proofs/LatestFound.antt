@@ -1,4 +1,4 @@
--- What the code finds of latest times.
+-- The latest times that the code finds, one thing after another: each raises what was found so far.
 use Rattle.std.proofs.Common.{ℕ, ◌+◌, suc, ◌<◌, ◌≤◌, ◌≡◌, ◌==◌, max, Bool, true, false, if◌then◌else◌, List, [], ◌∷◌}
 use Rattle.std.proofs.Common.{◌++◌, length, take, get_or, Option, Some, None, Contains, arith, eq-eqb, refl}
 use Rattle.std.proofs.Common.{sym, ap, ◌∙◌, subst, inl, inr, ◌⊎◌}
@@ -28,11 +28,12 @@ use Rattle.cpg_expand.specs.Waited.{stands_before}
 
 -- ---- the greatest time of a tree where another one is true
 
--- the greatest number of a tree where another is true is the greatest time that a scenario has
+-- the greatest number that a tree has where another one is true is the greatest time that a scenario of the graph has
 pub top_where : (g : Graph) → process_count g ≤ 128 → (t : TreeState (Option ℕ)) (u : TreeState Bool) → IsTree g t →
     IsTree g u → (o : Option ℕ) →
     IfNone o (IsNowhere t u) →
     IfSome o (IsMostWhere t u) → IsTop g (HasWhere t u) o
+-- scenarios of the graph have at most its faults; a number that is found is reached in one of them
 top_where g few t u of of_u None none some =
     λ time s law h. none s time (subst (λ n. HasAtMostFaults n s) (sym of.faults) (scenario_few g s law)) h
 top_where g few t u of of_u (Some most) none some =
@@ -47,8 +48,9 @@ top_where g few t u of of_u (Some most) none some =
 
 -- ---- one thing after another
 
+-- `A n s` and `B n s` say that scenario s has the number n, by one cause and by another
 module _ (g : Graph) (A B : ℕ → Scenario → Type 0) where
-  -- what raises a time raises it by another name of the same cause, too
+  -- two causes that ask for the same raise a time alike
   pub raised_as : ((n : ℕ) (s : Scenario) → IsScenario g s → B n s → A n s) →
       ((n : ℕ) (s : Scenario) → IsScenario g s → A n s → B n s) → (old new : ℕ) → IsRaised g A old new →
       IsRaised g B old new
@@ -58,11 +60,11 @@ module _ (g : Graph) (A B : ℕ → Scenario → Type 0) where
     found = elim r.found [ inl e ↦ inl e | inr h ↦ inr (h.0, h.1, forth new h.0 h.1 h.2) ];
   }
 
-  -- what no scenario has raises nothing
+  -- a cause that no scenario has raises nothing
   pub raised_by_none : ((n : ℕ) (s : Scenario) → A n s → ⊥) → (old : ℕ) → IsRaised g A old old
   raised_by_none none old = record { from = omega arith; above = λ n s law h. absurd (none n s h); found = inl refl }
 
-  -- what consists of two causes raises a time by the one and then by the other
+  -- a cause that is A or B raises a time as A does, and then B
   pub raised_on : (C : ℕ → Scenario → Type 0) → ((n : ℕ) (s : Scenario) → C n s → A n s ⊎ B n s) →
       ((n : ℕ) (s : Scenario) → A n s → C n s) →
       ((n : ℕ) (s : Scenario) → B n s → C n s) →
@@ -91,6 +93,7 @@ pub later_raised : (g : Graph) (tree : TreeState (Option ℕ)) (wanted : TreeSta
     (o : Option ℕ) →
     IsTop g (HasWhere tree wanted) o →
     IsRaised g (HasLater tree wanted delay) latest (or_later latest delay o)
+-- a delay keeps the order between times, so the greatest time with it is the greatest of the delayed ones
 later_raised g tree wanted latest delay None none =
     record { from = omega arith; above = λ n s law h. absurd (none h.time s law h.has); found = inl refl }
 later_raised g tree wanted latest delay (Some time) top = record {
@@ -125,6 +128,7 @@ later_raised g tree wanted latest delay (Some time) top = record {
 
 -- ---- conditions
 
+-- given: a node, a condition, the tree of where it counts, and two times
 module _ (g : Graph) (f : ForestState) (node c : ℕ) (wanted : TreeState Bool) (old new : ℕ) where
   -- by whether the condition's process is on the node: its ends without delay, or the frame's times and its length
   heard_if : (d : Bool) → (node_of g (process_of g c) == node) ≡ d →
@@ -155,7 +159,8 @@ module _ (g : Graph) (f : ForestState) (node c : ℕ) (wanted : TreeState Bool) 
 -- it
 module _ (g : Graph) (order : List ℕ) (guards : Guards) (f : ForestState) (active : TreeState Bool)
     (of_active : IsTree g active) (node from to : ℕ) where
-  -- the time is a condition's if one of them tests it and the process is active
+  -- Condition c raises the time to when it is heard where the process is active and a process of the span tests it;
+  -- `asked` says where that is.
   pub heard_raised : (c : ℕ) (asked wanted : TreeState Bool) → IsTree g asked → IsTree g wanted →
       IsAskedTree g order guards node from to c (process_count g) asked →
       IsBothTree g.faults asked active wanted →
@@ -191,6 +196,7 @@ module _ (g : Graph) (order : List ℕ) (guards : Guards) (f : ForestState) (act
       forth : (n : ℕ) (s : Scenario) → IsScenario g s →
           HasLater (heard_tree g f node c) wanted (heard_delay g node c) n s →
           HasHeard g order guards f active node from to c n s
+      -- where both trees are true, the guard of such a process tests c and the process in question is active
       forth n s law h =
           let few = scenario_few g s law in
           let x = the_path g.faults asked.paths of_asked.each s few in
@@ -247,6 +253,7 @@ module _ (g : Graph) (order : List ℕ) (guards : Guards) (f : ForestState) (act
 
 -- ---- the ends of the processes of a node
 
+-- given: a tree of where a process is active, and the span of processes before it
 module _ (g : Graph) (order : List ℕ) (f : ForestState) (active : TreeState Bool) (node from to : ℕ) where
   -- a process that is not between the two places raises nothing
   pub not_ended : (q latest : ℕ) → (IsBetween g order node from to q → ⊥) →
@@ -290,6 +297,7 @@ module _ (g : Graph) (order : List ℕ) (f : ForestState) (active : TreeState Bo
 
 -- ---- what stands before an item in the queue of its node
 
+-- given: an item that is sent, and the tree of where it goes
 module _ (g : Graph) (order : List ℕ) (f : ForestState) (goes : TreeState Bool) (x : ℕ) where
   -- an item that does not stand before this one raises nothing
   pub not_queued : (y latest : ℕ) → stands_before g order y x ≡ false →
@@ -297,7 +305,7 @@ module _ (g : Graph) (order : List ℕ) (f : ForestState) (goes : TreeState Bool
   not_queued y latest off = raised_by_none g (HasQueued g order f goes x y) (HasQueued g order f goes x y)
       (λ n s h. apart (sym h.before ∙ off)) latest
     where
-      -- what is excluded: an item that stands before x and doesn't
+      -- true isn't false
       apart : true ≡ false → ⊥
       apart e = cc
 
@@ -337,13 +345,14 @@ module _ (g : Graph) (order : List ℕ) (f : ForestState) (goes : TreeState Bool
 
 -- ---- inputs
 
+-- given: a tree of where a process is active
 module _ (g : Graph) (f : ForestState) (active : TreeState Bool) where
   -- an input of the node itself raises nothing
   pub not_raised : (e latest : ℕ) → is_message g e ≡ false → IsRaised g (HasInput g f active e) latest latest
   not_raised e latest off =
       raised_by_none g (HasInput g f active e) (HasInput g f active e) (λ n s h. apart (sym h.message ∙ off)) latest
     where
-      -- what is excluded: an input of the node that is a message
+      -- true isn't false
       apart : true ≡ false → ⊥
       apart i = cc
 
@@ -400,6 +409,7 @@ module _ (g : Graph) (f : ForestState) (active : TreeState Bool) where
     where
       -- an input among the first k + 1 is among the first k, or is e
       last_of : (d : ℕ) → Contains (take (k + 1) edges) d → Contains (take k edges) d ⊎ (d ≡ e)
+      -- the first k + 1 are the first k and the one at place k
       last_of d c =
           let is : take (k + 1) edges ≡ take k edges ++ get_or edges k 0 ∷ [] =
           ap (λ n. take n edges) (let e : k + 1 ≡ suc k = omega arith in e) ∙ take-suc edges k 0 inside in

@@ -1,5 +1,5 @@
--- The latest time of an item that is sent, by each thing that it waits for alone, is what it would have at most if it
--- weren't frozen.
+-- The latest time that is found for an item that is sent, by looking at each thing that it waits for alone, is the
+-- greatest unfrozen time that it would have in a run.
 use Rattle.std.proofs.Common.{ℕ, ◌+◌, ◌*◌, ◌^◌, ◌<◌, ◌≤◌, ◌≡◌, Bool, true, List, get_or, Option, Some, None, Contains}
 use Rattle.std.proofs.Common.{arith, lt-ltb, refl, sym, ap, ◌∙◌, subst, inl, inr, mul-le-mul_right}
 use Rattle.std.proofs.lemmas.Bool.{cases_lt, cond-true}
@@ -31,7 +31,7 @@ use Rattle.cpg_expand.proofs.FrozenFound.{some_same}
 
 -- ---- later times have later slots
 
--- in rounds that take no time, all slots are at the same time
+-- if a round takes no time, all slots are at the same time
 no_turn : (j k turn off : ℕ) → turn ≡ 0 → j * turn + off ≤ k * turn + off
 no_turn j k turn off e = subst (λ n. j * n + off ≤ k * n + off) (sym e) (omega arith)
 
@@ -49,20 +49,26 @@ next_slot_later g node first second l = elim (cases_lt 0 (round g)) [
       (let e : round g ≡ 0 = omega (arith, z) in e)
 ]
 
--- a send in one scenario with its run, by the values of the trees
+-- what the trees say of the send of x in scenario s, with its run t
 pub record IsSendByTrees (g : Graph) (order : List ℕ) (f : ForestState) (goes : TreeState Bool)
     (end : TreeState (Option ℕ)) (x : ℕ) (s : Scenario) (t : Times) : Type 0 where
+  -- `goes` says whether x is active
   pub acts : (c : Path Bool) → IsOnPath goes.paths s c → c.1 ≡ item_active g s.values (item_at g x)
+  -- `end` has the end of x's producer
   pub ends : (e : Path (Option ℕ)) → IsOnPath end.paths s e → e.1 ≡ get_or t.ends (producer g x) None
+  -- the producer ends where x is active
   pub ended : item_active g s.values (item_at g x) ≡ true →
       get_or t.ends (producer g x) None ≡ Some (end_in t (producer g x))
+  -- that is before 2 ^ 59, so a slot is looked for
   pub early : end_in t (producer g x) < 2 ^ 59
+  -- the unfrozen time is the greatest of what the send waits for
   pub value : unfrozen_time g order s t x ≡ greatest (send_bounds g order s t x)
-  -- what stands before it was sent at the time of its tree
+  -- each active item before x in the queue has a time in its tree, and x isn't sent before a round after it
   pub sent : (y : ℕ) → Contains (queued_before g order x) y → item_active g s.values (item_at g y) ≡ true →
       (time : ℕ) × HasValueAt (times_of g f y).paths (Some time) s ×
       (time_in t y + round g ≡ time_later (round g) (Some time)) × (y < item_count g) ×
       (stands_before g order y x ≡ true)
+  -- a round after any item that stands before x, by its tree, is no later than the greatest of these bounds
   pub came : (y time : ℕ) → y < item_count g → stands_before g order y x ≡ true →
       HasValueAt (times_of g f y).paths (Some time) s →
       time_later (round g) (Some time) ≤ greatest (send_bounds g order s t x)

@@ -1,5 +1,5 @@
--- The latest start of a process, by each thing that it waits for alone, is what it would have at most if it weren't
--- frozen.
+-- The latest start that is found for a process, by looking at each thing that it waits for alone, is the greatest
+-- unfrozen start that it would have in a run.
 use Rattle.std.proofs.Common.{ℕ, ◌+◌, ◌≤◌, ◌<◌, ◌≡◌, ◌⊎◌, Bool, true, false, List, [], ◌∷◌, ◌++◌, filter, flat_map}
 use Rattle.std.proofs.Common.{get_or, Option, Some, None, Contains, arith, refl, sym, ap, ◌∙◌, subst, inl, inr}
 use Rattle.cpg_base.specs.Numbers.{greatest}
@@ -28,55 +28,74 @@ use Rattle.cpg_expand.proofs.AgreeingTrees.{agrees_constant}
 use Rattle.cpg_expand.proofs.FrozenFound.{some_same}
 use Rattle.cpg_expand.proofs.UnfrozenStart.{release_in, inputs_in}
 
--- in a scenario a process of the node from a place on and before p ends at a time or later, by its tree
+-- In scenario s some process on p's node, at `from` or later and before p, ends at n or later, by its tree.
 pub record HasEndAt (g : Graph) (order : List ℕ) (f : ForestState) (from p : ℕ) (s : Scenario) (n : ℕ) : Type 0 where
+  -- the process
   pub process : ℕ
+  -- it is on p's node, at `from` or later, and before p
   pub between : IsBetween g order (node_of g p) from (place order p) process
+  -- its end by its tree, in this scenario
   pub time : ℕ
+  -- the tree has that end in this scenario
   pub has : HasValueAt (ends_of g f process).paths (Some time) s
+  -- n isn't later than that
   pub late : n ≤ time_later 0 (Some time)
 
--- the node hears a condition that one of these or p tests at the time of its tree
+-- In scenario s, with its run t, condition c is tested by a process of the span or by p, and p's node hears it at a
+-- time of its tree.
 pub record IsHeardAt (g : Graph) (order : List ℕ) (guards : Guards) (f : ForestState) (from p : ℕ) (s : Scenario)
     (t : Times) (c : ℕ) : Type 0 where
+  -- c is a condition of the graph
   pub below : c < condition_count g
+  -- the guard of such a process tests it
   pub asked : IsAskedOf g order guards (node_of g p) from (place order p + 1) c (process_count g) s.values
+  -- a time of the tree from which it follows when the node hears c
   pub time : ℕ
+  -- the tree has that time in this scenario
   pub has : HasValueAt (heard_tree g f (node_of g p) c).paths (Some time) s
+  -- the run's time of hearing is that of the tree, with its delay
   pub is : heard_there g t (node_of g p) c ≡ time_later (heard_delay g (node_of g p) c) (Some time)
 
--- a start in one scenario with its run, by the values of the trees
+-- what the trees say of the start of p in scenario s, with its run t
 pub record IsStartByTrees (g : Graph) (order : List ℕ) (guards : Guards) (f : ForestState) (chooser : TreeState Bool)
     (from p : ℕ) (s : Scenario) (t : Times) : Type 0 where
+  -- `chooser` says whether p is active
   pub acts : (x : Path Bool) → IsOnPath chooser.paths s x → x.1 ≡ active g s.values p
+  -- the unfrozen start is the greatest of what it waits for
   pub value : unfrozen_time g order s t p ≡ greatest (start_bounds g order s t p)
-  -- what stands before it on its node has ended once one from the place on has
+  -- no active process before p on its node ends later than one of the span does
   pub ends : (q : ℕ) → Contains (before_on_node g order p) q → active g s.values q ≡ true →
       HasEndAt g order f from p s (end_in t q)
+  -- no process of the span ends, by its tree, later than the start's bounds
   pub ended : (q time : ℕ) → IsBetween g order (node_of g p) from (place order p) q →
       HasValueAt (ends_of g f q).paths (Some time) s →
       time_later 0 (Some time) ≤ greatest (start_bounds g order s t p)
-  -- the node has heard what decides them once one from the place on has ended, or at the time of its tree
+  -- what decides p or one before it on the node is heard no later than one of the span ends, or it is tested in the
+  -- span and heard by its tree
   pub hears : (c : ℕ) → Contains (flat_map (deciding g s.values) (before_on_node g order p ++ p ∷ [])) c →
       HasEndAt g order f from p s (heard_there g t (node_of g p) c) ⊎
       IsHeardAt g order guards f from p s t c
+  -- a condition that is tested in the span or by p is heard, by its tree, no later than the start's bounds
   pub heard : (c time : ℕ) →
       IsAskedOf g order guards (node_of g p) from (place order p + 1) c (process_count g) s.values →
       HasValueAt (heard_tree g f (node_of g p) c).paths (Some time) s →
       time_later (heard_delay g (node_of g p) c) (Some time) ≤ greatest (start_bounds g order s t p)
-  -- the inputs from other nodes have their times exactly if they are live
+  -- a live input from another node has a time, and is there at the end of its frame
   pub comes : (e : ℕ) → Contains (inputs g p) e → is_message g e ≡ true → live g s.values e ≡ true →
       (time : ℕ) × (get_or t.times (message_item g e) None ≡ Some time) ×
       (input_there g t e ≡ time_later (input_delay g e) (Some time))
+  -- an input from another node that has a time is live
   pub lives : (e time : ℕ) → Contains (inputs g p) e → is_message g e ≡ true →
       get_or t.times (message_item g e) None ≡ Some time →
       live g s.values e ≡ true
+  -- the tree of an input from another node has its time
   pub has_value : (e : ℕ) → Contains (inputs g p) e → is_message g e ≡ true →
       (x : Path (Option ℕ)) × IsOnPath (input_tree g f e).paths s x × (x.1 ≡ get_or t.times (message_item g e) None)
+  -- on whatever path of that tree the scenario is
   pub valued : (e : ℕ) → Contains (inputs g p) e → is_message g e ≡ true → (x : Path (Option ℕ)) →
       IsOnPath (input_tree g f e).paths s x →
       x.1 ≡ get_or t.times (message_item g e) None
-  -- the inputs from the node itself are there once a process from the place on has ended
+  -- a live input of the node itself is there once a process of the span has ended
   pub own : (e : ℕ) → Contains (inputs g p) e → is_message g e ≡ false → live g s.values e ≡ true →
       HasEndAt g order f from p s (input_there g t e)
 
@@ -132,6 +151,7 @@ module _ (g : Graph) (order : List ℕ) (guards : Guards) (frozen : List (Option
 
       -- an end before the start is no later than the latest end found
       end_under : (n : ℕ) → HasEndAt g order f from p s n → n ≤ m
+      -- such an end is one of those that the latest end is the greatest of, and the later steps only raise it
       end_under n h = omega (
         arith,
         h.late,
@@ -153,6 +173,7 @@ module _ (g : Graph) (order : List ℕ) (guards : Guards) (frozen : List (Option
       heard_under : (c : ℕ) →
           HasEndAt g order f from p s (heard_there g t (node_of g p) c) ⊎ IsHeardAt g order guards f from p s t c →
           heard_there g t (node_of g p) c ≤ m
+      -- an end is under the latest end; a tree's time is one of those that the latest hearing is the greatest of
       heard_under c (inl h) = end_under (heard_there g t (node_of g p) c) h
       heard_under c (inr h) = omega (
         arith,
@@ -165,6 +186,7 @@ module _ (g : Graph) (order : List ℕ) (guards : Guards) (frozen : List (Option
       -- a live input is there no later, whether it is a message or of the node itself
       input_under : (e : ℕ) → Contains (inputs g p) e → live g s.values e ≡ true → (b : Bool) → is_message g e ≡ b →
           input_there g t e ≤ m
+      -- a message's time is one of those that the latest input is the greatest of; any other input is there by an end
       input_under e c lives true is =
           let k = here.comes e c is lives in
           let x = here.has_value e c is in

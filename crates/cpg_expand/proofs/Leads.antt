@@ -23,12 +23,12 @@ first_below : (n : ℕ) (es : List ℕ) → ((e : ℕ) → Contains es e → e <
 first_below n [] h = tt
 first_below n (e ∷ es) h = h e (Contains-first e es)
 
--- an activation without an edge is by none that isn't below n
+-- an activation that waits for all inputs, or is inactive, is by no edge, so by none that isn't below n
 all_below : (n : ℕ) (b : Bool) → IsByBelow n (if b then Plain else Inactive)
 all_below n true = tt
 all_below n false = tt
 
--- so is an activation by the live ones of some inputs below n, of a join or not
+-- an activation of inputs below n, of a join or not, is by an edge below n, if by one
 by_below : (n : ℕ) (join : Bool) (es : List ℕ) (live : ℕ → Bool) → ((e : ℕ) → Contains es e → e < n) →
     IsByBelow n (activation_by join es live)
 by_below n join [] live h = tt
@@ -46,8 +46,9 @@ activation_below g order topological o p l =
 
 -- ---- each leaf is come to
 
+-- `n` is the number of edges
 module _ (g : Graph) (order : List ℕ) (n : ℕ) where
-  -- two outcomes have the same values of the conditions of processes before a place
+  -- both outcomes have the same values of conditions whose processes stand before the place k
   abbrev SameBefore : ℕ → List Bool → List Bool → Type 0
   SameBefore k o other = (d : ℕ) → place order (process_of g d) < k → get_or other d false ≡ get_or o d false
 
@@ -56,10 +57,12 @@ module _ (g : Graph) (order : List ℕ) (n : ℕ) where
   LeadsFrom k guard o = (other : List Bool) → length other ≡ condition_count g → SameBefore k o other →
       IsByBelow n (outcome_at guard other)
 
-  -- if that is so for all outcomes, each leaf of the guard is by an edge below n
+  -- if that is so for an outcome, each leaf of the guard is by an edge below n, if by one
   leads_from : (k : ℕ) (guard : Guard) → IsOrderedFrom g order k guard → (o : List Bool) →
       length o ≡ condition_count g → LeadsFrom k guard o →
       LeadsBelow n guard
+  -- by induction on the guard: each side is taken for the outcome in which the tested condition has the value that
+  -- leads there
   leads_from k (Leaf a) ordered o long h = h o long (λ d l. refl)
   leads_from k (Test c off on) ordered o long h = (
     leads_from (place order (process_of g c) + 1) off ordered.2 (set o c false) (length-set o c false ∙ long)

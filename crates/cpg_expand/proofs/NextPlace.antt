@@ -1,4 +1,4 @@
--- What a node carries on, when it is ready and which frozen times are settled at the next place.
+-- From a place of the order to the next: what a node carries on, when it is ready, and which frozen times are settled.
 use Rattle.std.proofs.Common.{ℕ, ◌+◌, ◌<◌, ◌≤◌, ◌≡◌, ◌≢◌, ◌==◌, max, Bool, true, false, if◌then◌else◌, List, ◌++◌}
 use Rattle.std.proofs.Common.{length, filter, take, get_or, flat_map, Option, None, Contains, ◌⊎◌, arith, eq-eqb}
 use Rattle.std.proofs.Common.{refl, sym, ap, ◌∙◌, subst, inl, inr}
@@ -42,11 +42,11 @@ module _ (g : Graph) (order : List ℕ) (topological : IsTopological g order) (i
   stands : Contains order p
   stands = Contains-order (process_count g) order topological.all p l
 
-  -- its place is one of the order's
+  -- there is such a place in the order
   inside : i < length order
   inside = let k = place-lt order p stands in omega (arith, at, k)
 
-  -- it is the process there
+  -- p is the process at that place
   here : p ≡ get_or order i 0
   here = sym (get_or-place order p 0 stands) ∙ ap (λ n. get_or order n 0) at
 
@@ -56,7 +56,7 @@ module _ (g : Graph) (order : List ℕ) (topological : IsTopological g order) (i
       let r = Contains-filter_parts (λ (u : ℕ). node_of g u == node) (take i order) q j in
       Contains-filter (λ (u : ℕ). node_of g u == node) (take (i + 1) order) q r.1 (in_next order i q inside (inl r.0))
 
-  -- so is the process at the place itself, on its own node
+  -- the process at the place is before the next one, on its own node
   pub here_on : Contains (on_node g order (i + 1) (node_of g p)) p
   here_on = Contains-filter (λ (u : ℕ). node_of g u == node_of g p) (take (i + 1) order) p
       (eq-eqb (node_of g p) (node_of g p) refl) (in_next order i p inside (inr here))
@@ -65,6 +65,7 @@ module _ (g : Graph) (order : List ℕ) (topological : IsTopological g order) (i
   pub same_before : before_on_node g order p ≡ on_node g order i (node_of g p)
   same_before = ap (λ n. filter (λ q. node_of g q == node_of g p) (take n order)) at
 
+  -- given: rows, and a scenario
   module _ (rows : List (List Column)) (s : Scenario) where
     -- what p and those before it on its node pass on is what the node carries on at the next place
     then_on : (x : Literal) → Contains (flat_map (passed g rows s) (before_on_node g order p) ++ passed g rows s p) x →
@@ -77,16 +78,19 @@ module _ (g : Graph) (order : List ℕ) (topological : IsTopological g order) (i
           | inr k ↦ Contains-flat_map (passed g rows s) (on_node g order (i + 1) (node_of g p)) p x here_on k
         ]
 
+    -- given: the scenario's run under some frozen times
     module _ (frozen : List (Option ℕ)) (t : Times) (run : IsRun g order frozen s t) where
       -- ---- when nodes are ready
 
-      -- the node of the process, by when it was ready before and when it has heard what decides the process
+      -- p's node is ready at the next place: at p's end if p is active, and otherwise once it was ready before (r) and
+      -- has heard what decides p (h)
       pub ready_next : (r h : ℕ) → IsReady g order s t i (node_of g p) r →
           IsMost (λ c. (c < condition_count g) × (decides g s.values p c ≡ true)) (heard_there g t (node_of g p)) h →
           (active g s.values p ≡ true → max r h ≤ end_in t p) → (tree : TreeState ℕ) →
           HasValueFrom s (flat_map (passed g rows s) (before_on_node g order p) ++ passed g rows s p)
           (if active g s.values p then end_in t p else max r h) tree →
           IsReadyLine g order rows s t (i + 1) (node_of g p) tree
+      -- by whether p is active (`by`); its path says no more than what the processes up to p carry on
       ready_next r h ready heard ended tree has_value = record {
         time = v;
         is = by (active g s.values p) refl;
@@ -112,6 +116,7 @@ module _ (g : Graph) (order : List ℕ) (topological : IsTopological g order) (i
       pub ready_elsewhere : (node : ℕ) → node ≢ node_of g p → (tree : TreeState ℕ) →
           IsReadyLine g order rows s t i node tree →
           IsReadyLine g order rows s t (i + 1) node tree
+      -- p isn't on the node, so what is on it before both places is the same
       ready_elsewhere node other tree line = record {
         time = line.time;
         is = ready_other g order topological frozen s t run i p l at node line.time other line.is;
@@ -145,7 +150,7 @@ module _ (g : Graph) (order : List ℕ) (topological : IsTopological g order) (w
     low = settled.low;
   }
     where
-      -- the two values of a boolean differ
+      -- true isn't false
       apart : true ≡ false → ⊥
       apart e = cc
 

@@ -1,4 +1,4 @@
--- The trees of a guard's parts that are kept.
+-- The trees of a guard's parts that are kept on a descent: they stay at their places, are made, and fit their guards.
 use Rattle.std.proofs.Common.{ℕ, ◌≡◌, List, [], ◌∷◌, ◌++◌, get_or, arith, sym, ap, ◌∙◌, subst, rules}
 use Rattle.std.specs.List.{HoldsAt}
 use Rattle.std.proofs.lemmas.List.{length-append, get_or_append_left}
@@ -12,18 +12,21 @@ use Rattle.cpg_expand.specs.declared.descent.Source.{Source}
 use Rattle.cpg_expand.specs.declared.descent.Source.TheVariants.{At, Alone}
 use Rattle.cpg_expand.specs.declared.descent.KnownGuard.{KnownGuard}
 
--- a fact without content holds of all leaves
+-- a fact that holds of anything holds of all leaves
 pub any_leaves : (guard : Guard) → AreLeaves (λ a. Unit {0}) guard
+-- by induction on the guard
 any_leaves (Leaf a) = tt
 any_leaves (Test c off on) = (any_leaves off, any_leaves on)
 
--- the inputs that a guard leads to are below a number: said of its leaves, this is a fact of all of them
+-- if a guard leads to inputs below n, each of its leaves does
 pub leads_leaves : (n : ℕ) (guard : Guard) → LeadsBelow n guard → AreLeaves (λ a. IsByBelow n a) guard
+-- by induction on the guard
 leads_leaves n (Leaf a) h = h
 leads_leaves n (Test c off on) h = (leads_leaves n off h.0, leads_leaves n on h.1)
 
+-- `T` is the type of the trees' values
 module _ {T : Type 0} where
-  -- what one list keeps, and the next one in turn, the last one keeps
+  -- what a list keeps of the one before it, and a third list of that, the third keeps of the first
   pub kept_still : (old next new : List (KnownGuard T)) → AreKept old next → AreKept next new → AreKept old new
   kept_still old next new first second i g at = second i g (first i g at)
 
@@ -34,14 +37,15 @@ module _ {T : Type 0} where
     λ d. ap (λ (x : KnownGuard T). x.guard.now) (get_or_append_left old (k ∷ []) d i at.0) ∙ at.1 d,
   )
 
+  -- `made` says what holds of each tree, `fits` how a tree is related to its guard
   module _ (made : TreeState T → Type 0) (fits : Guard → TreeState T → Type 0) where
-    -- what is found is in the list, or stands alone
+    -- a source that is right for a guard is within the list, or a tree of its own
     pub found_there : (known : List (KnownGuard T)) (g : Guard) (found : Source T) → IsFound made fits known g found →
         IsThere known found
     found_there known g (At i) h = h.0
     found_there known g (Alone t) h = tt
 
-    -- what was found is still found if all trees before it are kept
+    -- a source stays right if the list keeps its guards at their places
     pub found_still : (old new : List (KnownGuard T)) (g : Guard) (found : Source T) → AreKept old new →
         IsFound made fits old g found →
         IsFound made fits new g found
@@ -59,7 +63,7 @@ module _ {T : Type 0} where
           subst (λ (h : Guard). fits h r) (at.1 d) (subst (fits (get_or known i d).guard.now) (sym (is d)) facts.1),
         )
 
-    -- the tree that is found is one of the guard
+    -- the tree of a source that is right for a guard is made and fits it
     pub found_has_value : (known : List (KnownGuard T)) (g : Guard) (found : Source T) (r : TreeState T) →
         AreKnown made fits known → IsFound made fits known g found →
         IsTreeOf known found r
@@ -78,6 +82,8 @@ module _ {T : Type 0} where
         AreKnown made fits old → made tree → fits g tree →
         IsAdded old new g tree found →
         AreKnown made fits new
+    -- by where it is put: a new place holds the tree, with a guard equal to the given one; kept alone, it changes no
+    -- place
     added_known old new g tree (At i) all m t h =
         subst (AreKnown made fits) (sym h.2)
         (All-append (λ (x : KnownGuard T). made x.tree × fits x.guard.now x.tree) old (h.1 ∷ []) all
@@ -92,10 +98,11 @@ module _ {T : Type 0} where
     added_kept old new g tree (Alone t) h =
         subst (λ (xs : List (KnownGuard T)). AreKept old xs) (sym h.0) (λ i g at. at)
 
-    -- the tree that is added is found
+    -- the source that a tree is added at is right for its guard
     pub added_found : (old new : List (KnownGuard T)) (g : Guard) (tree : TreeState T) (found : Source T) → made tree →
         fits g tree → IsAdded old new g tree found →
         IsFound made fits new g found
+    -- at a place, that is the new one behind the old ones; alone, it is the tree itself, which is made and fits
     added_found old new g tree (At i) m t h =
         subst (λ (xs : List (KnownGuard T)). IsAt xs i g) (sym h.2)
         (subst (λ (n : ℕ). IsAt (old ++ (h.1 ∷ [])) n g) (sym h.0) (
@@ -112,10 +119,10 @@ module _ {T : Type 0} where
       still = subst (λ (xs : List (KnownGuard T)). IsFound made fits xs g found) (sym is)
           (found_still first second g found kept h)
 
-      -- what was found before is still there, and its tree still fits the guard
+      -- the source is within the longer list
       pub still_there : IsThere slice found
       still_there = found_there slice g found still
 
-      -- what was found before is still there, and its tree still fits the guard
+      -- the tree that it names there is made and fits the guard
       pub still_has_value : AreKnown made fits second → (r : TreeState T) → IsTreeOf slice found r → made r × fits g r
       still_has_value all r of = found_has_value slice g found r (subst (AreKnown made fits) (sym is) all) still of

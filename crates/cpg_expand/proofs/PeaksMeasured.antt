@@ -1,4 +1,5 @@
--- The peaks of trees that give the ends of the runs are the greatest finish and the greatest excess.
+-- If the trees give the ends of all runs, the peak of the ends is the greatest finish, and the peak of the excesses
+-- the greatest excess.
 use Rattle.std.proofs.Common.{◌≡◌, ◌∙◌, ℕ, ◌-◌, ◌<◌, ◌≤◌, ◌⊎◌, false, nat_lt, List, map, length, get_or, All, Option}
 use Rattle.std.proofs.Common.{Some, None, unwrap_or, arith, sym, ap, subst, inl, inr, lt-ltb, le-ltb}
 use Rattle.std.proofs.lemmas.Option.{none-some, same_Some}
@@ -46,22 +47,28 @@ past_from (Some end) due x pos e =
 
 -- ---- a number of each run that is the greatest of numbers of its processes
 
+-- given: a topological order, and frozen times
 module _ (g : Graph) (order : List ℕ) (top : IsTopological g order) (frozen : List (Option ℕ)) where
-  -- the greatest if some process has one, and 0 at least
+  -- `most t` is the greatest of the values that processes have in run t, and 0 if none has one
   record IsMost (value : Times → ℕ → Option ℕ) (most : Times → ℕ) : Type 0 where
+    -- no process has a greater value
     pub above : (s : Scenario) (t : Times) → IsRun g order frozen s t → (q x : ℕ) → q < process_count g →
         value t q ≡ Some x → x ≤ most t
+    -- it is 0, or some process's
     pub either : (s : Scenario) (t : Times) → IsRun g order frozen s t →
         (most t ≡ 0) ⊎ ((q : ℕ) × (q < process_count g) × (value t q ≡ Some (most t)))
+    -- if some process has the same number in any run, some process of this run has it
     pub reached : (s : Scenario) (t u : Times) → IsRun g order frozen s t → (p : ℕ) → p < process_count g →
         value u p ≡ Some (most t) →
         (q : ℕ) × (q < process_count g) × (value t q ≡ Some (most t))
 
-  -- what the processes have in scenarios is what they have in the runs
+  -- what `has` says of a scenario is what `value` says of its run
   record AreValues (value : Times → ℕ → Option ℕ) (has : ℕ → ℕ → Scenario → Type 0) : Type 0 where
+    -- what a process has in a scenario is its value in the run
     pub into : (s : Scenario) (t : Times) → IsScenario g s → IsRun g order frozen s t → (q x : ℕ) →
         q < process_count g → has q x s →
         value t q ≡ Some x
+    -- and the other way
     pub from : (s : Scenario) (t : Times) → IsScenario g s → IsRun g order frozen s t → (q x : ℕ) →
         q < process_count g → value t q ≡ Some x → has q x s
 
@@ -145,6 +152,7 @@ module _ (g : Graph) (order : List ℕ) (top : IsTopological g order) (frozen : 
   -- the excess of a run is 0, or that of one of its processes
   past_either : (t : Times) →
       (excess_in_run g t ≡ 0) ⊎ ((q : ℕ) × (q < process_count g) × (past_of t q ≡ Some (excess_in_run g t)))
+  -- the excess is the greatest of a list, so it is 0 or in the list
   past_either t = elim (cases_lt 0 (excess_in_run g t)) [
     | inr z ↦ inl (omega (arith, z))
     | inl pos ↦ elim (greatest_cases (map (excess_of g t) (numbers_below (process_count g)))) [
@@ -179,6 +187,7 @@ module _ (g : Graph) (order : List ℕ) (top : IsTopological g order) (frozen : 
 
   -- ---- of trees
 
+  -- given: trees that give the ends of all runs
   module _ (trees : List (TreeState (Option ℕ))) (all : All (IsTree g) trees) (count : length trees ≡ process_count g)
       (support : GiveEnds g order frozen trees) where
     -- each process has a tree of its ends
@@ -194,7 +203,7 @@ module _ (g : Graph) (order : List ℕ) (top : IsTopological g order) (frozen : 
           (p.0, p.1, support s t law run q l p.0 p.1 ∙ e);
     }
 
-    -- so what they are past the dues is what the ends of the runs are past them
+    -- so how far these are past the dues is how far the runs' ends are
     past_values : AreValues past_of (EndsPast g trees)
     past_values = record {
       into = λ s t law run q x l h. ap (time_past (due g q)) (ends_values.into s t law run q h.0 l h.1) ∙ h.2;
@@ -203,11 +212,13 @@ module _ (g : Graph) (order : List ℕ) (top : IsTopological g order) (frozen : 
           (n.0, ends_values.from s t law run q n.0 l n.1, ap (time_past (due g q)) (sym n.1) ∙ e);
     }
 
+    -- given: an urgency order, and a peak
     module _ (urgency : List ℕ) (peak : Peak) where
       -- the process of the peak is the least one that ends at its time
       ends_by : (o : Option ℕ) → IsPeakBy g urgency (process_count g) (EndsAt g trees) peak o → (t : Times) →
           IsRun g order frozen peak.scenario t →
           IsLeastEnding g t peak.time o
+      -- without a peak there are no processes, as one of them would end at the finish
       ends_by None a t run = elim (cases_lt 0 (process_count g)) [
         | inl pos ↦
             let law : IsScenario g peak.scenario = subst (IsScenario g) (sym a.scenario) (zero_lawful g) in
@@ -226,6 +237,7 @@ module _ (g : Graph) (order : List ℕ) (top : IsTopological g order) (frozen : 
       past_by : (o : Option ℕ) → IsPeakBy g urgency (process_count g) (EndsPast g trees) peak o → (t : Times) →
           IsRun g order frozen peak.scenario t →
           IsLeastExceeding g t peak.time o
+      -- an excess above 0 is how far an end is past its due
       past_by None a t run = a.time
       past_by (Some p) a t run =
           let law = a.least.lawful in

@@ -1,4 +1,4 @@
--- The tree of when a node goes on after a process agrees with what the node carries on.
+-- The tree of when a node goes on after a process says no more than what the node carries on.
 use Rattle.std.proofs.Common.{ℕ, ◌≡◌, Bool, true, false, if◌then◌else◌, List, ◌++◌, flat_map, get_or, Option, None}
 use Rattle.std.proofs.Common.{Contains, arith, refl, sym, ap, ◌∙◌, subst, inl, inr}
 use Rattle.std.proofs.lemmas.List.Elements.{Contains-append_cases, Contains-append_left, Contains-append_right}
@@ -43,7 +43,7 @@ module _ (g : Graph) (order : List ℕ) (topological : IsTopological g order) (r
   abbrev then_says : List Literal
   then_says = flat_map (passed g rows s) (before_on_node g order p) ++ passed g rows s p
 
-  -- the line of the time from which a node goes on after a process
+  -- the tree gives the time from which on the node goes on, by what it carries on
   pub ready_line : (chooser : TreeState Bool) (end : TreeState (Option ℕ)) (wait tree : TreeState ℕ) (waited : ℕ) →
       IsActiveTree g.faults guard chooser →
       IsReadyTree g.faults chooser end wait tree →
@@ -67,7 +67,7 @@ module _ (g : Graph) (order : List ℕ) (topological : IsTopological g order) (r
       chosen = subst (λ (a : Activation). HasValueFrom s (values_known s (way guard s.values)) (is_active a) chooser)
           leads (actives s few)
 
-      -- if p is active, its end decides
+      -- if p is active, its end decides; ends are small, so `time_later` gives them exactly
       by_end : active g s.values p ≡ true →
           HasValueFrom s second (get_or t.ends p None) end × (v ≡ time_later 0 (get_or t.ends p None))
       by_end e = (
@@ -85,7 +85,7 @@ module _ (g : Graph) (order : List ℕ) (topological : IsTopological g order) (r
         ap (λ (b : Bool). if b then end_in t p else waited) e,
       )
 
-      -- both are carried on by the node
+      -- the literals of the end and those of the wait are carried on by the node
       of_second : (b : Bool) → active g s.values p ≡ b → (x : Literal) →
           Contains (if b then carried_at_end g order rows s p else wait_says) x →
           Contains then_says x

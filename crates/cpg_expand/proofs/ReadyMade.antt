@@ -1,4 +1,5 @@
--- When a node goes on after a frozen process, as the code finds it.
+-- When a node goes on after a frozen process, as the code finds it; and what the loops that look for a waiting process
+-- or item show.
 use Rattle.std.proofs.Common.{ℕ, ◌+◌, ◌<◌, ◌≡◌, ◌==◌, ◌&&◌, ◌≤◌, nat_le, nat_lt, not, Bool, true, false, List, Option}
 use Rattle.std.proofs.Common.{arith, eq-eqb, lt-ltb, inl, inr, sym, ap, ◌∙◌, subst}
 use Rattle.std.proofs.lemmas.Bool.{and_from, and_parts, cases_lt, eqb-true, le-leb, leb-true, not-true}
@@ -21,7 +22,7 @@ none_has_value : {T : Type 0} (k : ℕ) (s : Scenario) (literals : List Literal)
 none_has_value k s literals fact =
     record { value = λ x on. absurd (Contains-nil x on.stands); says = λ x on. absurd (Contains-nil x on.stands) }
 
--- if the process is active everywhere, nothing is asked of what it waited for
+-- if the process is active everywhere, its node is ready at its ends, whatever it waited for
 pub ready_everywhere : (g : Graph) (f : ForestState) (node : ℕ) (guard : Guard) (active : TreeState Bool)
     (end : TreeState (Option ℕ)) →
     IsConstant true active.faults active →
@@ -44,7 +45,7 @@ none_waits g order node at k b before is off q below there behind thawed = elim 
   | inr more ↦ by (let e : q ≡ k = omega (arith, below, more) in e)
 ]
   where
-    -- what is excluded: a process that waits and doesn't
+    -- true isn't false
     apart : true ≡ false → ⊥
     apart e = cc
 
@@ -68,7 +69,7 @@ none_goes_by g order node at k b before is off y below sent there behind thawed 
   | inr more ↦ by (let e : y ≡ k = omega (arith, below, more) in e)
 ]
   where
-    -- what is excluded: an item that waits and doesn't
+    -- true isn't false
     apart : true ≡ false → ⊥
     apart e = cc
 
@@ -83,10 +84,11 @@ none_goes_by g order node at k b before is off y below sent there behind thawed 
         (le-leb at (place order (producer g k)) (subst (λ n. at ≤ place order (producer g n)) e behind)))) ∙ sym is
         ∙ off)
 
--- an item that waits for free slots makes the answer true
+-- if the test of item y is true, some item waits for the node's slots
 pub one_goes_by : (g : Graph) (order : List ℕ) (node at y : ℕ) (b : Bool) → y < item_count g →
     b ≡ ((is_sent g y && not (is_frozen g y)) && ((home g y == node) && nat_le at (place order (producer g y)))) →
     b ≡ true → IsQueuedFor g order at node
+-- part by part: the item is sent and isn't frozen, its node is this one, and its producer stands at the place or later
 one_goes_by g order node at y b within is on =
     let both = and_parts (is_sent g y && not (is_frozen g y))
     ((home g y == node) && nat_le at (place order (producer g y))) (sym is ∙ on) in

@@ -1,4 +1,4 @@
--- Rows that are built can be written, and the tables of them are what a builder answers.
+-- Rows that are built can be written, and their tables are what a builder answers.
 use Rattle.std.proofs.Common.{ℕ, ◌≡◌, ◌∙◌, List, length, sym, ap, subst}
 use Rattle.std.proofs.lemmas.List.{length-map}
 use Rattle.std.proofs.lemmas.List.FromFn.{length-range_with_len}
@@ -38,13 +38,14 @@ module _ (g : Graph) (urgency : List ℕ) (guards : Guards) (a : IsAdmitted g ur
   count = sym (length-map r.rows.items (λ (row : Row). row.item)) ∙ ap length are.found.items
       ∙ length-range_with_len 0 (item_count g)
 
+  -- given: tables with these rows
   module _ (t : Tables) (written : AreTablesWith g r.rows.items t) where
     -- the tables of rows that are built are what a builder answers
     pub built_tables : IsBuiltFor g urgency order (built_of r t)
     built_tables = found_tables_are_built g urgency order r.rows.items (built_of r t) a.limits admitted
         (record { found = are.found; written = written; worst = are.worst; excess = are.excess })
 
-    -- the tables fit
+    -- the tables are within the limits of columns
     pub built_fit : DoTablesFit g t.nodes
     built_fit = tables_fit g r.rows.items t count are.fit written
 

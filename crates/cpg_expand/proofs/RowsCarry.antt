@@ -84,7 +84,7 @@ module _ (g : Graph) (few : process_count g ≤ 128) (urgency : List ℕ)
         agrees : Agrees s (carried g order rows s x) (λ time. time ≡ get_or run.times x None) t
         agrees = tree s run law ran
 
-        -- no time in the run: no column matches; one time: the column of the scenario's path matches, and no other
+        -- no time in the run: no column matches; a time: the column of the scenario's path matches, and no other
         by_time : (o : Option ℕ) → get_or run.times x None ≡ o → times_in columns s ≡ option_to_list o
         by_time None e = ap (map (λ (c : Column). c.time))
             (filter_none (λ (c : Column). matches c.cube s) columns (λ c j. false_from_ne_true (matches c.cube s) (λ m.
@@ -93,7 +93,7 @@ module _ (g : Graph) (few : process_count g ≤ 128) (urgency : List ℕ)
             (record { stands = p.1; matched = subst (λ (ls : List Literal). matches ls s ≡ true) (sym p.3) m })
             ∙ e))))
           where
-            -- what is excluded: a time that is none
+            -- some time isn't none
             some_none : (n : ℕ) → Some n ≡ None → ⊥
             some_none n e = cc
         by_time (Some n) e =
@@ -119,6 +119,7 @@ module _ (g : Graph) (few : process_count g ≤ 128) (urgency : List ℕ)
     -- if the columns stand by their least scenarios, the row of a send carries what it has to
     pub tree_row_carries : AreByLows (λ (c : Column). c.cube) g urgency columns → row_at rows x ≡ columns →
         IsCarryingRow g urgency order frozen rows x
+    -- the row is the columns, so each field is a fact of these
     tree_row_carries by_lows is = record {
       times = λ s run law ran. subst (λ (cs : List Column). times_in cs s ≡ option_to_list (get_or run.times x None))
           (sym is) (times s run law ran);
@@ -137,6 +138,8 @@ module _ (g : Graph) (few : process_count g ≤ 128) (urgency : List ℕ)
 
     -- the merged columns of a start are a row that carries what it has to
     pub merged_row_carries : IsMergeOf g urgency columns (row_at rows x) → IsCarryingRow g urgency order frozen rows x
+    -- a merged column that matches goes back to a column of the tree with the same time, and is at least as wide as
+    -- that
     merged_row_carries merge = record {
       times = λ s run law ran. merge.times s law ∙ times s run law ran;
       carries = λ s c law j m.

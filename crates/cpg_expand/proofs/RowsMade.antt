@@ -1,4 +1,4 @@
--- Rows of items one after another.
+-- The rows of the items, made one after another.
 use Rattle.std.proofs.Common.{ℕ, ◌+◌, ◌≡◌, List, [], ◌∷◌, ◌++◌, length, get_or, drop, zero, suc, Option, arith, sym, ap}
 use Rattle.std.proofs.Common.{ap₂, ◌∙◌, subst, inl, inr, length-append}
 use Rattle.std.proofs.lemmas.Bool.{cases_lt}
@@ -16,6 +16,7 @@ pub rows_more : (g : Graph) (urgency : List ℕ) (times : List (TreeState (Optio
     AreFirstRows g urgency times n rows →
     IsRowOf g urgency (get_or times n (no_tree g.faults)) n row →
     more ≡ rows ++ row ∷ [] → AreFirstRows g urgency times (n + 1) more
+-- an item before n keeps its row, and item n has the new one
 rows_more g urgency times n rows more row a new is = record {
   count = ap length is ∙ length-append rows (row ∷ []) ∙ ap (λ m. m + 1) a.count;
   each = λ x d l. elim (cases_lt x n) [

@@ -1,4 +1,5 @@
--- The trees of a send and of when the slots are free then agree with what is carried beside them.
+-- The tree of a send says no more than what is carried beside it, and the tree of when slots are free then no more
+-- than what is left to later items.
 use Rattle.std.proofs.Common.{ℕ, ◌≡◌, ◌&&◌, not, Bool, true, false, if◌then◌else◌, List, [], ◌∷◌, ◌++◌, flat_map}
 use Rattle.std.proofs.Common.{Option, None, Contains, ◌⊎◌, refl, sym, ap, ap₂, subst, inl, inr}
 use Rattle.std.proofs.lemmas.List.Elements.{Contains-append_cases, Contains-append_left, Contains-append_right}
@@ -21,6 +22,7 @@ use Rattle.cpg_tree_times.specs.Values.{slot_from}
 use Rattle.cpg_tree.specs.Later.{time_later}
 use Rattle.cpg_expand.proofs.AgreeingTrees.{agrees_weaker}
 
+-- given: an order, rows, and a scenario within the graph's faults
 module _ (g : Graph) (order : List ℕ) (rows : List (List Column)) (s : Scenario)
     (few : HasAtMostFaults g.faults s) where
   -- what decides a process is carried beside its end
@@ -51,15 +53,15 @@ module _ (g : Graph) (order : List ℕ) (rows : List (List Column)) (s : Scenari
       (of_goes : HasValueFrom s says (item_active g s.values (item_at g x)) goes)
       (at_most : (l : Literal) → Contains says l → Contains (decided g s (producer g x)) l ⊎
       ((active g s.values (producer g x) ≡ true) × Contains (sent_by_value g s x) l)) where
-    -- what is queued before x carries
+    -- what the items before x in the queue leave to it
     abbrev before_it : List Literal
     before_it = flat_map (queued g order rows s) (queued_before g order x)
 
-    -- what x carries beside its send, if it isn't frozen and but for what its producer's value says
+    -- what x carries if it isn't frozen, apart from the value by which it is sent
     abbrev unfrozen_says : List Literal
     unfrozen_says = before_it ++ carried_at_end g order rows s (producer g x)
 
-    -- these literals and that value's are carried by an item that isn't frozen
+    -- an item that isn't frozen carries these literals and that value's
     thawed_says : is_frozen g x ≡ false → (l : Literal) → Contains (unfrozen_says ++ sent_by_value g s x) l →
         Contains (carried_at_send g order rows s x) l
     thawed_says e l j = subst (λ (f : Bool).

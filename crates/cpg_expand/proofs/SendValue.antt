@@ -1,4 +1,4 @@
--- The time of what a process sends, if it isn't frozen, is the run's.
+-- The time that the trees give an item that isn't frozen is its time in the run.
 use Rattle.std.proofs.Common.{ℕ, ◌^◌, ◌<◌, ◌≡◌, max, Bool, true, false, if◌then◌else◌, List, length, get_or, Option}
 use Rattle.std.proofs.Common.{Some, None, unwrap_or, arith, lt-ltb, refl, sym, ap, ◌∙◌}
 use Rattle.std.proofs.lemmas.Bool.{cond-true, cond-false}
@@ -18,7 +18,7 @@ use Rattle.cpg_run.proofs.Runs.{time_is, has_time, has_end}
 use Rattle.cpg_run.proofs.Sends.{send_is, here_sent}
 use Rattle.cpg_tree_times.specs.Values.{slot_from}
 
--- if an end is there, the first free slot is the next one after it, or the free one if that is later
+-- if there is an end below 2 ^ 59, the first free slot is the first one from it on, or `free` if that is later
 slot_after : (share : ShareState) (free end : ℕ) (o : Option ℕ) → o ≡ Some end → end < 2 ^ 59 →
     slot_from share free o ≡ Some (max (next_of share end) free)
 slot_after share free end o is early =
@@ -36,7 +36,8 @@ module _ (g : Graph) (order : List ℕ) (topological : IsTopological g order) (s
   abbrev here : ℕ
   here = get_or (queue_of g p) k 0
 
-  -- a slot after the producer's end, and a later one than what the node has sent before
+  -- if the item is active, its time is the later of the first slot from its producer's end on and of when slots are
+  -- free
   slot_is : item_active g s.values (item_at g here) ≡ true →
       max (next_slot g (node_of g p) (end_in t p)) free ≡ time_in t here
   slot_is acts =

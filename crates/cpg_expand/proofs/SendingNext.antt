@@ -1,4 +1,4 @@
--- One item after another is sent, until the process has sent all that it sends.
+-- One item after another is added, until the whole queue of the process is sent.
 use Rattle.std.proofs.Common.{ℕ, ◌+◌, suc, ◌<◌, ◌≡◌, ◌≢◌, ◌&&◌, ◌==◌, nat_lt, Bool, true, false, List, [], ◌∷◌, ◌++◌}
 use Rattle.std.proofs.Common.{length, filter, take, get_or, Option, Some, None, unwrap_or, Contains, ◌⊎◌, arith}
 use Rattle.std.proofs.Common.{⊎_elim, lt-ltb, ltb-true, refl, sym, ap, ◌∙◌, subst, inl, inr}
@@ -114,7 +114,7 @@ module _ (g : Graph) (limits : IsWithinLimits g) (order : List ℕ) (topological
     abbrev here : ℕ
     here = get_or (queue_of g p) k 0
 
-    -- it is in the queue of p's items
+    -- it is in p's queue
     in_here : Contains (queue_of g p) here
     in_here = here_sent g order topological (record { faults = []; values = [] }) p l k inside
 
@@ -153,7 +153,7 @@ module _ (g : Graph) (limits : IsWithinLimits g) (order : List ℕ) (topological
     grows y (inr (inl e)) = inr (inl e)
     grows y (inr (inr c)) = inr (inr (in_next (queue_of g p) k y inside (inl c)))
 
-    -- with it, it is done itself
+    -- then it is done itself
     one_more : IsDone g order p (k + 1) here
     one_more = inr (inr (in_next (queue_of g p) k here inside (inr refl)))
 
@@ -168,7 +168,7 @@ module _ (g : Graph) (limits : IsWithinLimits g) (order : List ℕ) (topological
           | inr i ↦ elim (Contains-cases here [] y i) [ inl e ↦ inr (sym e) | inr j ↦ absurd (Contains-nil y j) ]
         ]
 
-    -- so what is done with it was done before, or is it
+    -- so what is done then was done before, or is this item
     only : (y : ℕ) → IsDone g order p (k + 1) y → IsDone g order p k y ⊎ (y ≡ here)
     only y (inl e) = inl (inl e)
     only y (inr (inl e)) = inl (inr (inl e))
@@ -178,7 +178,7 @@ module _ (g : Graph) (limits : IsWithinLimits g) (order : List ℕ) (topological
     acts : (s : Scenario) → item_active g s.values (item_at g here) ≡ true → active g s.values p ≡ true
     acts s on = ap (active g s.values) (sym by_p) ∙ producer_active g s.values (item_at g here) on
 
-    -- p's end ranks before the next place
+    -- p stands before the next place
     p_ends : place order p < place order p + 1
     p_ends = omega arith
 
@@ -188,6 +188,7 @@ module _ (g : Graph) (limits : IsWithinLimits g) (order : List ℕ) (topological
 
     -- what stands before it is done
     done_before : (y : ℕ) → Contains (queued_before g order here) y → IsDone g order p k y
+    -- it is sent for a process before p, or is one of the first k of p's queue
     done_before y c =
         elim (Contains-append_cases (sent_before g order (place order p) (node_of g p)) (take k (queue_of g p)) y
         (queued_so_far g order topological (record { faults = []; values = [] }) p l k inside y c)) [
@@ -217,6 +218,7 @@ module _ (g : Graph) (limits : IsWithinLimits g) (order : List ℕ) (topological
     -- the other way: an item that stands before it is queued before it
     from_places : (y : ℕ) → y < item_count g → stands_before g order y here ≡ true →
         Contains (queued_before g order here) y
+    -- its producer has an earlier place, or the same one and it has a lesser rank
     from_places y h is =
         let b = and_parts (is_sent g y && (home g y == home g here)) _ is in
         queued_from g order topological here y h (and_from (is_sent g y && (home g y == home g here)) _ b.0 (⊎_elim
@@ -227,7 +229,7 @@ module _ (g : Graph) (limits : IsWithinLimits g) (order : List ℕ) (topological
         (λ e. or_right _ _ e)
         (or_cases _ _ b.1)))
 
-    -- what the trees say of it
+    -- in each run under the frozen times so far, the trees say what the send waits for
     valued_send : (s : Scenario) → IsScenario g s → (t : Times) → IsRun g order before s t →
         IsSendByTrees g order old added.goes (ends_of g old (producer g here)) here s t
     valued_send s law t run =
@@ -399,7 +401,7 @@ module _ (g : Graph) (limits : IsWithinLimits g) (order : List ℕ) (topological
         not_both : true ≡ false → ⊥
         not_both e = cc
 
-    -- one more item is sent
+    -- with the item added, the first k + 1 items are sent
     pub next_sent : IsSending g order p (k + 1) after new
     next_sent = record {
       trees = trees;
@@ -408,12 +410,13 @@ module _ (g : Graph) (limits : IsWithinLimits g) (order : List ℕ) (topological
       lines = λ rows hold s law t run. send_lines rows hold s law t run;
     }
 
-  -- all items that are left are sent
+  -- with all items added that are left, the whole queue is sent
   rest_sent : (xs : List ℕ) (k : ℕ) → k + length xs ≡ length (queue_of g p) →
       ((i : ℕ) → i < length xs → get_or xs i 0 ≡ get_or (queue_of g p) (k + i) 0) →
       (old new : ForestState) (before after : List (Option ℕ)) →
       IsSending g order p k before old → AreItemsAdded g order chooser xs old new before after →
       IsSending g order p (length (queue_of g p)) after new
+  -- by induction on the list
   rest_sent [] k count is old new before after sending none =
       -- all that the process sends is sent
       let all : k ≡ length (queue_of g p) = omega (arith, count) in

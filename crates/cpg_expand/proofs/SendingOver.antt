@@ -1,4 +1,4 @@
--- What is done when a process sends an item rests only on the frozen times of what is done.
+-- Whether the trees give the run of what is done rests only on the frozen times of what is done.
 use Rattle.std.proofs.Common.{ℕ, ◌+◌, ◌*◌, ◌<◌, ◌≤◌, ◌≡◌, ◌==◌, true, if◌then◌else◌, List, length, take, get_or}
 use Rattle.std.proofs.Common.{Contains, Option, unwrap_or, ◌⊎◌, arith, sym, ap, ap₂, ◌∙◌, subst, inl, inr}
 use Rattle.std.proofs.lemmas.Bool.{cases_lt}
@@ -37,18 +37,20 @@ module _ (g : Graph) (order : List ℕ) (topological : IsTopological g order) (p
   abbrev here : ℕ
   here = get_or (queue_of g p) k 0
 
-  -- it is in the queue of p's items
+  -- it is in p's queue
   in_here : Contains (queue_of g p) here
   in_here = Contains-get_or (queue_of g p) k 0 inside
 
-  -- what is sent comes after the end of its process, by rank
+  -- the moment of an item that p sends, by its rank
   moment_of_sent : (x : ℕ) → Contains (queue_of g p) x →
       moment g order x ≡ place order p * phases g + (rank_of_item (item_at g x) + 2)
   moment_of_sent x c = let q = in_queue g p x c in
       ap₂ (λ r f. place order r * phases g + f) q.by (phase_is_rank g (item_at g x) q.sent)
 
-  -- what is done comes before the item
+  -- what is done has an earlier moment than the item
   pub done_sooner : (x : ℕ) → x < item_count g → IsDone g order p k x → moment g order x < moment g order here
+  -- a process before p has earlier moments, p's start comes before its sends, and an earlier item of its queue has a
+  -- lesser rank
   done_sooner x h (inl e) =
       let at = moment_of_sent here in_here in
       let less : moment g order x < place order p * phases g =
@@ -65,7 +67,7 @@ module _ (g : Graph) (order : List ℕ) (topological : IsTopological g order) (p
       below_first (rank_at g) (queue_of g p) (queue_rises g p) k inside x c in
       omega (arith, at, own, less)
 
-  -- given: two times of a scenario that agree before the item
+  -- given: the times of two runs that agree before the item's moment
   module _ (s : Scenario) (t u : Times) (a : AgreeBefore g order t u (moment g order here)) where
     -- the times agree up to p's place, which ranks before the item
     before_place : AgreeBefore g order t u (place order p * phases g)
@@ -74,6 +76,7 @@ module _ (g : Graph) (order : List ℕ) (topological : IsTopological g order) (p
 
     -- the end of p, or of a process before it, ranks before the item
     end_before : (q : ℕ) → place order q < place order p + 1 → moment_of_end g order q < moment g order here
+    -- an earlier process ends before p's first moment, and p before its first send
     end_before q less =
         let at = moment_of_sent here in_here in
         elim (cases_lt (place order q) (place order p)) [
@@ -92,6 +95,7 @@ module _ (g : Graph) (order : List ℕ) (topological : IsTopological g order) (p
     heard_over : (node q c : ℕ) → place order q < place order p + 1 → c < condition_count g →
         decides g s.values q c ≡ true →
         heard_there g t node c ≡ heard_there g u node c
+    -- its process stands before p, so its end and its broadcast are the same in both runs
     heard_over node q c less k d =
         let e = decides_earlier g order topological s.values q c k d in
         let up : place order (process_of g c) < place order p = omega (arith, e, less) in
@@ -130,6 +134,7 @@ module _ (g : Graph) (order : List ℕ) (topological : IsTopological g order) (p
     -- the lines of one run are those of another that agrees before the item
     pub send_lines_over : (rows : List (List Column)) (f : ForestState) → SendLines g order rows s t p k f →
         SendLines g order rows s u p k f
+    -- line by line: what comes before the item has the same times in both runs
     send_lines_over rows f lines = record {
       times = λ x h done. subst (λ (o : Option ℕ). HasValueFrom s (carried g order rows s x) o (times_of g f x))
           (a.items x h (done_sooner x h done)) (lines.times x h done);

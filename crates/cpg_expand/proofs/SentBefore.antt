@@ -1,4 +1,4 @@
--- What stands before an item in its node's queue is what the node has sent so far.
+-- The items before an item in its node's queue are those that the node has sent so far.
 use Rattle.std.proofs.Common.{ℕ, ◌+◌, ◌<◌, ◌≡◌, ◌&&◌, ◌==◌, ltb, true, List, ◌++◌, length, flat_map, take, get_or}
 use Rattle.std.proofs.Common.{Contains, ⊎_elim, arith, eq-eqb, eqb-true, lt-ltb, ltb-true, refl, sym, ap, ◌∙◌, inl}
 use Rattle.std.proofs.Common.{inr}
@@ -35,7 +35,7 @@ module _ (g : Graph) (order : List ℕ) (topological : IsTopological g order) (s
   abbrev here : ℕ
   here = get_or (queue_of g p) k 0
 
-  -- it is in the queue of p's items
+  -- it is in p's queue
   in_here : Contains (queue_of g p) here
   in_here = here_sent g order topological s p l k inside
 
@@ -98,6 +98,7 @@ module _ (g : Graph) (order : List ℕ) (topological : IsTopological g order) (s
       (queue-Contains g p y m d.0 (eqb-true _ _ w.0 ∙ x.by)) (ltb-true _ _ w.1)))
       (or_cases _ _ b.1)
 
+  -- given: rows
   module _ (rows : List (List Column)) where
     -- all that some items leave to those behind them
     abbrev support_all : List ℕ → List Literal
@@ -138,6 +139,7 @@ module _ (g : Graph) (order : List ℕ) (topological : IsTopological g order) (s
         -- what stands before the item, and the item itself, are all that is sent by then
         within : (m : Literal) → Contains (support_all (queued_before g order here) ++ queued g order rows s here) m →
             Contains (support_all (sent_so_far g order p (k + 1))) m
+        -- a literal is left by what stands before the item, or by the item itself
         within m j =
             elim (Contains-append_cases (support_all (queued_before g order here)) (queued g order rows s here) m j) [
               | inl i ↦ let r = Contains-flat_map_parts (queued g order rows s) (queued_before g order here) m i in

@@ -59,7 +59,7 @@ module _ (g : Graph) (limits : IsWithinLimits g) (order : List ℕ) (topological
   abbrev here : ℕ
   here = get_or (queue_of g p) k 0
 
-  -- it is in the queue of p's items
+  -- it is in p's queue
   in_here : Contains (queue_of g p) here
   in_here = here_sent g order topological s p l k inside
 
@@ -151,6 +151,7 @@ module _ (g : Graph) (limits : IsWithinLimits g) (order : List ℕ) (topological
         IsSentTree g.faults (share_of g (home g here)) added.goes (ends_of g old (producer g here))
         (free_of g old (home g here)) added.sent →
         HasValueFrom s (carried_at_send g order rows s here) (get_or t.times here None) added.sent
+    -- `send_value` says that the item's time is its first free slot, and `send_line` that the tree gives that slot
     of_thawed o thawed kept slots =
         let share = ap (λ q. share_of g (node_of g q)) by in
         let value = ap (λ h. if item_active g s.values (item_at g here) then slot_from h o.time (get_or t.ends p None)
@@ -162,12 +163,12 @@ module _ (g : Graph) (limits : IsWithinLimits g) (order : List ℕ) (topological
         (ends_of g old (producer g here)) (free_of g old (home g here)) added.sent
         (get_or t.ends p None) o.time slots ends_valued (waits o))
 
-    -- if it goes, this run is one by which a frozen item has to be judged
+    -- if it goes, it would have its unfrozen time in this run
     would : item_active g s.values (item_at g here) ≡ true →
         WouldHave g order frozen here (unfrozen_time g order s t here)
     would on = record { scenario = s; lawful = law; times = t; run = run; active = on; has = refl }
 
-    -- the frozen time is the run's
+    -- if it is frozen, its frozen time where it goes, and none elsewhere, is its time in the run
     frozen_time : is_frozen g here ≡ true → (latest : Option ℕ) → get_or frozen here None ≡ latest →
         (if item_active g s.values (item_at g here) then Some (unwrap_or latest 0) else None) ≡ get_or t.times here None
     frozen_time e (Some time) is = frozen_send_value g order frozen s t run here within time is
@@ -215,7 +216,7 @@ module _ (g : Graph) (limits : IsWithinLimits g) (order : List ℕ) (topological
 
     -- ---- when the slots are free then
 
-    -- and the new tree of free slots at p's node
+    -- the new forest has the new tree of free slots at p's node
     free_is : free_of g new (node_of g p) ≡ added.freed
     free_is = ap (λ (f : ForestState). free_of g f (node_of g p)) added.is
         ∙ ap (λ n. get_or (set old.free n added.freed) (node_of g p) (no_tree g.faults)) (ap (node_of g) by)

@@ -1,4 +1,5 @@
--- The trees of sends, as the code finds them.
+-- The trees of sends that the code makes are those that the specs ask for: found for one name of a tree, they are
+-- found for an equal one too, and item after item they add up to a list of items.
 use Rattle.std.proofs.Common.{ℕ, ◌+◌, suc, ◌<◌, ◌≡◌, Bool, List, [], ◌∷◌, ◌++◌, length, get_or, set, take, Option}
 use Rattle.std.proofs.Common.{arith, inl, inr, refl, sym, ap, ◌∙◌, subst}
 use Rattle.std.proofs.Math.Seq.{take-suc}
@@ -16,7 +17,8 @@ use Rattle.cpg_expand.specs.Waited.{IsQueuedFor}
 use Rattle.cpg_expand.specs.Waiting.{free_of}
 use Rattle.cpg_expand.proofs.FrozenFound.{set_count}
 
--- a tree of slots that is found for some share and trees is one for equal ones
+-- a tree of sends that is one for a number of faults, a share, and trees of ends and free slots is one for equal ones
+-- too
 pub slots_read : (k m : ℕ) (share here : ShareState) (goes : TreeState Bool) (end of_end : TreeState (Option ℕ))
     (free of_free : TreeState ℕ) (t : TreeState (Option ℕ)) → k ≡ m → share ≡ here →
     end ≡ of_end → free ≡ of_free → IsSentTree k share goes end free t → IsSentTree m here goes of_end of_free t
@@ -25,7 +27,7 @@ slots_read k m share here goes end of_end free of_free t e f i j is =
     (subst (λ h. IsSentTree k h goes of_end of_free t) f
     (subst (λ u. IsSentTree k share goes u of_free t) i (subst (λ u. IsSentTree k share goes end u t) j is)))
 
--- a latest time that is found for some share and end is one for equal ones
+-- a latest time of a send that is one for a share and a tree of ends is one for equal ones too
 pub latest_read : (g : Graph) (order : List ℕ) (f : ForestState) (share here : ShareState) (goes : TreeState Bool)
     (end of_end : TreeState (Option ℕ)) (x : ℕ) (latest : Option ℕ) → share ≡ here →
     end ≡ of_end → IsLatestSend g order f share goes end x latest → IsLatestSend g order f here goes of_end x latest
@@ -33,7 +35,8 @@ latest_read g order f share here goes end of_end x latest e i is =
     subst (λ h. IsLatestSend g order f h goes of_end x latest) e
     (subst (λ u. IsLatestSend g order f share goes u x latest) i is)
 
--- a tree of free slots that is found for some round and trees is one for equal ones
+-- a tree of free slots that is one for a number of faults, a round and a tree of earlier free slots is one for equal
+-- ones too
 pub free_then_read : (k m turn here : ℕ) (goes : TreeState Bool) (sent : TreeState (Option ℕ))
     (free of_free t : TreeState ℕ) → k ≡ m → turn ≡ here →
     free ≡ of_free →
@@ -48,7 +51,7 @@ pub sent_count : (g : Graph) (order : List ℕ) (goes : TreeState Bool) (x : ℕ
 sent_count g order goes x f before after t (inl th) = ap length th.1
 sent_count g order goes x f before after t (inr fz) = ap length fz.1.frozen.set ∙ set_count before x fz.1.latest
 
--- the trees of an item that is sent and of its node's free slots, put in their places, add the item
+-- the trees of an item's sends and of its node's free slots, put in their places in the old forest, add the item to it
 pub item_added : (g : Graph) (order : List ℕ) (chooser : TreeState Bool) (x at : ℕ) → at ≡ home g x →
     (old new : ForestState) (before after : List (Option ℕ)) (goes : TreeState Bool) →
     IsTree g goes → IsGoesTree g x chooser goes →
@@ -85,6 +88,7 @@ item_added g order chooser x at there old new before after goes goes_tree goes_w
 
 -- ---- one after another
 
+-- given: a graph, an order of its processes, and the tree of where the sending process is active
 module _ (g : Graph) (order : List ℕ) (chooser : TreeState Bool) where
   -- no item is added to the trees as they stand
   pub none_added : (f : ForestState) (frozen : List (Option ℕ)) → AreItemsAdded g order chooser [] f f frozen frozen
@@ -95,6 +99,7 @@ module _ (g : Graph) (order : List ℕ) (chooser : TreeState Bool) where
       AreItemsAdded g order chooser xs old mid before between →
       IsItemAdded g order chooser x mid new between after →
       AreItemsAdded g order chooser (xs ++ x ∷ []) old new before after
+  -- by induction on the list: its first item is added first
   one_more [] x old mid new before between after none last = (
     new,
     after,

@@ -1,4 +1,4 @@
--- A start in one scenario with its run, by the values of the trees.
+-- The values of the trees give a start in one scenario: all that the start waits for in the run stands in a tree.
 use Rattle.std.proofs.Common.{ℕ, ◌+◌, ◌<◌, ◌≤◌, ◌≡◌, ◌⊎◌, ◌==◌, Bool, true, false, if◌then◌else◌, List, [], ◌∷◌, ◌++◌}
 use Rattle.std.proofs.Common.{length, flat_map, get_or, Option, Some, None, unwrap_or, option_map, Contains}
 use Rattle.std.proofs.Common.{arith, refl, sym, ap, ◌∙◌, subst, inl, inr}
@@ -55,7 +55,7 @@ use Rattle.cpg_expand.proofs.TestedTrees.{tested_from, tested_parts}
 use Rattle.cpg_expand.proofs.GuardTrees.{ends_tree, times_tree}
 use Rattle.cpg_expand.proofs.UnfrozenStart.{before_in, before_parts, end_in_bounds, heard_in_bounds, unfrozen_is}
 
--- the tree of when a node hears a condition has a path for each scenario
+-- the tree from which it follows when a node hears a condition has one path for each scenario
 heard_each : (g : Graph) (f : ForestState) → HasTrees g f → (node c : ℕ) → c < condition_count g →
     HasOnePathEach g.faults (heard_tree g f node c).paths
 heard_each g f has node c low = by (node_of g (process_of g c) == node)
@@ -72,12 +72,13 @@ heard_each g f has node c low = by (node_of g (process_of g c) == node)
 
 -- a guard that is always active leads to an active leaf
 always_acts : (guard : Guard) (o : List Bool) → is_always guard ≡ true → is_active (outcome_at guard o) ≡ true
+-- by induction on the guard
 always_acts (Leaf a) o e = e
 always_acts (Test c off on) o e =
     let parts = and_parts (is_always off) (is_always on) e in
     by (get_or o c false) (always_acts on o parts.1) (always_acts off o parts.0)
   where
-    -- the leaf is active, whichever side of the test the outcome takes
+    -- if the leaves of both sides are active, so is that of the side that the outcome takes
     by : (b : Bool) → is_active (outcome_at on o) ≡ true → is_active (outcome_at off o) ≡ true →
         is_active (if b then outcome_at on o else outcome_at off o) ≡ true
     by true high low = high
@@ -108,6 +109,7 @@ module _ (g : Graph) (limits : IsWithinLimits g) (order : List ℕ) (topological
 
   -- ---- what ends before it on its node
 
+  -- given: a process that stands before p
   module _ (q : ℕ) (k : q < process_count g) (sooner : place order q < place order p) where
     -- a process that has an end in the run is active
     acts_end : (time : ℕ) → get_or t.ends q None ≡ Some time → active g s.values q ≡ true
@@ -119,7 +121,7 @@ module _ (g : Graph) (limits : IsWithinLimits g) (order : List ℕ) (topological
         by None e = absurd (none-some time (sym (end_is g order frozen s t run q k
             ∙ ap (option_map (λ start. start + duration g q (fault_of s q))) e) ∙ is))
 
-    -- a time that the tree of its ends gives is its end in the run
+    -- a time that the tree of its ends gives in this scenario is its end in the run
     ended_is : (time : ℕ) → HasValueAt (ends_of g f q).paths (Some time) s → get_or t.ends q None ≡ Some time
     ended_is time h = sym ((lines.ends q k sooner).value h.0 h.1) ∙ h.2
 
@@ -133,7 +135,7 @@ module _ (g : Graph) (limits : IsWithinLimits g) (order : List ℕ) (topological
               ∙ ap (λ n. Some n) (sym (end_active g order frozen s t run q k on)),
         )
 
-  -- a process from the place on has ended at its end, and what ends no later
+  -- by the end of an active process between `from` and p, all is over that is over no later than that end
   end_at : (q : ℕ) → IsBetween g order (node_of g p) from (place order p) q → active g s.values q ≡ true → (n : ℕ) →
       n ≤ end_in t q →
       HasEndAt g order f from p s n
@@ -145,10 +147,12 @@ module _ (g : Graph) (limits : IsWithinLimits g) (order : List ℕ) (topological
     late = let exact = later_exact (Some (end_in t q)) 0 (small.ends q) (omega arith) in omega (arith, exact, less);
   }
 
-  -- what is waited for by a process that is always active has ended once that one has
+  -- if a process stands before `from`, there is one between `from` and p that is active in this scenario: the one that
+  -- is always active
   cut_at : (q : ℕ) → place order q < from →
       (z : ℕ) × IsBetween g order (node_of g p) from (place order p) z × (active g s.values z ≡ true) ×
       (place order q < place order z)
+  -- either `from` is 0, before which nothing stands, or the cut names a process that is always active
   cut_at q less = elim cut [
     | inl none ↦ absurd (omega (arith, less, none))
     | inr c ↦ (
@@ -163,11 +167,12 @@ module _ (g : Graph) (limits : IsWithinLimits g) (order : List ℕ) (topological
   time_before_end : (z : ℕ) → z < process_count g → active g s.values z ≡ true → time_in t z ≤ end_in t z
   time_before_end z k on = omega (arith, end_active g order frozen s t run z k on)
 
-  -- an active process before p on its node has ended once one from the cut on has: that one itself, or one that is
-  -- waited for
+  -- an active process before p on its node has ended once one between `from` and p has: that process itself, or one
+  -- that waits for it
   before_ended : (q : ℕ) → q < process_count g → place order q < place order p → node_of g q ≡ node_of g p →
       active g s.values q ≡ true →
       HasEndAt g order f from p s (end_in t q)
+  -- by whether q stands at `from` or later, or before it
   before_ended q k sooner there on = elim (cases_lt (place order q) from) [
     | inr from_on ↦
         end_at q (record { within = k; there = there; after = from_on; sooner = sooner }) on (end_in t q) (omega arith)
@@ -181,6 +186,7 @@ module _ (g : Graph) (limits : IsWithinLimits g) (order : List ℕ) (topological
         ))
   ]
 
+  -- given: an input of p
   module _ (e : ℕ) (c : Contains (inputs g p) e) where
     -- the edge is one of the graph, and leads to p
     parts : (e < edge_count g) × (target g e ≡ p)
@@ -195,7 +201,7 @@ module _ (g : Graph) (limits : IsWithinLimits g) (order : List ℕ) (topological
     earlier = let n = ap (place order) (producer_of_message g e parts.0) in
         omega (arith, n, input_goes_up g order topological p e c)
 
-    -- an input that is active as an item and comes from another node is live
+    -- if an input from another node is sent as a message, the input is live
     item_is : item_active g s.values (item_at g (message_item g e)) ≡ true → is_message g e ≡ true →
         live g s.values e ≡ true
     item_is acts m = (and_parts (is_message g e) (live g s.values e)
@@ -208,10 +214,11 @@ module _ (g : Graph) (limits : IsWithinLimits g) (order : List ℕ) (topological
       acts lives = subst (λ x. item_active g s.values x ≡ true) (sym (item_at-message g e parts.0))
           (and_from (is_message g e) (live g s.values e) m lives)
 
-      -- a live message has a time, and is there a frame's length after it
+      -- the message of a live input has a time in the run, and the input is there a frame's length after it
       comes : live g s.values e ≡ true →
           (time : ℕ) × (get_or t.times (message_item g e) None ≡ Some time) ×
           (input_there g t e ≡ time_later (input_delay g e) (Some time))
+      -- an active message has a time in a run, and the delay of such an input is its slot's length
       comes lives =
           let is = has_time g order frozen s t run (message_item g e) item_within (acts lives) in (
             time_in t (message_item g e),
@@ -240,7 +247,7 @@ module _ (g : Graph) (limits : IsWithinLimits g) (order : List ℕ) (topological
 
     -- given: a live input of the node itself
     module _ (own : is_message g e ≡ false) (lives : live g s.values e ≡ true) where
-      -- what is excluded: an input from another node that is none
+      -- true isn't false
       untrue : true ≡ false → ⊥
       untrue i = cc
 
@@ -251,7 +258,7 @@ module _ (g : Graph) (limits : IsWithinLimits g) (order : List ℕ) (topological
         | inr other ↦ absurd (untrue (sym (message_at g p e parts.1 other) ∙ own))
       ]
 
-      -- it is there at the end of its source, by which a process before p on its node has ended
+      -- the input is there at the end of its source, and by then a process between `from` and p has ended
       own_there : HasEndAt g order f from p s (input_there g t e)
       own_there =
           let is : input_there g t e ≡ end_in t (source g e) =
@@ -260,9 +267,9 @@ module _ (g : Graph) (limits : IsWithinLimits g) (order : List ℕ) (topological
           (before_ended (source g e) (source_in_order g order topological e parts.0)
           (input_goes_up g order topological p e c) same_node (and_parts _ _ lives).0)
 
-  -- a condition on the way of a process at its place or before it
+  -- given: a process at p's place or before it
   module _ (q : ℕ) (k : q < process_count g) (no_later : place order q ≤ place order p) where
-    -- the trees give the times of what is before q, since that is before p too
+    -- the trees give the times of what stands before q, since that stands before p too
     valued_there : HasTreeValues g order rows s t (place order q) f
     valued_there = record {
       ends = λ z h less on. valued.ends z h (omega (arith, less, no_later)) on;
@@ -277,6 +284,7 @@ module _ (g : Graph) (limits : IsWithinLimits g) (order : List ℕ) (topological
         (Contains-filter (decides g s.values q) (conditions_along g urgency) c d
         (Contains-along g urgency urgent c low))
 
+  -- given: such a process, and a condition that its guard tests in this scenario
   module _ (q : ℕ) (k : q < process_count g) (no_later : place order q ≤ place order p) (c : ℕ)
       (j : Contains (way (tree_of guards q) s.values) c) where
     -- a condition that q's guard tests on the way decides q
@@ -290,7 +298,7 @@ module _ (g : Graph) (limits : IsWithinLimits g) (order : List ℕ) (topological
         let r = Contains-filter_parts (decides g s.values q) (numbers_below (condition_count g)) c decides_there in
         (numbers-Contains (condition_count g) c r.0, r.1)
 
-    -- the tree of when q's node hears it gives the run's time
+    -- the tree from which it follows when q's node hears the condition gives the run's time
     line_of : HasValueFrom s (heard_support g order topological rows s (node_of g q) c)
         (heard_time g limits t small (node_of g q) c) (heard_tree g f (node_of g q) c)
     line_of = heard_valued g limits order topological joins urgency is_urgency urgent rows s law.values few t small f q
@@ -316,9 +324,10 @@ module _ (g : Graph) (limits : IsWithinLimits g) (order : List ℕ) (topological
               (deciding_is_active g urgency is_urgency urgent s.values q c decides_it.0 decides_it.1) e),
         )
 
-    -- the tree has that time in this scenario, and the condition is heard a delay later
+    -- the tree has a time in this scenario, and q's node has heard the condition a delay after it
     heard_path : (time : ℕ) × HasValueAt (heard_tree g f (node_of g q) c).paths (Some time) s ×
         (heard_there g t (node_of g q) c ≡ time_later (heard_delay g (node_of g q) c) (Some time))
+    -- the scenario's path in the tree has the time at which the condition was heard in the run, less the delay
     heard_path =
         let r = when_heard in
         let x = the_path g.faults (heard_tree g f (node_of g q) c).paths
@@ -328,25 +337,24 @@ module _ (g : Graph) (limits : IsWithinLimits g) (order : List ℕ) (topological
           sym (heard_exact g limits t small (node_of g q) c) ∙ ap (time_later (heard_delay g (node_of g q) c)) r.1,
         )
 
-    -- any time that the tree has in this scenario is the one
+    -- a delay after any time that the tree has in this scenario, q's node has heard the condition
     heard_value : (time : ℕ) → HasValueAt (heard_tree g f (node_of g q) c).paths (Some time) s →
         heard_there g t (node_of g q) c ≡ time_later (heard_delay g (node_of g q) c) (Some time)
     heard_value time h = sym (heard_exact g limits t small (node_of g q) c)
         ∙ ap (time_later (heard_delay g (node_of g q) c)) (sym (line_of.value h.0 h.1) ∙ h.2)
 
-  -- given: a condition that decides a process of the node at the place or before it
-  -- `q`, `k`, `there`, `no_later`: a process on p's node at p's place or before it; `c`, `low`, `d`: a condition that
-  -- decides q
+  -- given: a process of p's node at p's place or before it, and a condition that decides it
+  -- `q`, `k`, `there`, `no_later`: the process; `c`, `low`, `d`: a condition that decides q in this scenario
   module _ (q : ℕ) (k : q < process_count g) (there : node_of g q ≡ node_of g p)
       (no_later : place order q ≤ place order p) (c : ℕ) (low : c < condition_count g)
       (d : decides g s.values q c ≡ true) where
-    -- the tree of when a node hears c has a time in this scenario, and the node has heard c a delay after it
+    -- the tree from which it follows when a node hears c has a time in this scenario, and the node has heard c a delay
+    -- after it
     abbrev Heard : ℕ → Type 0
     Heard node = (time : ℕ) × HasValueAt (heard_tree g f node c).paths (Some time) s ×
         (heard_there g t node c ≡ time_later (heard_delay g node c) (Some time))
 
-    -- a condition that decides a process from the cut on is tested by its guard, and heard on p's node by the time of
-    -- its tree
+    -- if q stands at `from` or after it, q's guard tests c, and p's node hears c by the time of c's tree
     heard_at : from ≤ place order q → IsHeardAt g order guards f from p s t c
     heard_at after =
         let j = on_its_way q k no_later c low d in
@@ -365,7 +373,7 @@ module _ (g : Graph) (limits : IsWithinLimits g) (order : List ℕ) (topological
           is = r.2;
         }
 
-    -- for q before the cut: c is heard by the end of a process from the cut on, which waits for q
+    -- if q stands before `from`, c is heard by the end of a process between `from` and p, which waits for it
     heard_before : place order q < from → HasEndAt g order f from p s (heard_there g t (node_of g p) c)
     heard_before less =
         let z = cut_at q less in
@@ -382,7 +390,7 @@ module _ (g : Graph) (limits : IsWithinLimits g) (order : List ℕ) (topological
           time_before_end z.0 z.1.within z.2,
         ))
 
-    -- so p's node hears c by such an end, or by the tree of c
+    -- so p's node hears c by such an end, or by the time of c's tree
     heard_either : HasEndAt g order f from p s (heard_there g t (node_of g p) c) ⊎
         IsHeardAt g order guards f from p s t c
     heard_either = elim (cases_lt (place order q) from) [
@@ -394,6 +402,7 @@ module _ (g : Graph) (limits : IsWithinLimits g) (order : List ℕ) (topological
   what_hears : (c : ℕ) → Contains (flat_map (deciding g s.values) (before_on_node g order p ++ p ∷ [])) c →
       HasEndAt g order f from p s (heard_there g t (node_of g p) c) ⊎
       IsHeardAt g order guards f from p s t c
+  -- the condition decides a process before p on its node, or p itself
   what_hears c j =
       let q = Contains-flat_map_parts (deciding g s.values) (before_on_node g order p ++ p ∷ []) c j in
       let r = Contains-filter_parts (decides g s.values q.0) (numbers_below (condition_count g)) c q.2 in
@@ -407,9 +416,10 @@ module _ (g : Graph) (limits : IsWithinLimits g) (order : List ℕ) (topological
         ]
       ]
 
-  -- a process at its place or before it is among those by which it hears
+  -- a process of p's node at p's place or before it is p or one of those before p on its node
   among : (q : ℕ) → q < process_count g → node_of g q ≡ node_of g p → place order q < place order p + 1 →
       Contains (before_on_node g order p ++ p ∷ []) q
+  -- processes with the same place in the order are the same
   among q k there sooner = elim (cases_lt (place order q) (place order p)) [
     | inl less ↦
         Contains-append_left (before_on_node g order p) (p ∷ []) q (before_in g order topological s t p q k less there)
@@ -420,11 +430,13 @@ module _ (g : Graph) (limits : IsWithinLimits g) (order : List ℕ) (topological
         (Contains-append_right (before_on_node g order p) (p ∷ []) p (Contains-first p []))
   ]
 
-  -- a time at which a tested condition is heard is one of those that p's start waits for
+  -- p's start is no earlier than the time at which its node hears a condition that a process from `from` up to p
+  -- tests, by that condition's tree
   heard_in : (c time : ℕ) →
       IsAskedOf g order guards (node_of g p) from (place order p + 1) c (process_count g) s.values →
       HasValueAt (heard_tree g f (node_of g p) c).paths (Some time) s →
       time_later (heard_delay g (node_of g p) c) (Some time) ≤ greatest (start_bounds g order s t p)
+  -- the condition decides that process, which is among those whose hearing bounds p's start
   heard_in c time a h =
       let q = a.process in
       let b = a.between in
@@ -436,7 +448,7 @@ module _ (g : Graph) (limits : IsWithinLimits g) (order : List ℕ) (topological
       (heard_value q b.within no_later c j time) h in
       omega (arith, is, heard_in_bounds g order topological s t p q c (among q b.within b.there b.sooner) d.0 d.1)
 
-  -- an end of a process before p on its node is one of those too
+  -- nor earlier than the end of a process between `from` and p, by the tree of its ends
   ended_in : (q time : ℕ) → IsBetween g order (node_of g p) from (place order p) q →
       HasValueAt (ends_of g f q).paths (Some time) s →
       time_later 0 (Some time) ≤ greatest (start_bounds g order s t p)
@@ -450,8 +462,9 @@ module _ (g : Graph) (limits : IsWithinLimits g) (order : List ℕ) (topological
             (acts_end q b.within b.sooner time is),
       )
 
-  -- the trees say of the start in this run all that it waits for
+  -- in this run the trees say all that p's start waits for
   pub start_is_valued : IsStartByTrees g order guards f chooser from p s t
+  -- each field is one of the facts above
   start_is_valued = record {
     acts = λ x on. (actives s few).value x on ∙ ap is_active ((are p l).is s.values law.values);
     value = unfrozen_is g order topological s t p l;

@@ -52,12 +52,12 @@ idle_awaits : (inputs : List ℕ) (a : Activation) → is_active a ≡ false →
 idle_awaits inputs Inactive is e j = Contains-nil e j
 idle_awaits inputs Plain is e j = absurd (off is)
   where
-    -- a plain leaf is active, so this case doesn't occur
+    -- a plain leaf is active, so true would be false
     off : true ≡ false → ⊥
     off e = cc
 idle_awaits inputs (By d) is e j = absurd (off is)
   where
-    -- nor does a leaf of a join that is active by one input
+    -- a leaf of a join that is active by one input is active too
     off : true ≡ false → ⊥
     off e = cc
 
@@ -67,7 +67,7 @@ pub message_at : (g : Graph) (p e : ℕ) → target g e ≡ p → (node_of g (so
 message_at g p e to other =
     ap not (ne_eqb (node_of g (source g e)) (node_of g (target g e)) (λ same. other (same ∙ ap (node_of g) to)))
 
--- a condition of an active process is sent to the other nodes
+-- if the process of a condition is active and runs on another node than p, the condition's broadcast is sent
 pub frame_sent : (g : Graph) (s : Scenario) (p : ℕ) → p < process_count g →
     ((q : ℕ) → q < process_count g → node_of g q < length g.nodes) → (c : ℕ) →
     c < condition_count g →
@@ -79,7 +79,7 @@ frame_sent g s p l nodes c low acts e = subst (λ x. item_active g s.values x �
     (nodes (process_of g c) (process_of_below g c low)) (nodes p l)
     (λ i. apart (sym (eq-eqb (node_of g (process_of g c)) (node_of g p) i) ∙ e)))) acts)
   where
-    -- what is excluded: a condition that is broadcast and isn't
+    -- true isn't false
     apart : true ≡ false → ⊥
     apart e = cc
 
@@ -105,7 +105,7 @@ module _ (g : Graph) (limits : IsWithinLimits g) (order : List ℕ) (topological
       Contains-filter (decides g s.values p) _ c r.1
       (Contains-numbers (condition_count g) c (from_along g urgency c r.0).0)
 
-  -- the tree of when the node hears one of them gives the run's time
+  -- the tree from which it follows when p's node hears one of them gives the run's time
   pub heard_valued : (c : ℕ) → Contains (way guard s.values) c →
       HasValueFrom s (heard_support g order topological rows s (node_of g p) c)
       (heard_time g limits t small (node_of g p) c)
@@ -144,7 +144,7 @@ module _ (g : Graph) (limits : IsWithinLimits g) (order : List ℕ) (topological
       by false e = let r = hears_earlier g order topological s p c decides_it in
           valued.sends (broadcast_item g c) r.0 (omega arith) r.1 (sent_at e)
 
-  -- the tree of when a live input is there gives the run's time
+  -- the tree from which it follows when a live input is there gives the run's time
   input_valued : (e : ℕ) → Contains (inputs g p) e → live g s.values e ≡ true →
       HasValueFrom s (input_support g order topological rows s e) (input_time g limits t small e) (input_tree g f e)
   input_valued e j on = by (is_message g e) refl
@@ -199,6 +199,7 @@ module _ (g : Graph) (limits : IsWithinLimits g) (order : List ℕ) (topological
             Contains (flat_map (passed g rows s) (before_on_node g order p)
             ++ support_of s (heard_support g order topological rows s (node_of g p)) (way guard s.values)) x →
             Contains wait_says x
+        -- a literal was passed on by a process before p on its node, or is carried for a test
         within x j = elim (Contains-append_cases (flat_map (passed g rows s) (before_on_node g order p))
             (support_of s (heard_support g order topological rows s (node_of g p)) (way guard s.values)) x j) [
               | inl i ↦ Contains-append_left (flat_map (passed g rows s) (before_on_node g order p) ++ decided g s p)
@@ -249,7 +250,7 @@ module _ (g : Graph) (limits : IsWithinLimits g) (order : List ℕ) (topological
         (if b then get_or t.times (message_item g e) None else get_or t.ends (source g e) None) ≤ waited) (sym own)
         (omega (arith, later_exact (get_or t.ends (source g e) None) 0 (small.ends (source g e)) (omega arith), ended))
       where
-        -- what is excluded: an input from another node that is no message
+        -- true isn't false
         untrue : true ≡ false → ⊥
         untrue i = cc
 
@@ -265,6 +266,8 @@ module _ (g : Graph) (limits : IsWithinLimits g) (order : List ℕ) (topological
         (process_at g p).frozen ≡ false →
         HasValueFrom s (carried_at_start g order rows s p) (if active g s.values p
         then Some (max (max waited (process_at g p).release) (greatest (input_bounds g s t p))) else None) start
+    -- the tree says the literals of the wait and of the inputs (`says`), which are all carried (`within`); its start is
+    -- the latest of the wait, the release and the inputs, as in the run (`start_exact`)
     start_line start starts thawed = agrees_weaker s start says (carried_at_start g order rows s p) (λ z. z ≡ at)
         (λ z. z ≡ (if active g s.values p
         then Some (max (max waited (process_at g p).release) (greatest (input_bounds g s t p))) else None)) within
@@ -289,6 +292,7 @@ module _ (g : Graph) (limits : IsWithinLimits g) (order : List ℕ) (topological
             Contains (if b then wait_says ++ flat_map (input_support g order topological rows s)
             (awaited (inputs g p) (outcome_at guard s.values)) else []) x →
             Contains (carried_at_start g order rows s p) x
+        -- a literal is one of the wait's or of an awaited input's
         of_start false x j = absurd (Contains-nil x j)
         of_start true x j = elim (Contains-append_cases wait_says (flat_map (input_support g order topological rows s)
             (awaited (inputs g p) (outcome_at guard s.values))) x j) [
@@ -303,6 +307,7 @@ module _ (g : Graph) (limits : IsWithinLimits g) (order : List ℕ) (topological
 
         -- so is all that the tree says
         within : (x : Literal) → Contains says x → Contains (carried_at_start g order rows s p) x
+        -- a literal is the value of a test on the way, or of the start
         within x j = elim (Contains-append_cases (values_known s (way guard s.values)) (start_says wait_says
             (input_support g order topological rows s) (inputs g p) (outcome_at guard s.values)) x j) [
               | inl i ↦ let r = Contains-map_parts (value_known s) (way guard s.values) x i in

@@ -1,4 +1,5 @@
--- The times that the trees behind a start give are those of the run.
+-- The times that a start waits for are those of the run, as the trees say them: their delays are never cut off, and
+-- the inputs that a process awaits are the live ones.
 use Rattle.std.proofs.Common.{ℕ, ◌+◌, ◌^◌, ◌<◌, ◌≤◌, ◌≡◌, ◌==◌, max, Bool, true, false, if◌then◌else◌, List, [], ◌∷◌}
 use Rattle.std.proofs.Common.{length, map, filter, get_or, Option, Some, None, unwrap_or, arith, refl, sym, ap}
 use Rattle.std.proofs.Common.{ap₂, ◌∙◌, subst}
@@ -25,21 +26,22 @@ use Rattle.cpg_expand.specs.Guarded.{awaited, latest_of, start_at}
 
 -- ---- a delay after a time
 
--- a time of a run has room for a delay, so nothing is cut off
+-- a time below 2^59 has room for a delay of at most 16,000,000,000, so the sum isn't cut off
 pub later_exact : (x : Option ℕ) (delay : ℕ) → unwrap_or x 0 < 2 ^ 59 → delay ≤ 16000000000 →
     time_later delay x ≡ unwrap_or x 0 + delay
 later_exact x delay h k = omega (arith, h, k)
 
+-- given: a graph within the limits, and small times
 module _ (g : Graph) (limits : IsWithinLimits g) (t : Times) (small : AreSmall t) where
   -- no slot is longer than 16,000,000,000
   slot_short : (node : ℕ) → slot_length g node ≤ 16000000000
   slot_short node = omega (arith, slot_length-le g node, round-le g limits)
 
-  -- the time from which an input is there, before its delay
+  -- the time to which an input's delay is added: its message's, or the end of its source
   abbrev pub input_time : ℕ → Option ℕ
   input_time e = if is_message g e then get_or t.times (message_item g e) None else get_or t.ends (source g e) None
 
-  -- the time at which an input is there, by its frame or by its source's end, is the run's
+  -- that time with its delay is when the input is there in the run
   pub input_exact : (e : ℕ) → time_later (input_delay g e) (input_time e) ≡ input_there g t e
   input_exact e = go (is_message g e)
     where
@@ -52,12 +54,13 @@ module _ (g : Graph) (limits : IsWithinLimits g) (t : Times) (small : AreSmall t
           (small.times (message_item g e)) (slot_short (home g (message_item g e)))
       go false = later_exact (get_or t.ends (source g e) None) 0 (small.ends (source g e)) (omega arith) ∙ omega arith
 
-  -- the time at which a node hears a condition, before its delay
+  -- the time to which the delay of a node's hearing a condition is added: the end of the condition's process, or its
+  -- broadcast's time
   abbrev pub heard_time : ℕ → ℕ → Option ℕ
   heard_time node c = if node_of g (process_of g c) == node then get_or t.ends (process_of g c) None
       else get_or t.times (broadcast_item g c) None
 
-  -- the time at which a node hears a condition is the run's
+  -- that time with its delay is when the node hears the condition in the run
   pub heard_exact : (node c : ℕ) → time_later (heard_delay g node c) (heard_time node c) ≡ heard_there g t node c
   heard_exact node c = go (node_of g (process_of g c) == node)
     where
@@ -71,17 +74,18 @@ module _ (g : Graph) (limits : IsWithinLimits g) (t : Times) (small : AreSmall t
       go false = later_exact (get_or t.times (broadcast_item g c) None) (slot_length g (home g (broadcast_item g c)))
           (small.times (broadcast_item g c)) (slot_short (home g (broadcast_item g c)))
 
-  -- the latest of the inputs is there at the run's time
+  -- the latest of these times of some inputs is when the last of them is there in the run
   pub latest_inputs : (es : List ℕ) → latest_of (input_delay g) input_time es ≡ greatest (map (input_there g t) es)
   latest_inputs es =
       ap greatest (same_map (λ e. time_later (input_delay g e) (input_time e)) (input_there g t) es input_exact)
     where
       -- two functions that agree everywhere map a list alike
       same_map : (f h : ℕ → ℕ) (xs : List ℕ) → ((x : ℕ) → f x ≡ h x) → map f xs ≡ map h xs
+      -- by induction on the list
       same_map f h [] e = refl
       same_map f h (x ∷ xs) e = ap₂ (λ y ys. y ∷ ys) (e x) (same_map f h xs e)
 
-  -- the time at which it has heard all of a list is the run's
+  -- the latest of these times of some conditions is when the node has heard all of them in the run
   pub latest_heard : (node : ℕ) (cs : List ℕ) →
       latest_of (heard_delay g node) (heard_time node) cs ≡ greatest (map (heard_there g t node) cs)
   latest_heard node cs = ap greatest (same_map (λ c. time_later (heard_delay g node c) (heard_time node c))
@@ -89,6 +93,7 @@ module _ (g : Graph) (limits : IsWithinLimits g) (t : Times) (small : AreSmall t
     where
       -- two functions that agree everywhere map a list alike
       same_map : (f h : ℕ → ℕ) (xs : List ℕ) → ((x : ℕ) → f x ≡ h x) → map f xs ≡ map h xs
+      -- by induction on the list
       same_map f h [] e = refl
       same_map f h (x ∷ xs) e = ap₂ (λ y ys. y ∷ ys) (e x) (same_map f h xs e)
 
@@ -96,15 +101,16 @@ module _ (g : Graph) (limits : IsWithinLimits g) (t : Times) (small : AreSmall t
 
 -- if all elements pass a test, the filter keeps the list
 all_kept : (p : ℕ → Bool) (xs : List ℕ) → list_all p xs ≡ true → filter p xs ≡ xs
+-- by induction on the list
 all_kept p [] e = refl
 all_kept p (x ∷ xs) e = let r = and_parts (p x) (list_all p xs) e in
     cond-true (p x) (x ∷ filter p xs) (filter p xs) r.0 ∙ ap (λ ys. x ∷ ys) (all_kept p xs r.1)
 
--- what is excluded: a leaf that is active and isn't
+-- false isn't true
 untrue : false ≡ true → ⊥
 untrue e = cc
 
--- a join that is active by its first live input awaits that one, which is all that is live
+-- a join that is active by its first live input awaits it; if at most one input is live, that is all the live ones
 awaited_first : (xs ys : List ℕ) → length ys ≤ 1 → is_active (by_first ys) ≡ true → awaited xs (by_first ys) ≡ ys
 awaited_first xs [] l on = absurd (untrue on)
 awaited_first xs (y ∷ []) l on = refl
@@ -139,7 +145,8 @@ module _ (g : Graph) (limits : IsWithinLimits g) (order : List ℕ) (topological
       ap (awaited (inputs g p)) is ∙ awaited_is (process_at g p).join (inputs g p) (live g s.values)
       (λ e. joins p s.values l e long) (subst (λ (a : Activation). is_active a ≡ true) is on)
 
-  -- the start that the trees give, if the node would be ready at a time
+  -- the start at a time or once the release and all awaited inputs are there is the start by the live inputs in the
+  -- run
   pub start_exact : (w : ℕ) →
       start_at w (process_at g p).release (input_delay g) (input_time g limits t small) (inputs g p)
       (activation g s.values p)
@@ -147,7 +154,7 @@ module _ (g : Graph) (limits : IsWithinLimits g) (order : List ℕ) (topological
       then Some (max (max w (process_at g p).release) (greatest (input_bounds g s t p))) else None)
   start_exact w = go (active g s.values p) refl
     where
-      -- by whether the process is active: only then has it a start
+      -- an active process awaits its live inputs, and an inactive one has no start either way
       go : (b : Bool) → active g s.values p ≡ b →
           (if b then Some (max (max w (process_at g p).release) (latest_of (input_delay g) (input_time g limits t small)
           (awaited (inputs g p) (activation g s.values p)))) else None)

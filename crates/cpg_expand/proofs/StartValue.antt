@@ -34,7 +34,7 @@ use Rattle.cpg_run.proofs.Mosts.{most_deciding}
 use Rattle.cpg_run.proofs.Runs.{end_active}
 use Rattle.cpg_run.proofs.Starts.{known_input, known_heard_of, decided_sooner, start_is}
 
--- what is known of a run before a place
+-- the times and ends of a run for what stands before a place, and none for what stands there or later
 settled : Graph → List ℕ → Times → ℕ → Times
 settled g order t i = record {
   times = map (λ x. if nat_lt (place order (producer g x)) i then get_or t.times x None else None)
@@ -43,7 +43,7 @@ settled g order t i = record {
   finish = 0;
 }
 
--- the times and ends before a place are all that the list of those settled there says
+-- they tell exactly what is known of the run before that place
 settled_knows : (g : Graph) (order : List ℕ) (t : Times) (i : ℕ) → Knows g order t i (settled g order t i)
 unfolding settled
 settled_knows g order t i = record {
@@ -61,7 +61,8 @@ settled_knows g order t i = record {
       cond-false _ (get_or t.ends p None) None (le-ltb (place order p) i h);
 }
 
--- an option that is there by a test
+-- if an option is `n` where a test holds and none elsewhere, it is also `m` there and none elsewhere, for m the
+-- option's own number
 by_test : (b : Bool) (n m : ℕ) (o : Option ℕ) → o ≡ (if b then Some n else None) → (b ≡ true → m ≡ unwrap_or o 0) →
     (if b then Some m else None) ≡ o
 by_test true n m o is e = ap (λ k. Some k) (e refl ∙ ap (λ p. unwrap_or p 0) is) ∙ sym is
@@ -84,7 +85,7 @@ module _ (g : Graph) (order : List ℕ) (topological : IsTopological g order) (u
   unfolding known
   knows = settled_knows g order t (place order p)
 
-  -- the latest of the tests on the guard's way to be heard is the latest of all that decides the process
+  -- the latest time at which p's node hears a test on the guard's way is the latest for all conditions that decide p
   pub most : IsMost (λ c. (c < condition_count g) × (decides g s.values p c ≡ true)) (heard_there g t (node_of g p))
       (greatest (map (heard_there g t (node_of g p)) (way guard s.values)))
   most = most_deciding (heard_there g t (node_of g p)) g urgency urgent s.values p
@@ -120,7 +121,7 @@ module _ (g : Graph) (order : List ℕ) (topological : IsTopological g order) (u
             (λ e j. omega (arith, same e j)),
       )
 
-  -- until when p waits on its node: that is ready, and all conditions on the guard's way are heard
+  -- until when p waits on its node: that the node is ready, and has heard all conditions on the guard's way
   abbrev pub waited : ℕ
   waited = max r (greatest (map (heard_there g t (node_of g p)) (way guard s.values)))
 
@@ -137,10 +138,12 @@ module _ (g : Graph) (order : List ℕ) (topological : IsTopological g order) (u
       let ends = end_active g order frozen s t run p l on in
       omega (arith, found, ends)
 
-  -- the start that the trees give is the run's
+  -- if p isn't frozen, the latest of that wait, of its release and of its live inputs is its start in the run
   pub start_value : get_or frozen p None ≡ None →
       (if active g s.values p then Some (max (max waited (process_at g p).release) (greatest (input_bounds g s t p)))
       else None) ≡ get_or t.times p None
+  -- an active process has the greatest of its bounds as its time, which is that latest one, since no frozen time is
+  -- among them
   start_value thawed =
       by_test (active g s.values p) (greatest (unfrozen_time g order s t p ∷ option_to_list (get_or frozen p None)))
       (max (max waited (process_at g p).release) (greatest (input_bounds g s t p))) (get_or t.times p None)
@@ -154,7 +157,7 @@ module _ (g : Graph) (order : List ℕ) (topological : IsTopological g order) (u
 
 -- ---- ends
 
--- the end after a start is the start and its duration, since nothing is so long that it is cut off
+-- the end after a start is the start with its duration: both are so small that the sum isn't cut off
 ended_by : (ds : List ℕ) (n d : ℕ) (o : Option ℕ) → get_or ds n 0 ≡ d → d < 2 ^ 40 → unwrap_or o 0 < 2 ^ 59 →
     ended ds n o ≡ option_map (λ start. start + d) o
 ended_by ds n d None e h k = refl
@@ -166,11 +169,11 @@ ended_by ds n d (Some start) e h k = ap (λ m. Some m) (omega (arith, e, h, k))
 module _ (g : Graph) (limits : IsWithinLimits g) (order : List ℕ) (frozen : List (Option ℕ)) (s : Scenario)
     (law : IsScenario g s) (t : Times) (run : IsRun g order frozen s t) (small : AreSmall t)
     (p : ℕ) (l : p < process_count g) (few : fault_of s p ≤ g.faults) where
-  -- the variable p has p's fault count as its number
+  -- the number of the variable p in the scenario is p's fault count
   count_is : number_of s p ≡ fault_of s p
   count_is = cond-true _ (fault_of s p) _ (lt-ltb p 128 (let m = limits.few_processes in omega arith))
 
-  -- the end that the trees give is the run's
+  -- the start with the duration for that number is p's end in the run
   pub end_value : ended (durations_of g p) (number_of s p) (get_or t.times p None) ≡ get_or t.ends p None
   end_value = ap (λ n. ended (durations_of g p) n (get_or t.times p None)) count_is
       ∙ ended_by (durations_of g p) (fault_of s p) (duration g p (fault_of s p)) (get_or t.times p None)

@@ -29,21 +29,24 @@ use Rattle.cpg_expand.proofs.GuardTrees.{support_as_first}
 
 -- ---- the later of two where a chooser is true
 
--- given: a tree that is made of the greater number of two where a chooser is true, and one scenario
--- `number`, `other_number`: how the two trees are read as numbers; `makes`, `none`: what is made of the greater one
--- where the chooser is true, and what stands elsewhere; `of_chooser`, `of_a`, `of_b`: the trees are of the graph
--- `made`: t is that tree; `s`, `few`, `given`: a scenario, and literals
+-- given: a tree that is made, where a chooser is true, of the greater number of two trees, and one scenario
+-- `number`, `other_number`: the numbers that the two trees' values are read as
+-- `makes`, `none`: what is made of the greater number where the chooser is true, and what stands elsewhere
+-- `of_chooser`, `of_a`, `of_b`: the trees have the graph's faults, and one path for each scenario
+-- `made`: the tree t is made so of the trees `a` and `b`; `s`, `few`, `given`: the scenario, and the literals by which
+-- the chooser's value is known
 module _ {T U V : Type 0} (g : Graph) (number : T → ℕ) (other_number : U → ℕ) (makes : ℕ → V) (none : V)
     (chooser : TreeState Bool) (a : TreeState T) (b : TreeState U) (t : TreeState V)
     (of_chooser : IsTree g chooser) (of_a : IsTree g a) (of_b : IsTree g b)
     (made : IsJoinWhere (λ x y z. z ≡ makes (max (number x) (other_number y))) none chooser a b t)
     (s : Scenario) (few : HasAtMostFaults g.faults s) (given : List Literal) where
-  -- where the chooser is true, the tree has what is made of the greater of the two numbers, by the literals of all
-  -- three
+  -- where the chooser is true, t has what is made of the greater of the two numbers; its path follows from the
+  -- chooser's literals and those of both trees
   made_where : (first second : List Literal) (x y : ℕ) → HasValueFrom s given true chooser →
       Agrees s first (λ v. number v ≡ x) a →
       Agrees s second (λ w. other_number w ≡ y) b →
       HasValueFrom s (given ++ (first ++ second)) (makes (max x y)) t
+  -- by `agrees_where`: equal numbers have the same greater one
   made_where first second x y on has_value other =
       agrees_where s (λ v w z. z ≡ makes (max (number v) (other_number w))) none chooser a b t given first second
       (λ v. number v ≡ x) (λ w. other_number w ≡ y) (λ z. z ≡ makes (max x y))
@@ -53,11 +56,12 @@ module _ {T U V : Type 0} (g : Graph) (number : T → ℕ) (other_number : U →
       (each_of g chooser.faults a of_chooser.faults of_a) (each_of g chooser.faults b of_chooser.faults of_b)
       made (λ v w z d e i. i ∙ ap₂ (λ m n. makes (max m n)) d e) on has_value other
 
-  -- the same, with the literals of the second tree first
+  -- the same with the two trees turned: the second one's literals and number stand first
   made_where_turned : (first second : List Literal) (x y : ℕ) → HasValueFrom s given true chooser →
       Agrees s first (λ v. number v ≡ x) a →
       Agrees s second (λ w. other_number w ≡ y) b →
       HasValueFrom s (given ++ (second ++ first)) (makes (max y x)) t
+  -- the greater of two numbers, and what two lists of literals say, don't depend on which comes first
   made_where_turned first second x y on has_value other =
       agrees_weaker s t (given ++ (first ++ second)) (given ++ (second ++ first)) (λ z. z ≡ makes (max x y))
       (λ z. z ≡ makes (max y x))
@@ -69,16 +73,17 @@ module _ {T U V : Type 0} (g : Graph) (number : T → ℕ) (other_number : U →
       (λ z e. e ∙ ap makes (let same : max x y ≡ max y x = omega arith in same))
       (made_where first second x y on has_value other)
 
-  -- where the chooser is false, it has `none`, by the chooser's literals alone
+  -- where the chooser is false, t has `none`, by the chooser's literals alone
   made_elsewhere : HasValueFrom s given false chooser → HasValueFrom s given none t
   made_elsewhere off =
       agrees_elsewhere s (λ v w z. z ≡ makes (max (number v) (other_number w))) none chooser a b t given
       (few_of g.faults chooser.faults s of_chooser.faults few)
       (each_of g chooser.faults chooser of_chooser.faults of_chooser) made off
 
--- given: a tree that is read from a forest, the delay that is added to its times, and a chooser
--- `release`, `delay`, `d`, `same_delay`: the release, and the delay with its other name
--- `times`, `read`, `is`, `of_times`: the tree with its other name; `chooser`, `of_chooser`: the chooser
+-- given: a tree of times that was read from a forest, the delay that is added to its times, a release and a chooser
+-- `delay`, `d`, `same_delay`: the delay, and the same one by another name
+-- `times`, `read`, `is`, `of_times`: the tree of times, and the same one by another name
+-- `chooser`, `of_chooser`: where there are starts
 module _ (g : Graph) (release delay d : ℕ) (same_delay : delay ≡ d) (times read : TreeState (Option ℕ))
     (is : times ≡ read) (of_times : IsTree g times) (chooser : TreeState Bool)
     (of_chooser : IsTree g chooser) where
@@ -86,10 +91,12 @@ module _ (g : Graph) (release delay d : ℕ) (same_delay : delay ≡ d) (times r
   abbrev start_of : ℕ → Option ℕ
   start_of n = Some (max n release)
 
-  -- the value of a tree that is read of a forest and of another tree
+  -- the starts made of a wait and of these times are the latest of the wait, the delayed times and the release, where
+  -- the chooser is true
   pub read_where : (wait : TreeState ℕ) (t : TreeState (Option ℕ)) → IsTree g wait →
       IsJoinWhere (λ x y z. z ≡ Some (max (max x (time_later delay y)) release)) None chooser wait times t →
       IsReleasedWhere g.faults chooser wait (later_by d read) release t
+  -- with the chooser by `made_where`, without it by `made_elsewhere`; the times count as their delayed numbers
   read_where wait t of_wait made = record {
     on = λ s few given first second x y on has_value there.
         made_where g (λ n. n) (time_later delay) start_of None chooser wait times t of_chooser of_wait of_times made s
@@ -99,8 +106,7 @@ module _ (g : Graph) (release delay d : ℕ) (same_delay : delay ≡ d) (times r
         (time_later delay) start_of None chooser wait times t of_chooser of_wait of_times made s few given off;
   }
 
-  -- what is made of a tree that is read from a forest and of ends is the later of the two and the release, where the
-  -- chooser is true
+  -- so are those made of some ends and of these times: the ends count as a wait without a delay
   pub ends_where : (end read_end t : TreeState (Option ℕ)) → end ≡ read_end → IsTree g end →
       IsJoinWhere (λ x y z. z ≡ Some (max (max (time_later delay x) (time_later 0 y)) release)) None
       chooser times end t →
@@ -116,7 +122,7 @@ module _ (g : Graph) (release delay d : ℕ) (same_delay : delay ≡ d) (times r
         (time_later 0) start_of None chooser times end t of_chooser of_times of_end made s few given off;
   }
 
--- an input from another node is there by the end of its frame
+-- if t is released by the time of a message and its slot's length, it is released by the input that the message brings
 pub input_where : (g : Graph) (f : ForestState) (e release : ℕ) (chooser : TreeState Bool) (wait : TreeState ℕ)
     (t : TreeState (Option ℕ)) →
     is_message g e ≡ true →
@@ -130,8 +136,9 @@ input_where g f e release chooser wait t message starts =
 
 -- ---- starts after inputs
 
--- given: a chooser, a wait, and a tree of starts
--- `f`: the forest; `chooser`: where the process is active; `wait`: what it waits for; `t`, `release`: its starts
+-- given: a forest, a chooser, a wait, and a tree of starts
+-- `f`: the forest; `chooser`: where the process is active; `wait`: what it waits for; `t`, `release`: its starts and
+-- its release
 module _ (g : Graph) (f : ForestState) (chooser : TreeState Bool) (wait : TreeState ℕ) (t : TreeState (Option ℕ))
     (release : ℕ) where
   -- if no inputs are left, the starts are picked where the chooser is true
@@ -140,6 +147,7 @@ module _ (g : Graph) (f : ForestState) (chooser : TreeState Bool) (wait : TreeSt
       IsConstant None g.faults never →
       IsPick chooser start never t →
       IsStartWhere g f chooser wait release [] t
+  -- `picked` with the side for true, and with that for false, which adds no literals
   picked_where start never of_chooser of_start of_never starts none made = record {
     on = λ s few given of_c base x has_value support time there heard.
         picked s few true given (base ++ []) (Some (max (max x release) 0)) of_c
@@ -149,7 +157,8 @@ module _ (g : Graph) (f : ForestState) (chooser : TreeState Bool) (wait : TreeSt
         (picked s few false given [] None of_c (agrees_constant s None g.faults never (λ y. y ≡ None) refl none));
   }
     where
-      -- the tree that is picked has the starts where the process is active, and no start elsewhere
+      -- the tree t has the starts where the process is active, and no start elsewhere; its path follows from the
+      -- chooser's literals and those of the side that is picked
       picked : (s : Scenario) → HasAtMostFaults g.faults s → (b : Bool) (given second : List Literal) (y : Option ℕ) →
           HasValueFrom s given b chooser
           → HasValueFrom s second y (if b then start else never) →
@@ -197,6 +206,7 @@ module _ (g : Graph) (f : ForestState) (chooser : TreeState Bool) (wait : TreeSt
 
 -- the activation of an outcome waits for all inputs, if each leaf's does
 outcome_waits : (guard : Guard) (o : List Bool) → AreLeaves WaitsForAll guard → WaitsForAll (outcome_at guard o)
+-- by induction on the guard
 outcome_waits (Leaf a) o all = all
 outcome_waits (Test c off on) o all = by (get_or o c false) (outcome_waits off o all.0) (outcome_waits on o all.1)
   where

@@ -25,6 +25,8 @@ pub stepped : (g : Graph) (urgency : List ℕ) (guards : Guards) → IsAdmitted 
     (old mid new : ForestState) (before between after : List (Option ℕ)) (chooser : TreeState Bool) →
     IsBegun g order guards p old mid before between chooser → HasTrees g mid →
     AreItemsAdded g order chooser (queue_of g p) mid new between after → IsGrownBy g order p before old after new
+-- when p has begun, none of its items is sent; `all_sent` adds them one after another, and then all is grown up to the
+-- next place
 stepped g urgency guards a order p l old mid new before between after chooser begun trees added = λ topological grown.
     let is_guard = a.guards.trees p l in
     let sending : IsSending g order p 0 between mid =

@@ -1,4 +1,4 @@
--- What a start waits for is among its bounds.
+-- The time of a start that isn't frozen is the greatest of its bounds, so all that it waits for is no later.
 use Rattle.std.proofs.Common.{ℕ, ◌<◌, ◌≤◌, ◌≡◌, true, List, [], ◌∷◌, ◌++◌, flat_map, filter, Contains, eq-eqb, eqb-true}
 use Rattle.std.proofs.Common.{◌==◌, ap}
 use Rattle.std.proofs.lemmas.List.Elements.{Contains-append_left, Contains-append_right}
@@ -16,8 +16,8 @@ use Rattle.cpg_base.proofs.Places.{Contains-order, Contains-before, from_order, 
 use Rattle.cpg_run.specs.Run.{Times, end_in, heard_there, input_bounds, processor_bounds, hearing_bounds, start_bounds}
 use Rattle.cpg_run.specs.Run.{bounds_of_item, unfrozen_time}
 
--- given: a process of an order, and times of one scenario
--- `order`, `topological`: an order of the graph; `s`, `t`, `p`: a scenario, its times and a process
+-- given: a process, an order of the graph, and times of one scenario
+-- `order`, `topological`: the order; `s`, `t`: the scenario and its times; `p`: the process
 module _ (g : Graph) (order : List ℕ) (topological : IsTopological g order) (s : Scenario) (t : Times) (p : ℕ) where
   -- the start that p would have if it weren't frozen
   abbrev least_start : ℕ
@@ -27,13 +27,13 @@ module _ (g : Graph) (order : List ℕ) (topological : IsTopological g order) (s
   bound : (b : ℕ) → Contains (start_bounds g order s t p) b → b ≤ least_start
   bound b k = greatest_above (start_bounds g order s t p) b k
 
-  -- a process of the same node with an earlier place is among those before this one on its node
+  -- a process of p's node that stands before p is among those before p on its node
   pub before_in : (q : ℕ) → q < process_count g → place order q < place order p → node_of g q ≡ node_of g p →
       Contains (before_on_node g order p) q
   before_in q k less same = Contains-filter (λ (u : ℕ). node_of g u == node_of g p) (before order p) q (eq-eqb _ _ same)
       (Contains-before order q p (Contains-order (process_count g) order topological.all q k) less)
 
-  -- a process that is before another on its node stands before it in the order
+  -- and one of those is a process of p's node that stands before p
   pub before_parts : (q : ℕ) → Contains (before_on_node g order p) q →
       (q < process_count g) × (place order q < place order p) × (node_of g q ≡ node_of g p)
   before_parts q c =
@@ -43,18 +43,18 @@ module _ (g : Graph) (order : List ℕ) (topological : IsTopological g order) (s
         eqb-true _ _ (Contains-filter_parts (λ (u : ℕ). node_of g u == node_of g p) (before order p) q c).1,
       )
 
-  -- the release is among the bounds of the start
+  -- the release is one of the bounds, so it is no later than their greatest
   pub release_in : (process_at g p).release ≤ greatest (start_bounds g order s t p)
   release_in = bound (process_at g p).release (Contains-first _ _)
 
-  -- so is when the inputs are there
+  -- nor are the times at which the inputs are there
   pub inputs_in : greatest (input_bounds g s t p) ≤ greatest (start_bounds g order s t p)
   inputs_in = greatest-le (input_bounds g s t p) least_start (λ v k. bound v
       (Contains-rest _ _ _ (Contains-append_left (input_bounds g s t p ++ processor_bounds g order s t p)
       (hearing_bounds g order s t p) v
       (Contains-append_left (input_bounds g s t p) (processor_bounds g order s t p) v k))))
 
-  -- so is the end of each active process before it on the node
+  -- nor is the end of an active process before p on its node
   pub end_in_bounds : (q : ℕ) → Contains (before_on_node g order p) q → active g s.values q ≡ true →
       end_in t q ≤ greatest (start_bounds g order s t p)
   end_in_bounds q k acts = bound (end_in t q)
@@ -64,7 +64,7 @@ module _ (g : Graph) (order : List ℕ) (topological : IsTopological g order) (s
       (Contains-map (end_in t) (filter (active g s.values) (before_on_node g order p)) q
       (Contains-filter (active g s.values) (before_on_node g order p) q acts k)))))
 
-  -- so is when the node hears a condition that decides one of these or the process itself
+  -- nor is the time at which the node hears a condition that decides one of these or p
   pub heard_in_bounds : (q c : ℕ) → Contains (before_on_node g order p ++ p ∷ []) q → c < condition_count g →
       decides g s.values q c ≡ true →
       heard_there g t (node_of g p) c ≤ greatest (start_bounds g order s t p)
@@ -77,6 +77,6 @@ module _ (g : Graph) (order : List ℕ) (topological : IsTopological g order) (s
       (Contains-filter (decides g s.values q) (numbers_below (condition_count g)) c d
       (Contains-numbers (condition_count g) c h))))))
 
-  -- the time that it would have if it weren't frozen
+  -- their greatest is the time that p's start would have if it weren't frozen
   pub unfrozen_is : p < process_count g → unfrozen_time g order s t p ≡ greatest (start_bounds g order s t p)
   unfrozen_is l = ap (λ j. greatest (bounds_of_item g order s t p j)) (item_at-start g p l)

@@ -1,4 +1,5 @@
--- Rows that are counted as they are made.
+-- The columns of rows are counted as the rows are made: the sum is the load of the rows, and a row or a load that is
+-- too large shows that an item's row is too wide.
 use Rattle.std.proofs.Common.{ℕ, ◌+◌, ◌*◌, ◌<◌, ◌≤◌, ◌≡◌, ◌∙◌, List, [], ◌∷◌, ◌++◌, All, Option, None, Some, length}
 use Rattle.std.proofs.Common.{get_or, sum_by, arith, rules, refl, sym, ap, ap₂, subst, inl, inr, ◌⊎◌}
 use Rattle.std.specs.Prelude.{IfNone, IfSome}
@@ -33,7 +34,7 @@ use Rattle.cpg_expand.specs.Large.{ShowsLarge}
 use Rattle.cpg_expand.specs.WideRows.{AreFewIf, DoTablesFit, HaveWideRows, IsLoadIf, row_load, rows_load}
 use Rattle.cpg_expand.proofs.RowsMade.{rows_more}
 
--- sums of equal numbers are equal
+-- if two functions agree on all numbers below n, their sums over these are equal
 same_sum : (f h : ℕ → ℕ) (n : ℕ) → ((x : ℕ) → x < n → f x ≡ h x) →
     sum_by f (numbers_below n) ≡ sum_by h (numbers_below n)
 same_sum f h n same = omega (
@@ -42,8 +43,8 @@ same_sum f h n same = omega (
   sum_by-le_each h f (numbers_below n) (λ x c. let e = same x (numbers-Contains n x c) in omega (arith, e)),
 )
 
--- given: rows of the first n items, and one more
--- `rows`, `n`, `long`: the rows of the first n items; `more`, `row`, `is`: those with one more row
+-- given: the rows of the first n items, and a row of the next one
+-- `rows`, `n`, `long`: the rows; `row`, `more`, `is`: the next row, and the rows with it
 module _ (g : Graph) (rows more : List Row) (row : Row) (n : ℕ) (long : length rows ≡ n)
     (is : more ≡ rows ++ row ∷ []) where
   -- each of the first n items keeps its row
@@ -54,18 +55,19 @@ module _ (g : Graph) (rows more : List Row) (row : Row) (n : ℕ) (long : length
   row_last : row_for more n ≡ row
   row_last = ap₂ row_for is (sym long) ∙ get_or-append_seam rows row [] no_row
 
-  -- a row more adds its columns, times the rows that its item has in tables, to the load
+  -- with the next row the load grows by the row's columns, times the rows that its item has in the tables
   pub load_more : rows_load g more (n + 1) ≡ rows_load g rows n + length row.columns * rows_of_item g (item_at g n)
   load_more = ap (sum_by (row_load g more)) (below_push n) ∙ sum_by_push (row_load g more) (numbers_below n) n
       ∙ ap₂ ◌+◌ (same_sum (row_load g more) (row_load g rows) n
       (λ x l. ap (λ (r : Row). length r.columns * rows_of_item g (item_at g x)) (row_before x l)))
       (ap (λ (r : Row). length r.columns * rows_of_item g (item_at g n)) row_last)
 
-  -- a list of one row that isn't too wide has no row that is
+  -- if a row isn't too wide, none in the list of it alone is
   one_few : length row.columns ≤ MOST_COLUMNS → All (λ (r : Row). length r.columns ≤ MOST_COLUMNS) (row ∷ [])
   one_few h = search rules
 
-  -- if the row is within the limits, the rows with it are still few
+  -- if the rows and the next row with its load are within the limits, the rows with it are too; where no item is too
+  -- wide, nothing is asked
   pub few_more : (wide : Option ℕ) (load sum : ℕ) → AreFewIf wide g rows n load → IsLoadIf wide g row n load sum →
       AreFewIf wide g more (n + 1) sum
   few_more None load sum a new = tt
@@ -76,13 +78,13 @@ module _ (g : Graph) (rows more : List Row) (row : Row) (n : ℕ) (long : length
     within = new.within;
   }
 
--- without rows there are no columns
+-- no rows are within the limits, and their load is 0
 pub few_first : (wide : Option ℕ) (g : Graph) (rows : List Row) → length rows ≡ 0 → AreFewIf wide g rows 0 0
 few_first None g rows none = tt
 few_first (Some item) g rows none =
     record { few = λ i d l. absurd (omega (arith, l, none)); is = refl; within = omega arith }
 
--- if all rows are made, they are few
+-- once all rows are made and within the limits, they fit
 pub few_all : (wide : Option ℕ) (g : Graph) (rows : List Row) (n load : ℕ) → n ≡ item_count g →
     AreFewIf wide g rows n load →
     IfSome wide (λ item. DoRowsFit g rows)
@@ -90,13 +92,14 @@ few_all None g rows n load end a = tt
 few_all (Some item) g rows n load end a =
     record { few = a.few; loads = subst (λ m. rows_load g rows m ≤ MOST_LOAD) end (omega (arith, a.is, a.within)) }
 
--- a fault for too many columns with one row more is one for the rows that are too wide
+-- if the next row has too many columns, or the load is too large with it, the graph's rows are too wide
 pub wide_rows : (g : Graph) (urgency : List ℕ) (times : List (TreeState (Option ℕ))) (rows : List Row) (row : Row)
     (n item load : ℕ) → n < item_count g →
     AreFirstRows g urgency times n rows →
     IsRowOf g urgency (get_or times n (no_tree g.faults)) n row → AreFewIf (Some item) g rows n load →
     (MOST_COLUMNS < length row.columns) ⊎ (MOST_LOAD < load + length row.columns * rows_of_item g (item_at g n)) →
     HaveWideRows g urgency times
+-- the row itself is too wide, or the rows with it have too large a load together
 wide_rows g urgency times rows row n item load l made new few (inl many) =
     inl (record { item = n; within = l; row = row; made = new; many = many })
 wide_rows g urgency times rows row n item load l made new few (inr many) = inr (record {
@@ -107,7 +110,7 @@ wide_rows g urgency times rows row n item load l made new few (inr many) = inr (
   many = omega (arith, many, few.is, load_more g rows (rows ++ row ∷ []) row n made.count refl);
 })
 
--- a fault for a row of too many columns, or for too large a load with it, is one for rows that are too wide
+-- so a fault that is shown by such a row or load is shown by rows that are too wide
 pub wide_shown : (wide : Option ℕ) (fault : BuildFault) (g : Graph) (urgency : List ℕ)
     (times : List (TreeState (Option ℕ))) (rows : List Row) (row : Row) (n load : ℕ) →
     n < item_count g →
@@ -118,11 +121,11 @@ pub wide_shown : (wide : Option ℕ) (fault : BuildFault) (g : Graph) (urgency :
     ShowsLarge wide (HaveWideRows g urgency times) fault
 wide_shown None fault g urgency times rows row n load l made new few h = none_shown fault h
   where
-    -- what is excluded: a name where there is none
+    -- no item isn't some item
     no_name : (x : ℕ) → None ≡ Some x → ⊥
     no_name x e = cc
 
-    -- if there is no item to name, only a fault of memory is left, and that names none
+    -- where there is no item to name, only running out of memory can be shown, and that names none
     none_shown : (fault : BuildFault) →
         ShowsLarge None ((MOST_COLUMNS < length row.columns) ⊎
         (MOST_LOAD < load + length row.columns * rows_of_item g (item_at g n))) fault →
@@ -135,13 +138,13 @@ wide_shown (Some item) OutOfMemory g urgency times rows row n load l made new fe
 
 -- ---- tables of rows
 
--- given: rows that are found for an order
+-- given: rows that are found for an order of an admitted graph
 -- `order`, `frozen`, `rows`, `found`: the rows found for an order and its frozen times; `limits`, `admitted`: the
--- graph's
+-- graph is within the limits, and admitted with that order
 module _ (g : Graph) (urgency order : List ℕ) (frozen : List (Option ℕ)) (rows : List Row) (limits : IsWithinLimits g)
     (admitted : Admitted g urgency order)
     (found : AreRowsFound g urgency order frozen rows) where
-  -- if nothing is too wide, they fit
+  -- the rows fit if no item is too wide, or if they are known to fit where one is
   pub rows_fit : (wide : Option ℕ) → IsWidth g order wide → IfSome wide (λ item. DoRowsFit g rows) → DoRowsFit g rows
   rows_fit None narrow few =
       found_rows_fit g urgency order frozen rows limits admitted found (none_too_wide g order narrow)
@@ -162,14 +165,14 @@ tables_fit g rows tables long fits written = record {
   );
 }
 
--- the least item that is too wide, or none
+-- what is the least item that is too wide if there is one, and otherwise shows that none is, is the graph's width
 pub width_of : (g : Graph) (order : List ℕ) (wide : Option ℕ) → IfSome wide (IsLeastWide g order) →
     IfNone wide (IsNarrow g order) →
     IsWidth g order wide
 width_of g order None some none = none
 width_of g order (Some x) some none = some
 
--- what is named is the least item that is too wide
+-- a fault that the width shows names the least item that is too wide
 pub named_least : (A : Type 0) (g : Graph) (order : List ℕ) (wide : Option ℕ) (fault : BuildFault) →
     IsWidth g order wide →
     ShowsLarge wide A fault →
@@ -177,7 +180,7 @@ pub named_least : (A : Type 0) (g : Graph) (order : List ℕ) (wide : Option ℕ
 named_least A g order wide (TooWide x) is h = (subst (IsWidth g order) h.0 is, h.1)
 named_least A g order wide OutOfMemory is h = tt
 
--- if none is, nothing is named
+-- where no item is too wide, no such fault names an item
 pub narrow_unnamed : (A : Type 0) (g : Graph) (order : List ℕ) (fault : BuildFault) (x : ℕ) → IsNarrow g order →
     fault ≡ TooWide x → ShowsBuildFault (λ y. IsLeastWide g order y × A) fault → ⊥
 narrow_unnamed A g order fault x narrow is h =

@@ -5,7 +5,8 @@ use Rattle.cpg_base.specs.Activity.{item_active}
 use Rattle.cpg_base.specs.Scenario.{Scenario, IsScenario}
 use Rattle.cpg_tree.specs.Tree.{Path, TreeState, IsOnPath}
 
--- a tree that says in each scenario whether an item is active
+-- The tree says in each scenario of the graph whether item x is active: that is the value (`path.1`) of the path that
+-- the scenario is on.
 abbrev pub IsActivityOf : Graph → ℕ → TreeState Bool → Type 0
 IsActivityOf g x t = (s : Scenario) (path : Path Bool) → IsScenario g s → IsOnPath t.paths s path →
     path.1 ≡ item_active g s.values (item_at g x)

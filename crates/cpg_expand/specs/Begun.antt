@@ -1,4 +1,5 @@
--- What is found of a process before it sends.
+-- What is found of a process before its items are sent: where it is active, its start, its end, and when its node goes
+-- on.
 use Rattle.std.specs.Prelude.{ℕ, ◌≡◌, ◌⊎◌, Bool, true, false, List, Option, slice_set}
 use Rattle.cpg_base.specs.Graph.{Graph, process_at, node_of, inputs, is_frozen}
 use Rattle.cpg_base.specs.Order.{place}
@@ -16,25 +17,27 @@ use Rattle.cpg_expand.specs.Waited.{IsReadyIfWaited}
 use Rattle.cpg_expand.specs.Waiting.{IsWaitTree}
 use Rattle.cpg_expand.specs.declared.forest.Ready.{Ready}
 
--- Where the process is active, its start and its end; and, if a later process waits for that, when its node goes on
--- after it. `how` says what the start follows from.
+-- Process p has begun: the forest `old` has become `new`, which has its start, its end and when its node goes on.
+-- `chooser` says where p is active; `how chooser start` says what the start follows from, which differs for frozen
+-- processes.
 pub record IsBegunBy (how : TreeState Bool → TreeState (Option ℕ) → Type 0) (g : Graph) (order : List ℕ)
     (p : ℕ) (guard : Guard)
     (old new : ForestState) (chooser : TreeState Bool) : Type 0 where
-  -- where the process is active
+  -- `chooser` is true where the guard leads to an active leaf
   pub chooser_tree : IsTree g chooser
   pub actives : IsActiveTree g.faults guard chooser
-  -- its start, which follows as `how` says
+  -- the times of its start, which follow as `how` says
   pub start : TreeState (Option ℕ)
   pub starts : how chooser start
-  -- its end
+  -- the times of its end
   pub end : TreeState (Option ℕ)
   pub ends : IsEndTree g p start end
-  -- when its node goes on after it, which is made only if a later process waits for that
+  -- from when on its node is ready after p: a tree, or p's ends; what this says counts only if a later process that
+  -- isn't frozen waits for it
   pub ready : Ready
   pub ready_after : IsReadyAfter g p ready
   pub readies : IsReadyIfWaited g order old p guard chooser end (goes_on end ready)
-  -- each of these is put in its place; the other trees stay
+  -- the start, the end and the node's `ready` take their places; the trees of slots and the item to name stay
   pub is : new ≡ record {
     times = slice_set old.times p start;
     ends = slice_set old.ends p end;
@@ -43,34 +46,38 @@ pub record IsBegunBy (how : TreeState Bool → TreeState (Option ℕ) → Type 0
     wide = old.wide;
   }
 
--- a start that waits for all that the process waits for in each scenario
+-- The start of a process that isn't frozen: in each scenario it waits for its release, its inputs, its node, and what
+-- its node hears.
 pub record IsThawedStart (g : Graph) (p : ℕ) (f : ForestState) (guard : Guard)
     (start : TreeState (Option ℕ)) : Type 0 where
-  -- until when the process waits on its node: that is ready, and has heard what the guard tests
+  -- the time at which the node is ready and has heard the conditions that the guard tests
   pub wait : TreeState ℕ
   pub waits : IsWaitTree g f (node_of g p) guard wait
-  -- the starts after that, the release and the inputs
+  -- the start is the latest of that wait, the release and the inputs
   pub is : IsStartTree g f wait (process_at g p).release (inputs g p) guard start
 
--- the same, in the form that `IsBegunBy` takes
+-- `IsThawedStart` in the form that `IsBegunBy` takes; the chooser doesn't count, since the guard says where p is
+-- active
 abbrev pub thawed_start : Graph → ℕ → ForestState → Guard → TreeState Bool → TreeState (Option ℕ) → Type 0
 thawed_start g p f guard chooser start = IsThawedStart g p f guard start
 
--- a frozen start, at the latest time of all scenarios
+-- The start of a frozen process: one time, the latest that any scenario asks for. `before` and `after` are the frozen
+-- times without p's and with it.
 pub record IsFrozenStart (g : Graph) (order : List ℕ) (guards : Guards) (p : ℕ) (f : ForestState)
     (before after : List (Option ℕ))
     (chooser : TreeState Bool) (start : TreeState (Option ℕ)) : Type 0 where
-  -- the place from which on the processes before p on its node have to be looked at
+  -- the first place whose processes are looked at: what stands before it on p's node has ended by then
   pub from : ℕ
   pub cut : IsCut g order guards (node_of g p) (place order p) from
-  -- the latest start that any scenario has, if the process is ever active
+  -- the latest start over all scenarios; `None` if p is never active
   pub latest : Option ℕ
   pub top : IsLatestStart g order guards f (node_of g p) from (place order p) (process_at g p).release
       (inputs g p) chooser latest
-  -- that time is set, and the tree has it wherever the process is active
+  -- that time is p's frozen time, and the tree has it wherever p is active
   pub frozen : IsFrozenBy p latest chooser before after start
 
--- the start of a process: by all that it waits for if it is not frozen, and at the latest time if it is
+-- The start of a process. If it isn't frozen, it waits in each scenario for what that one asks, and the frozen times
+-- stay. If it is frozen, it has the latest time, which is added to the frozen times.
 abbrev pub any_start : Graph → List ℕ → Guards → ℕ → ForestState → List (Option ℕ) → List (Option ℕ) → TreeState Bool →
     TreeState (Option ℕ) → Type 0
 any_start g order guards p f before after chooser start =
@@ -78,17 +85,17 @@ any_start g order guards p f before after chooser start =
     ((is_frozen g p ≡ true) ×
     IsFrozenStart g order guards p f before after chooser start)
 
--- a process that is not frozen has begun
+-- process p, which isn't frozen, has begun
 abbrev pub IsBegunThawed : Graph → List ℕ → ℕ → Guard → ForestState → ForestState → TreeState Bool → Type 0
 IsBegunThawed g order p guard old new chooser = IsBegunBy (thawed_start g p old guard) g order p guard old new chooser
 
--- a frozen process has begun
+-- the frozen process p has begun
 abbrev pub IsBegunFrozen : Graph → List ℕ → Guards → ℕ → ForestState → ForestState → List (Option ℕ) → List (Option ℕ) →
     TreeState Bool → Type 0
 IsBegunFrozen g order guards p old new before after chooser =
     IsBegunBy (IsFrozenStart g order guards p old before after) g order p (tree_of guards p) old new chooser
 
--- a process has begun, frozen or not
+-- process p has begun, frozen or not
 abbrev pub IsBegun : Graph → List ℕ → Guards → ℕ → ForestState → ForestState → List (Option ℕ) → List (Option ℕ) →
     TreeState Bool → Type 0
 IsBegun g order guards p old new before after chooser =

@@ -1,4 +1,4 @@
--- Rows of all items under an order, and the tables that are assembled of them.
+-- The rows of all items under an order, and the tables that are assembled from them.
 use Rattle.std.specs.Prelude.{ℕ, ◌≡◌, List}
 use Rattle.cpg_base.specs.Graph.{Graph}
 use Rattle.cpg_table.specs.Lawful.{Tables}
@@ -8,18 +8,21 @@ use Rattle.cpg_run.specs.Finish.{IsWorst, IsExcess}
 use Rattle.cpg_run.specs.Found.{AreRowsFound, DoRowsFit}
 use Rattle.cpg_expand.specs.declared.built_rows.BuiltRows.{BuiltRows}
 
--- The rows are those of the order's runs, with the frozen times and the measures. No row has too many columns, nor have
--- all rows of all tables together.
+-- The rows are those of the order's runs, beside its frozen times and measures, and none exceeds the limits of
+-- columns.
 pub record AreBuiltRows (g : Graph) (urgency order : List ℕ) (r : BuiltRows) : Type 0 where
+  -- they are of this order
   pub same : r.order ≡ order
-  -- they are the rows that are found under the order and these frozen times
+  -- each row is found under the order and these frozen times
   pub found : AreRowsFound g urgency order r.frozen r.rows.items
+  -- no row has too many columns, nor have the rows of all tables together
   pub fit : DoRowsFit g r.rows.items
-  -- the greatest finish and the greatest excess, each with its least scenario and process
+  -- `worst` is the greatest finish and `excess` the greatest excess, each with the least scenario that has it and the
+  -- least process that has it there; an excess of 0 has no process
   pub worst : IsWorst g urgency order r.frozen r.worst.time r.worst.scenario r.worst.process
   pub excess : IsExcess g urgency order r.frozen r.excess.time r.excess.scenario r.excess.process
 
--- tables, with the frozen times and the measures of the rows
+-- the tables t beside the frozen times and the measures of the rows r
 abbrev pub built_of : BuiltRows → Tables → Built
 built_of r t = record {
   tables = t;
@@ -32,9 +35,9 @@ built_of r t = record {
   excess_by = r.excess.process;
 }
 
--- these are tables of the rows, with the frozen times and the measures of them
+-- b has tables of the rows r, and their frozen times and measures
 pub record IsAssembledOf (g : Graph) (r : BuiltRows) (b : Built) : Type 0 where
-  -- the tables have just these rows
+  -- the tables have these rows and no others
   pub written : AreTablesWith g r.rows.items b.tables
-  -- the frozen times and the measures are those of the rows
+  -- all else of b is copied from r
   pub same : b ≡ built_of r b.tables

@@ -1,4 +1,5 @@
--- Trees down guards, where equal parts have one tree.
+-- Trees that are made down guards. A list of known guards has the tree of each part that is done, so equal parts share
+-- one tree.
 use Rattle.std.specs.Prelude.{ℕ, ◌≡◌, ◌<◌, List, [], ◌∷◌, ◌++◌, length, All}
 use Rattle.std.specs.List.{HoldsAt}
 use Rattle.cpg_base.specs.declared.activation.Activation.{Activation}
@@ -8,41 +9,43 @@ use Rattle.cpg_expand.specs.declared.descent.Source.{Source}
 use Rattle.cpg_expand.specs.declared.descent.Source.TheVariants.{At, Alone}
 use Rattle.cpg_expand.specs.declared.descent.KnownGuard.{KnownGuard}
 
--- the activation of each leaf has a fact
+-- the activation of each leaf of the guard has the fact
 abbrev pub AreLeaves : (Activation → Type 0) → Guard → Type 0
 AreLeaves fact (Leaf a) = fact a
 AreLeaves fact (Test c off on) = AreLeaves fact off × AreLeaves fact on
 
--- each known guard has a tree that is made and fits it
+-- the tree of each known guard has the fact `made`, and `fits` relates the guard to it
 abbrev pub AreKnown : {T : Type 0} → (TreeState T → Type 0) → (Guard → TreeState T → Type 0) → List (KnownGuard T) →
     Type 0
 AreKnown {T} made fits known = All (λ (k : KnownGuard T). made k.tree × fits k.guard.now k.tree) known
 
--- the list has the guard at this place
+-- the list has guard g at place i
 abbrev pub IsAt : {T : Type 0} → List (KnownGuard T) → ℕ → Guard → Type 0
 IsAt {T} known i g = (i < length known) × HoldsAt (λ (k : KnownGuard T). k.guard.now ≡ g) known i
 
--- what was at a place still is
+-- each guard that `old` has at a place is at the same place in `new`
 abbrev pub AreKept : {T : Type 0} → List (KnownGuard T) → List (KnownGuard T) → Type 0
 AreKept old new = (i : ℕ) (g : Guard) → IsAt old i g → IsAt new i g
 
--- what is found is there: a place is one of the list's
+-- the source, if it is a place of the list, is within the list
 abbrev pub IsThere : {T : Type 0} → List (KnownGuard T) → Source T → Type 0
 IsThere known (At i) = i < length known
 IsThere known (Alone t) = Unit {0}
 
--- the tree that is found: the one at a place of the list, or one that stands alone
+-- r is the tree that the source names: the one at its place in the list, or its own
 abbrev pub IsTreeOf : {T : Type 0} → List (KnownGuard T) → Source T → TreeState T → Type 0
 IsTreeOf {T} known (At i) r = HoldsAt (λ (k : KnownGuard T). r ≡ k.tree) known i
 IsTreeOf known (Alone t) r = r ≡ t
 
--- what is found for a guard: its place in the list, or a tree of its own that is made and fits it
+-- The source is right for guard g: it is a place at which the list has g, or a tree of its own that is made and fits
+-- g.
 abbrev pub IsFound : {T : Type 0} → (TreeState T → Type 0) → (Guard → TreeState T → Type 0) → List (KnownGuard T) →
     Guard → Source T → Type 0
 IsFound made fits known g (At i) = IsAt known i g
 IsFound made fits known g (Alone t) = made t × fits g t
 
--- a guard and its tree are added at the end of the list, or the tree is given back and the list stays
+-- What adding a guard with its tree did. At a place: the list has grown by the two, and the place is the last. Alone:
+-- the list stays, and the tree is handed back.
 abbrev pub IsAdded : {T : Type 0} → List (KnownGuard T) → List (KnownGuard T) → Guard → TreeState T → Source T → Type 0
 IsAdded {T} old new g tree (At i) =
     (i ≡ length old) × (k : KnownGuard T) × (new ≡ old ++ (k ∷ [])) × (k.guard.now ≡ g) × (k.tree ≡ tree)

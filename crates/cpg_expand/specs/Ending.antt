@@ -1,4 +1,4 @@
--- Trees of ends, and of when a node goes on.
+-- Trees of the ends of a process, and of when its node is ready after it.
 use Rattle.std.specs.Prelude.{ℕ, ◌+◌, ◌≡◌, Bool, true, false, List, [], ◌∷◌, ◌++◌, map, Option}
 use Rattle.cpg_base.specs.Duration.{duration}
 use Rattle.cpg_base.specs.Graph.{Graph}
@@ -16,31 +16,32 @@ use Rattle.cpg_tree.specs.Later.{time_later}
 use Rattle.cpg_expand.specs.declared.forest.Ready.{Ready}
 use Rattle.cpg_expand.specs.declared.forest.Ready.TheVariants.{After, At}
 
--- how long an execution lasts with no fault, with one, and so on
+-- how long an execution of p lasts with 0, 1, .. k faults, by their number
 abbrev pub durations_of : Graph → ℕ → List ℕ
 durations_of g p = map (duration g p) (numbers_below (g.faults + 1))
 
--- the ends of a process: in each scenario the start and the duration with its count of faults, by the literals of the
--- start and the count's
+-- The ends of process p: in each scenario its start and the duration with its fault count there, or none if it doesn't
+-- start. The end is known by the literals of the start and that of the count.
 abbrev pub IsEndTree : Graph → ℕ → TreeState (Option ℕ) → TreeState (Option ℕ) → Type 0
 IsEndTree g p start t = (s : Scenario) → HasAtMostFaults g.faults s → (literals : List Literal) (x : Option ℕ) →
     HasValueFrom s literals x start →
     HasValueFrom s (literals ++ number_known s p ∷ []) (ended (durations_of g p) (number_of s p) x) t
 
--- when a node is ready after a process: at its end in scenarios in which it is active, and else when the wait is over.
--- `first`, `second`: what the chooser says, and the tree that it picks
+-- When a node is ready after a process: at the process's end if it is active, and otherwise when what it would have
+-- waited for is there. `first` says whether it is active, `second` what the tree says that is read then; `v` is the
+-- time.
 abbrev pub IsReadyTree : ℕ → TreeState Bool → TreeState (Option ℕ) → TreeState ℕ → TreeState ℕ → Type 0
 IsReadyTree k active end wait t = (s : Scenario) → HasAtMostFaults k s →
     (b : Bool) (first second : List Literal) (x : Option ℕ) (w v : ℕ) → HasValueFrom s first b active →
     (b ≡ true → HasValueFrom s second x end × (v ≡ time_later 0 x)) →
     (b ≡ false → HasValueFrom s second w wait × (v ≡ w)) → HasValueFrom s (first ++ second) v t
 
--- from when on a node is ready after a process: by its ends or by a tree
+-- what says when p's node is ready after p: p's own ends, or a tree of the graph
 abbrev pub IsReadyAfter : Graph → ℕ → Ready → Type 0
 IsReadyAfter g p (After q) = q ≡ p
 IsReadyAfter g p (At t) = IsTree g t
 
--- the tree of when a node goes on: the ends, read as times, or a tree of its own
+-- the tree of when a node goes on: the ends `end`, with 0 where there is none, or the tree that was made for it
 abbrev pub goes_on : TreeState (Option ℕ) → Ready → TreeState ℕ
 goes_on end (After q) = later_tree end
 goes_on end (At t) = t

@@ -1,4 +1,4 @@
--- The trees that are found along an order.
+-- The trees that are found process by process along an order, each of which tells a time in every scenario.
 use Rattle.std.specs.Prelude.{ℕ, ◌≡◌, ◌==◌, List, [], Option, length, get_or, All, ◌<◌, if◌then◌else◌}
 use Rattle.cpg_base.specs.Bus.{slot_length}
 use Rattle.cpg_base.specs.Graph.{Graph, process_count, item_count, node_of, source, process_of, is_message}
@@ -9,16 +9,16 @@ use Rattle.cpg_tree.specs.GraphTrees.{IsTree, no_tree}
 use Rattle.cpg_expand.specs.declared.forest.Ready.{Ready}
 use Rattle.cpg_expand.specs.declared.forest.Ready.TheVariants.{After, At}
 
--- the trees that are grown along an order
+-- the trees so far
 pub record ForestState : Type 0 where
-  -- the times of each item
+  -- for each item, when it starts or is sent; `None` where it doesn't
   pub times : List (TreeState (Option ℕ))
-  -- the ends of each process
+  -- for each process, when it ends; `None` where it isn't active
   pub ends : List (TreeState (Option ℕ))
-  -- from when on each node is ready, and its slots are free
+  -- for each node, from when on it is ready for its next process, and from when on its slots are free
   pub ready : List Ready
   pub free : List (TreeState ℕ)
-  -- the item to name if a tree on the way has too many leaves
+  -- the item that a fault names if a tree has too many leaves; with `None` leaves aren't counted
   pub wide : Option ℕ
 
 -- what says when a node is ready is of the graph: one of its processes, or a tree
@@ -26,38 +26,38 @@ abbrev pub IsWait : Graph → Ready → Type 0
 IsWait g (After q) = q < process_count g
 IsWait g (At t) = IsTree g t
 
--- what says when a node is ready: the ends of a process, or a tree
+-- What says from when on a node is ready: the ends of a process (`After`), or a tree of its own (`At`).
 abbrev pub ready_at : Graph → ForestState → ℕ → Ready
 ready_at g f node = get_or f.ready node (At (no_tree g.faults))
 
--- a forest of a graph has a tree for each item, each process and each node
+-- the forest has a tree for each item, each process and each node of the graph
 pub record HasTrees (g : Graph) (f : ForestState) : Type 0 where
-  -- there are as many as items, processes and nodes
+  -- one for each item, each process and each node
   pub times : length f.times ≡ item_count g
   pub ends : length f.ends ≡ process_count g
   pub ready : length f.ready ≡ length g.nodes
   pub free : length f.free ≡ length g.nodes
-  -- each is a tree of the graph, or a process of it
+  -- each is a tree over the graph's scenarios; `ready` may name a process instead
   pub all_times : All (IsTree g) f.times
   pub all_ends : All (IsTree g) f.ends
   pub all_ready : All (IsWait g) f.ready
   pub all_free : All (IsTree g) f.free
-  -- a node that is ready after a process has that process
+  -- if a node is ready after process q, then q is on that node
   pub own : (node q : ℕ) → node < length g.nodes → ready_at g f node ≡ After q → node_of g q ≡ node
 
--- the tree of an item's times
+-- the tree of the times of item x
 abbrev pub times_of : Graph → ForestState → ℕ → TreeState (Option ℕ)
 times_of g f x = get_or f.times x (no_tree g.faults)
 
--- the tree of a process's ends
+-- the tree of the ends of process p
 abbrev pub ends_of : Graph → ForestState → ℕ → TreeState (Option ℕ)
 ends_of g f p = get_or f.ends p (no_tree g.faults)
 
--- the times of a tree read as numbers, 0 where there is none
+-- the tree with plain times: 0 where t has none
 abbrev pub later_tree : TreeState (Option ℕ) → TreeState ℕ
 later_tree t = later_by 0 t
 
--- the tree of when a node is ready: the ends of a process, read as times, or a tree of its own
+-- the tree that says when a node is ready: the ends of process q, with 0 where it has none, or a tree of its own
 abbrev pub ready_by : Graph → ForestState → Ready → TreeState ℕ
 ready_by g f (After q) = later_tree (ends_of g f q)
 ready_by g f (At t) = t

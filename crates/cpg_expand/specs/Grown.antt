@@ -24,34 +24,38 @@ use Rattle.cpg_expand.specs.Waiting.{ready_of, free_of}
 use Rattle.cpg_expand.specs.declared.forest.Ready.{Ready}
 use Rattle.cpg_expand.specs.declared.forest.Ready.TheVariants.{After, At}
 
--- rows that hold, for each item that a process before the place i sends, the columns that its tree lists
+-- The rows hold what the trees list: for each item that is sent by a process before the place i, the cube of each path
+-- with a time is that of a column of the item's row.
 pub record RowsHold (g : Graph) (order : List ℕ) (i : ℕ) (f : ForestState) (rows : List (List Column)) : Type 0 where
-  -- some column of the item's row has the cube of each path that has a time
+  -- `path.0` is the path's cube, `path.1` its value
   pub sends : (x : ℕ) → x < item_count g → process_count g ≤ x → place order (producer g x) < i →
       (path : Path (Option ℕ)) (time : ℕ) →
       Contains (times_of g f x).paths path → path.1 ≡ Some time →
       (c : Column) × Contains (row_at rows x) c × (c.cube ≡ path.0)
 
--- a tree says when a node is ready, and its path says no more than what the node carries on
+-- In scenario s, with its run t, the tree says when the node is ready for the place i, and its path says no more than
+-- what the node carries on.
 pub record IsReadyLine (g : Graph) (order : List ℕ) (rows : List (List Column)) (s : Scenario) (t : Times) (i node : ℕ)
     (tree : TreeState ℕ) : Type 0 where
-  -- when the node is ready in the run
+  -- `time` is the first by which the node's active processes before the place i have ended and it has heard what
+  -- decides any of them
   pub time : ℕ
   pub is : IsReady g order s t i node time
-  -- the tree gives that time, by no more than what the node carries on
+  -- the tree has this time, on a path that follows from what the node carries on from those processes
   pub has_value : HasValueFrom s (flat_map (passed g rows s) (on_node g order i node)) time tree
 
--- a tree says when the node's slots are free, and its path says no more than what is sent leaves to those behind it
+-- In scenario s, with its run t, the tree says when the node's slots are free for processes at the place i or later,
+-- and its path says no more than what the node's items leave to those behind them.
 pub record IsFreeLine (g : Graph) (order : List ℕ) (rows : List (List Column)) (s : Scenario) (t : Times) (i node : ℕ)
     (tree : TreeState ℕ) : Type 0 where
-  -- when its slots are free in the run
+  -- `time` is a round after the last of what the node sends for processes before the place i, or 0 if it sends nothing
   pub time : ℕ
   pub is : IsFree g order s t i node time
-  -- the tree gives that time, by no more than what is sent leaves to those behind it
+  -- the tree has this time, on a path that follows from what those items leave to the ones behind them
   pub has_value : HasValueFrom s (flat_map (queued g order rows s) (sent_before g order i node)) time tree
 
--- in one scenario with its run the trees give the times and ends before the place i, and, if something waits for
--- that, when nodes are ready and slots are free there
+-- In scenario s, with its run t, the trees give all times of processes before the place i. They say when nodes are
+-- ready and slots are free there as far as something at the place i or later waits for it.
 pub record Lines (g : Graph) (order : List ℕ) (rows : List (List Column)) (s : Scenario) (t : Times) (i : ℕ)
     (f : ForestState) : Type 0 where
   -- the times of items of earlier processes
@@ -67,16 +71,17 @@ pub record Lines (g : Graph) (order : List ℕ) (rows : List (List Column)) (s :
   pub free : (node : ℕ) → node < length g.nodes → IsQueuedFor g order i node →
       IsFreeLine g order rows s t i node (free_of g f node)
 
--- an item of a process before the place i
+-- item x is of a process before the place i: its start, or what it sends
 abbrev pub IsEarlier : Graph → List ℕ → ℕ → ℕ → Type 0
 IsEarlier g order i x = place order (producer g x) < i
 
--- one of an earlier process, the start of this one, or one of the first k of what it sends
+-- item x is done once p has begun and sent the first k items of its queue: it is of an earlier process, it is the
+-- start of p, or one of those k
 abbrev pub IsDone : Graph → List ℕ → ℕ → ℕ → ℕ → Type 0
 IsDone g order p k x = IsEarlier g order (place order p) x ⊎ ((x ≡ p) ⊎ Contains (take k (queue_of g p)) x)
 
--- the trees give the times of all processes before one, of its start and its end, and of the first k items that it
--- sends
+-- In scenario s, with its run t, the trees give the times of what is done (`IsDone`), once p has begun and sent its
+-- first k items.
 pub record SendLines (g : Graph) (order : List ℕ) (rows : List (List Column)) (s : Scenario) (t : Times) (p k : ℕ)
     (f : ForestState) : Type 0 where
   -- the times of what is done
@@ -94,59 +99,60 @@ pub record SendLines (g : Graph) (order : List ℕ) (rows : List (List Column)) 
   pub free : (node : ℕ) → node < length g.nodes → node ≢ node_of g p → IsQueuedFor g order (place order p) node →
       IsFreeLine g order rows s t (place order p) node (free_of g f node)
 
--- the frozen items of these have their frozen times, and no other item has one
+-- the frozen times are settled for the items that are `Done`: the frozen ones of them have theirs, and no other item
+-- has one
 pub record AreSettledOf (g : Graph) (order : List ℕ) (Done : ℕ → Type 0) (frozen : List (Option ℕ)) : Type 0 where
   -- there is an entry for each item
   pub count : length frozen ≡ item_count g
-  -- a frozen item that is done has the greatest time that it would have
+  -- a frozen item that is done has the greatest time that it would have in any scenario
   pub each : (x : ℕ) → x < item_count g → is_frozen g x ≡ true → Done x → IsFrozenTime g order frozen x
-  -- any other item has none
+  -- any other item has none: it isn't frozen, isn't done, or isn't an item
   pub others : (x : ℕ) → (x < item_count g → is_frozen g x ≡ true → Done x → ⊥) → get_or frozen x None ≡ None
   -- each frozen time is low, by a bound that grows with the place of its item in the order
   pub low : AreLow 0 g order frozen
 
--- an edge within a node has no times
+-- an item that is never sent, as an edge within a node, has no time in any scenario
 abbrev pub LeavesUnsent : Graph → ForestState → Type 0
 LeavesUnsent g f =
     (x : ℕ) → process_count g ≤ x → x < item_count g → is_sent g x ≡ false → IsConstant None g.faults (times_of g f x)
 
--- the trees are grown up to the place i
+-- the trees are grown up to the place i: those of the processes before it are made
 pub record IsGrown (g : Graph) (order : List ℕ) (i : ℕ) (frozen : List (Option ℕ)) (f : ForestState) : Type 0 where
   -- there is a tree of the graph for each item, process and node
   pub trees : HasTrees g f
   -- edges within a node have no times
   pub unsent : LeavesUnsent g f
-  -- the items of earlier processes have their frozen times, and no others
+  -- the frozen items of earlier processes have their frozen times, and no other item has one
   pub settled : AreSettledOf g order (IsEarlier g order i) frozen
-  -- in each scenario the trees give the run, for any rows that hold what they list
+  -- In each scenario the trees give its run, whatever the rows are, if they hold what the trees list.
   pub lines : (rows : List (List Column)) → RowsHold g order i f rows → (s : Scenario) → IsScenario g s → (t : Times) →
       IsRun g order frozen s t → Lines g order rows s t i f
 
--- the trees are grown up to a process that has begun and sent the first k of its items
+-- the trees are grown up to process p, which has begun and sent the first k items of its queue
 pub record IsSending (g : Graph) (order : List ℕ) (p k : ℕ) (frozen : List (Option ℕ)) (f : ForestState) : Type 0 where
-  -- a tree for each item, process and node, without times for what isn't sent
+  -- there is a tree for each item, process and node; what is never sent has no times
   pub trees : HasTrees g f
   pub unsent : LeavesUnsent g f
-  -- what is done has its frozen times, and nothing else has any
+  -- the frozen items that are done have their frozen times, and no other item has one
   pub settled : AreSettledOf g order (IsDone g order p k) frozen
-  -- in each scenario the trees give the run of what is done
+  -- in each scenario the trees give the times of what is done
   pub lines : (rows : List (List Column)) → RowsHold g order (place order p) f rows → (s : Scenario) → IsScenario g s →
       (t : Times) →
       IsRun g order frozen s t → SendLines g order rows s t p k f
 
--- a process whose place is next is gone over: the trees are grown up to the place behind it
+-- One step along the order: if the trees are grown up to the place of p, they become those up to the place behind it.
 abbrev pub IsGrownBy : Graph → List ℕ → ℕ → List (Option ℕ) → ForestState → List (Option ℕ) → ForestState → Type 0
 IsGrownBy g order p before old after new =
     IsTopological g order → IsGrown g order (place order p) before old → IsGrown g order (place order p + 1) after new
 
--- a node is ready from the beginning
+-- at the beginning a node waits for no process and is ready from time 0 on, in all scenarios of at most k faults
 abbrev pub IsReadyFirst : ℕ → Ready → Type 0
 IsReadyFirst k (After q) = ⊥
 IsReadyFirst k (At t) = IsConstant 0 k t
 
--- no item has times, and each node is ready and its slots are free from the beginning
+-- f is the forest at the beginning of an order, before any process
 pub record IsBare (g : Graph) (f : ForestState) : Type 0 where
-  -- no item has a time in any scenario, and nodes and slots are free from time 0 on
+  -- no item has a time in any scenario, and nodes and slots are free from time 0 on in all of them
   pub times : All (IsConstant None g.faults) f.times
   pub ready : All (IsReadyFirst g.faults) f.ready
   pub free : All (IsConstant 0 g.faults) f.free

@@ -1,4 +1,4 @@
--- What is found under an order before its tables are made.
+-- What is found under an order before its rows are made: trees, frozen times and measures.
 use Rattle.std.specs.Prelude.{ℕ, ◌≡◌, List, Option, Some, None}
 use Rattle.cpg_base.specs.Graph.{Graph, process_count}
 use Rattle.cpg_reach.specs.Wide.{IsLeastWide, IsNarrow}
@@ -7,19 +7,21 @@ use Rattle.cpg_run.specs.Frozen.{AreFrozenTimes}
 use Rattle.cpg_expand.specs.Grown.{IsGrown}
 use Rattle.cpg_expand.specs.declared.expanding.Grown.{Grown}
 
--- the least item that is too wide under an order, if there is one
+-- `None` says that no item is too wide by its views under the order; an item says that it is the least such one
 abbrev pub IsWidth : Graph → List ℕ → Option ℕ → Type 0
 IsWidth g order None = IsNarrow g order
 IsWidth g order (Some x) = IsLeastWide g order x
 
--- the trees of all processes under the order, which give its runs, with its excess and its finish
+-- `grown` is what is found under the order: its trees, frozen times and measures are right
 pub record IsGrownFor (g : Graph) (urgency order : List ℕ) (grown : Grown) : Type 0 where
+  -- it is of this order
   pub same : grown.order ≡ order
-  -- the least item that is too wide by its views, if one is
+  -- the least item that is too wide by its views, or `None` if none is
   pub wide : IsWidth g order grown.wide
-  -- the trees and frozen times of all processes
+  -- the trees and the frozen times are those of all processes
   pub trees : IsGrown g order (process_count g) grown.trees.frozen grown.trees.forest
   pub frozen : AreFrozenTimes g order grown.trees.frozen
-  -- the greatest finish and the greatest excess, each with its least scenario and process
+  -- `worst` is the greatest finish and `excess` the greatest excess, each with the least scenario that has it and the
+  -- least process that has it there; an excess of 0 has no process
   pub worst : IsWorst g urgency order grown.trees.frozen grown.worst.time grown.worst.scenario grown.worst.process
   pub excess : IsExcess g urgency order grown.trees.frozen grown.excess.time grown.excess.scenario grown.excess.process

@@ -33,7 +33,7 @@ PicksByValue {T} k c high low t = (s : Scenario) → HasAtMostFaults k s → (li
     HasValueFrom s literals x (if get_or s.values c false then high else low) →
     HasValueFrom s (value_known s c ∷ literals) x t
 
--- a tree that is true where a guard leads to an active leaf
+-- t is true where the guard leads to an active leaf, and false elsewhere
 abbrev pub IsActiveTree : ℕ → Guard → TreeState Bool → Type 0
 IsActiveTree k guard t = (s : Scenario) → HasAtMostFaults k s →
     HasValueFrom s (values_known s (way guard s.values)) (is_active (outcome_at guard s.values)) t
@@ -42,7 +42,7 @@ IsActiveTree k guard t = (s : Scenario) → HasAtMostFaults k s →
 abbrev pub is_tested : Guard → List Bool → ℕ → Bool
 is_tested guard o c = list_any (λ d. d == c) (way guard o)
 
--- a tree that is true where the guard tests the condition
+-- t is true where the guard tests the condition c on the way of the scenario, and false elsewhere
 abbrev pub IsTestedOn : ℕ → Guard → ℕ → TreeState Bool → Type 0
 IsTestedOn k guard c t = (s : Scenario) → HasAtMostFaults k s →
     HasValueFrom s (values_known s (way guard s.values)) (is_tested guard s.values c) t
@@ -67,7 +67,8 @@ IsHeardTree g f node guard t =
 abbrev pub AreThere : Graph → (ℕ → Option ℕ) → ℕ → List ℕ → Type 0
 AreThere g time ready edges = (e : ℕ) → Contains edges e → is_message g e ≡ false → time_later 0 (time e) ≤ ready
 
--- the starts of a scenario after a release and after these inputs are there, too, with other literals first
+-- In scenario s, `t` has the start after the wait, the release and the arrival of the inputs. It says the literals
+-- `first`, then those that the wait says, then those that the inputs say.
 -- `first`: literals known before; `wait`: when the node is ready; `edges`: the inputs; `base`, `support`: what the
 -- wait and each input say; `x`, `time`: when they are over
 abbrev pub StartsAfter : Graph → ForestState → Scenario → List Literal → TreeState ℕ → ℕ → List ℕ →
@@ -78,7 +79,7 @@ StartsAfter g f s first wait release edges t =
     HasValueFrom s (first ++ (base ++ flat_map support edges))
     (Some (max (max x release) (latest_of (input_delay g) time edges))) t
 
--- the starts after a release and after these inputs are there
+-- in each scenario, `t` has the start after the wait, the release and the arrival of the inputs, with no literals first
 abbrev pub IsStartAfter : Graph → ForestState → TreeState ℕ → ℕ → List ℕ → TreeState (Option ℕ) → Type 0
 IsStartAfter g f wait release edges t =
     (s : Scenario) → HasAtMostFaults g.faults s → StartsAfter g f s [] wait release edges t
@@ -119,8 +120,8 @@ IsStartBy g f wait release inputs a t =
     ((e : ℕ) → Contains (awaited inputs a) e → HasValueFrom s (support e) (time e) (input_tree g f e)) →
     HasValueFrom s (start_says base support inputs a) (start_at x release (input_delay g) time inputs a) t
 
--- the starts of a process with a guard: the literals are those of the guard's way and, if the process is active, those
--- of what it waits for
+-- t has the starts of a process with a guard: the literals are those of the guard's way and, if the process is active,
+-- those of what it waits for
 abbrev pub IsStartTree : Graph → ForestState → TreeState ℕ → ℕ → List ℕ → Guard → TreeState (Option ℕ) → Type 0
 IsStartTree g f wait release inputs guard t =
     (s : Scenario) → HasAtMostFaults g.faults s → (base : List Literal) (x : ℕ) → HasValueFrom s base x wait →
@@ -131,19 +132,19 @@ IsStartTree g f wait release inputs guard t =
     HasValueFrom s (values_known s (way guard s.values) ++ start_says base support inputs (outcome_at guard s.values))
     (start_at x release (input_delay g) time inputs (outcome_at guard s.values)) t
 
--- an activation that waits for all inputs, if it is one
+-- the activation waits for all inputs or is inactive: it names no input
 abbrev pub WaitsForAll : Activation → Type 0
 WaitsForAll Inactive = Unit {0}
 WaitsForAll Plain = Unit {0}
 WaitsForAll (By e) = ⊥
 
--- an activation by an input below a number, if by one
+-- if the activation names an input, its number is below n
 abbrev pub IsByBelow : ℕ → Activation → Type 0
 IsByBelow n Inactive = Unit {0}
 IsByBelow n Plain = Unit {0}
 IsByBelow n (By e) = e < n
 
--- each leaf's activation is by an input below a number, if by one
+-- if the activation of a leaf names an input, its number is below n
 abbrev pub LeadsBelow : ℕ → Guard → Type 0
 LeadsBelow n (Leaf a) = IsByBelow n a
 LeadsBelow n (Test c off on) = LeadsBelow n off × LeadsBelow n on

@@ -1,5 +1,5 @@
--- Trees that have too many leaves, if leaves are counted: what such a tree is of, and where along an order it is
--- made.
+-- Trees with too many leaves: what such a tree tells, and where along an order it is made. `Large` in a name says that
+-- a tree has more leaves than there may be; leaves are counted only if there is an item to name.
 use Rattle.std.specs.Prelude.{ℕ, ◌+◌, ◌≡◌, ◌<◌, ◌⊎◌, false, true, List, [], ◌∷◌, Option, Some, Contains, length}
 use Rattle.cpg_base.specs.Graph.{Graph, process_at, process_count, item_count, node_of, inputs, is_frozen, is_message}
 use Rattle.cpg_base.specs.Order.{place}
@@ -21,110 +21,122 @@ use Rattle.cpg_expand.specs.Waited.{IsQueuedFor, IsWaitedFor}
 use Rattle.cpg_expand.specs.Waiting.{IsWaitTree, free_of, ready_of}
 use Rattle.cpg_expand.specs.declared.bounding.TheConstants.{MOST_LEAVES}
 
--- more leaves than there may be
+-- the tree has more leaves than a tree may have
 abbrev pub IsLarge : {T : Type 0} → TreeState T → Type 0
 IsLarge t = MOST_LEAVES < length t.paths
 
--- a fault names the item that it has to name, and there is this cause
+-- `TooWide` is said only if there is an item `wide` to name and the cause `why`, and it names that item; `OutOfMemory`
+-- needs no cause
 abbrev pub ShowsLarge : Option ℕ → Type 0 → BuildFault → Type 0
 ShowsLarge wide why fault = ShowsBuildFault (λ x. (wide ≡ Some x) × why) fault
 
 -- ---- on the way to a start
 
--- a tree has too many leaves down a guard: for an activation that it leads to, or of a part of it
+-- On the way down a guard some tree has too many leaves: at a leaf one that `large` tells of, or at a test one that
+-- fits the part of the guard below it.
 abbrev pub IsLargeDown : {T : Type 0} → (Activation → Type 0) → (Guard → TreeState T → Type 0) → Guard → Type 0
 IsLargeDown large fits (Leaf a) = large a
 IsLargeDown {T} large fits (Test c off on) =
     IsLargeDown large fits off ⊎ (IsLargeDown large fits on ⊎ ((t : TreeState T) × fits (Test c off on) t × IsLarge t))
 
--- the tree of when a node has heard what a part of a guard tests has too many leaves
+-- some tree of when the node has heard all that a part of the guard tests has too many leaves
 abbrev pub IsLargeHeard : Graph → ForestState → ℕ → Guard → Type 0
 IsLargeHeard g f node guard = IsLargeDown (λ a. ⊥) (IsHeardTree g f node) guard
 
--- the tree of when a node is ready, or has heard what a guard tests, or both, has too many leaves
+-- one of three trees has too many leaves: when the node is ready, when it has heard what a part of the guard tests, or
+-- when both hold
 abbrev pub IsLargeWait : Graph → ForestState → ℕ → Guard → Type 0
 IsLargeWait g f node guard =
     IsLarge (ready_of g f node) ⊎
     (IsLargeHeard g f node guard ⊎ ((wait : TreeState ℕ) × IsWaitTree g f node guard wait × IsLarge wait))
 
--- the tree of when the wait is over and the first of these inputs are there, taken one by one, has too many leaves
+-- The tree of when the wait is over and the first few of these inputs are there has too many leaves. The inputs are
+-- taken one by one; those within the node add no tree, since they are there once it is ready.
 abbrev pub IsLargeWith : Graph → ForestState → TreeState ℕ → List ℕ → Type 0
 IsLargeWith g f wait [] = ⊥
 IsLargeWith g f wait (e ∷ es) = ((is_message g e ≡ false) × IsLargeWith g f wait es)
     ⊎ ((both : TreeState ℕ) × IsLatest g.faults wait (later_by (input_delay g e) (input_tree g f e)) both ×
     (IsLarge both ⊎ IsLargeWith g f both es))
 
--- the tree of the starts with a guard, or with a part of it, has too many leaves
+-- A tree on the way to the starts has too many leaves. If the process waits for all inputs in every outcome, they are
+-- taken once, before the guard; otherwise they are taken at each leaf, and starts are joined on the way up.
 abbrev pub IsLargeStart : Graph → ForestState → TreeState ℕ → ℕ → List ℕ → Guard → Type 0
 IsLargeStart g f wait release inputs guard = (AreLeaves WaitsForAll guard × IsLargeWith g f wait inputs)
     ⊎ IsLargeDown (λ a. IsLargeWith g f wait (awaited inputs a)) (IsStartTree g f wait release inputs) guard
 
--- the tree of a process's starts, or that of their ends, has too many leaves
+-- the tree of a process's starts has too many leaves, or that of its ends
 abbrev pub IsLargeEnd : Graph → ℕ → TreeState (Option ℕ) → Type 0
 IsLargeEnd g p start = IsLarge start ⊎ ((end : TreeState (Option ℕ)) × IsEndTree g p start end × IsLarge end)
 
--- the tree of the starts after a wait, or that of their ends, has too many leaves
+-- with this wait, the tree of the process's starts has too many leaves, or that of its ends
 abbrev pub IsLargeOf : Graph → ℕ → ForestState → Guard → TreeState ℕ → Type 0
 IsLargeOf g p f guard wait =
     (start : TreeState (Option ℕ)) × IsStartTree g f wait (process_at g p).release (inputs g p) guard start ×
     IsLargeEnd g p start
 
--- a tree has too many leaves after what a process waits for: that with its inputs, or that of its starts or its ends
+-- The wait is made, and a tree that is made from it has too many leaves: one of the wait with inputs, or that of the
+-- starts or the ends.
 pub record IsLargeAfter (g : Graph) (p : ℕ) (f : ForestState) (guard : Guard) : Type 0 where
   pub wait : TreeState ℕ
-  -- what the process waits for, once its node is ready and has heard what its guard tests
+  -- the tree of when p's node is ready and has heard what the guard tests
   pub waits : IsWaitTree g f (node_of g p) guard wait
-  -- with its inputs, or in its starts or ends
+  -- the large tree is on the way to the starts, or it is that of the starts or the ends
   pub large : IsLargeStart g f wait (process_at g p).release (inputs g p) guard ⊎ IsLargeOf g p f guard wait
 
--- a tree on the way to the start and the end of a process that is not frozen has too many leaves
+-- process p isn't frozen, and a tree on the way to its start and its end has too many leaves: one of its wait, or one
+-- after it
 abbrev pub IsLargeThawed : Graph → ℕ → ForestState → Guard → Type 0
 IsLargeThawed g p f guard = IsLargeWait g f (node_of g p) guard ⊎ IsLargeAfter g p f guard
 
--- a tree of what a frozen process would wait for has too many leaves, and a later process of its node waits
+-- Process p is frozen, and a tree of what it would wait for has too many leaves. Such a tree is made only if a later
+-- process of its node, which isn't frozen, waits for that node.
 abbrev pub IsLargeFrozen : Graph → List ℕ → ℕ → ForestState → Guard → Type 0
 IsLargeFrozen g order p f guard =
     IsWaitedFor g order (place order p + 1) (node_of g p) × IsLargeWait g f (node_of g p) guard
 
--- a tree has too many leaves on the way to the start and the end of a process
+-- a tree on the way to the start and the end of process p has too many leaves
 abbrev pub IsLargeBegun : Graph → List ℕ → Guards → ℕ → ForestState → Type 0
 IsLargeBegun g order guards p f =
     ((is_frozen g p ≡ false) × IsLargeThawed g p f (tree_of guards p)) ⊎
     ((is_frozen g p ≡ true) × IsLargeFrozen g order p f (tree_of guards p))
 
--- the tree of an item that a process sends has too many leaves
+-- process p sends an item whose tree of times has too many leaves
 pub record HasLargeSend (g : Graph) (p : ℕ) (f : ForestState) : Type 0 where
+  -- the item
   pub item : ℕ
+  -- the item is in p's queue
   pub sent : Contains (queue_of g p) item
+  -- its tree has too many leaves
   pub large : IsLarge (times_of g f item)
 
--- the tree of when the slots of a node are free has too many leaves, and an item of a process at the place i or later
--- waits for that
+-- an item that the node sends for a process at the place i or later waits for free slots, and their tree has too many
+-- leaves
 abbrev pub HasLargeFree : Graph → List ℕ → ℕ → ℕ → ForestState → Type 0
 HasLargeFree g order i node f = IsQueuedFor g order i node × IsLarge (free_of g f node)
 
--- once a process has sent, the tree of an item that it sends, or that of when its node's slots are free, has too many
--- leaves
+-- Process p has sent its items, and a tree that it leaves behind has too many leaves: that of an item it sends, or
+-- that of when its node's slots are free for later items.
 abbrev pub IsLargeLeft : Graph → List ℕ → ℕ → ForestState → Type 0
 IsLargeLeft g order p f = HasLargeSend g p f ⊎ HasLargeFree g order (place order p + 1) (node_of g p) f
 
 -- ---- along an order
 
--- a tree has too many leaves when the trees are grown up to the place i: that of the times of an item of an earlier
--- process, that of when the slots of a node are free, or one on the way to the start and the end of the process there
+-- The trees are grown up to the place i, and one has too many leaves: that of an item of an earlier process, that of
+-- when a node's slots are free, or one on the way to the start and the end of the process at the place i.
 abbrev pub IsLargeAt : Graph → List ℕ → Guards → ℕ → ForestState → Type 0
 IsLargeAt g order guards i f = ((x : ℕ) × (x < item_count g) × IsEarlier g order i x × IsLarge (times_of g f x))
     ⊎ (((node : ℕ) × (node < length g.nodes) × HasLargeFree g order i node f)
     ⊎ ((p : ℕ) × (p < process_count g) × (place order p ≡ i) × IsLargeBegun g order guards p f))
 
--- a tree has too many leaves somewhere along the order
+-- somewhere along the order a tree has too many leaves
 pub record HasLargeTree (g : Graph) (urgency order : List ℕ) : Type 0 where
+  -- the guards of the graph
   pub guards : Guards
-  -- the trees and frozen times are those up to the place `reached`
   pub are : AreGuardsOf g urgency guards
+  -- a place of the order, with the frozen times and the trees that are found up to it
   pub reached : ℕ
   pub frozen : List (Option ℕ)
   pub forest : ForestState
   pub grown : IsGrown g order reached frozen forest
-  -- the tree with too many leaves is made there
+  -- the large tree is among them, or is made for the process at that place
   pub large : IsLargeAt g order guards reached forest

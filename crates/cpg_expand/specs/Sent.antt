@@ -1,4 +1,4 @@
--- What a node has sent so far, along an order; and what is found when an item is sent.
+-- What a node has sent so far along an order, and what changes when an item is sent.
 use Rattle.std.specs.Prelude.{ℕ, ◌≡◌, ◌==◌, ◌⊎◌, Bool, true, false, List, [], ◌∷◌, ◌++◌, Option, filter, take}
 use Rattle.std.specs.Prelude.{slice_set}
 use Rattle.std.specs.List.{flat_map}
@@ -23,37 +23,38 @@ use Rattle.cpg_expand.specs.Sending.{IsGoesTree, IsSentTree, IsFreeTree}
 use Rattle.cpg_expand.specs.Waited.{IsQueuedFor}
 use Rattle.cpg_expand.specs.Waiting.{free_of}
 
--- what a node has sent for the processes before the place i
+-- the items that a node sends for the processes before the place i, in the order of its queue
 abbrev pub sent_before : Graph → List ℕ → ℕ → ℕ → List ℕ
 sent_before g order i node = flat_map (queue_of g) (filter (λ q. node_of g q == node) (take i order))
 
--- what it has sent for the processes before p, with the first k items of p
+-- the items that p's node sends before item k of p: those of earlier processes, and the first k of p's own queue
 abbrev pub sent_so_far : Graph → List ℕ → ℕ → ℕ → List ℕ
 sent_so_far g order p k = sent_before g order (place order p) (node_of g p) ++ take k (queue_of g p)
 
--- from when on the slots are free then, in one scenario: the run's time, and no more than is carried from all that is
--- sent
+-- In scenario s, with its run t, the tree of p's node says when slots are free after the first k items of p, and its
+-- path says no more than what those items leave to later ones.
 pub record IsFreeOnce (g : Graph) (order : List ℕ) (rows : List (List Column)) (s : Scenario) (t : Times) (p k : ℕ)
     (f : ForestState) : Type 0 where
-  -- when the last of these is sent and its round is over
+  -- `time` is a round after the last item that the node has sent by then, or 0 if there is none
   pub time : ℕ
   pub is : IsMost (IsSentBy g order s p k) (free_after g t) time
-  -- the tree says so, by no more literals than are carried from these items
+  -- the tree has this time, on a path that follows from what these items leave to the ones behind them
   pub has_value : HasValueFrom s (flat_map (queued g order rows s) (sent_so_far g order p k)) time
       (free_of g f (node_of g p))
 
--- the times of a frozen item that is sent: the latest of all
+-- The times of a frozen item: one time wherever it goes, the latest of all scenarios. `before` and `after` are the
+-- frozen times without x's and with it.
 pub record IsFrozenSend (g : Graph) (order : List ℕ) (goes : TreeState Bool) (x : ℕ) (f : ForestState)
     (before after : List (Option ℕ))
     (sent : TreeState (Option ℕ)) : Type 0 where
-  -- the latest time that it would have, if it ever goes
+  -- the latest time that x would have; `None` if it never goes
   pub latest : Option ℕ
   pub top : IsLatestSend g order f (share_of g (home g x)) goes (ends_of g f (producer g x)) x latest
-  -- that time is set, and the tree has it wherever the item goes
+  -- that time is x's frozen time, and the tree has it wherever x goes
   pub frozen : IsFrozenBy x latest goes before after sent
 
--- the times of an item that is sent: those of a frozen one, or those by its producer's end and when the slots are
--- free in each scenario
+-- The times of item x. If it isn't frozen, it goes in each scenario once its producer has ended and slots are free,
+-- and the frozen times stay. If it is frozen, it has the latest time, which is added to the frozen times.
 abbrev pub IsSentFor : Graph → List ℕ → TreeState Bool → ℕ → ForestState → List (Option ℕ) → List (Option ℕ) →
     TreeState (Option ℕ) → Type 0
 IsSentFor g order goes x f before after sent =
@@ -61,14 +62,14 @@ IsSentFor g order goes x f before after sent =
     IsSentTree g.faults (share_of g (home g x)) goes (ends_of g f (producer g x)) (free_of g f (home g x)) sent)
     ⊎ ((is_frozen g x ≡ true) × IsFrozenSend g order goes x f before after sent)
 
--- an item is added to the trees: its times, and when the slots of its node are free then, if one waits for that
+-- Item x is added to the forest: its times, and when the slots of its node are free after it.
 pub record IsItemAdded (g : Graph) (order : List ℕ) (chooser : TreeState Bool) (x : ℕ) (old new : ForestState)
     (before after : List (Option ℕ)) : Type 0 where
-  -- where the item goes
+  -- in which scenarios the item goes
   pub goes : TreeState Bool
   pub goes_tree : IsTree g goes
   pub goes_where : IsGoesTree g x chooser goes
-  -- its times
+  -- when it is sent
   pub sent : TreeState (Option ℕ)
   pub sent_tree : IsTree g sent
   pub sends : IsSentFor g order goes x old before after sent
@@ -77,7 +78,7 @@ pub record IsItemAdded (g : Graph) (order : List ℕ) (chooser : TreeState Bool)
   pub freed_tree : IsTree g freed
   pub frees : IsQueuedFor g order (place order (producer g x)) (home g x) →
       IsFreeTree g.faults (round g) goes sent (free_of g old (home g x)) freed
-  -- the two trees are put in their places; the other trees stay
+  -- the two trees take their places; all others stay
   pub is : new ≡ record {
     times = slice_set old.times x sent;
     ends = old.ends;
@@ -86,7 +87,7 @@ pub record IsItemAdded (g : Graph) (order : List ℕ) (chooser : TreeState Bool)
     wide = old.wide;
   }
 
--- these are added one after another
+-- The items are added one after another. Between two of them are the forest `mid` and the frozen times `between`.
 abbrev pub AreItemsAdded : Graph → List ℕ → TreeState Bool → List ℕ → ForestState → ForestState → List (Option ℕ) →
     List (Option ℕ) → Type 0
 AreItemsAdded g order chooser [] old new before after = (new ≡ old) × (after ≡ before)

@@ -1,4 +1,4 @@
--- What a start waits for on its node.
+-- When a node is ready for a process, and has heard what the process's guard tests.
 use Rattle.std.specs.Prelude.{ℕ, max, List, ◌++◌, Option, Some, None, Contains, get_or}
 use Rattle.cpg_base.specs.Graph.{Graph}
 use Rattle.cpg_order.specs.Guard.{Guard, way}
@@ -12,20 +12,22 @@ use Rattle.cpg_tree.specs.GraphTrees.{no_tree}
 use Rattle.cpg_expand.specs.declared.forest.Ready.{Ready}
 use Rattle.cpg_expand.specs.Guarded.{support_of, latest_of}
 
--- the tree of when a node is ready
+-- the tree of when the node is ready for its next process
 abbrev pub ready_of : Graph → ForestState → ℕ → TreeState ℕ
 ready_of g f node = ready_by g f (ready_at g f node)
 
--- the tree of when a node's slots are free
+-- the tree of when the node's slots are free
 abbrev pub free_of : Graph → ForestState → ℕ → TreeState ℕ
 free_of g f node = get_or f.free node (no_tree g.faults)
 
--- what a process waits for on its node: what it has heard too, or else the node itself
+-- What a process waits for on its node: the tree of that if one was made, as its guard tests conditions; without one,
+-- what says when the node is ready.
 abbrev pub wait_of : Graph → ForestState → ℕ → Option Ready → Ready
 wait_of g f node None = ready_at g f node
 wait_of g f node (Some wait) = wait
 
--- until the node is ready and has heard all that a guard tests
+-- t has the time from which on the node is ready (x, by `base`) and has heard each condition that the guard tests on
+-- the scenario's way (`time c`, by `support c`).
 abbrev pub IsWaitTree : Graph → ForestState → ℕ → Guard → TreeState ℕ → Type 0
 IsWaitTree g f node guard t = (s : Scenario) → HasAtMostFaults g.faults s → (base : List Literal) (x : ℕ) →
     HasValueFrom s base x (ready_of g f node) →

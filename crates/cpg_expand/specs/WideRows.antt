@@ -10,17 +10,17 @@ use Rattle.cpg_tree.specs.Tree.{TreeState}
 use Rattle.cpg_tree.specs.GraphTrees.{no_tree}
 use Rattle.cpg_tree_columns.specs.MadeRows.{AreFirstRows, IsRowOf}
 
--- how many columns an item's row has in all tables together
+-- how many columns the row of item x has in all tables together: its columns times the tables in which it stands
 abbrev pub row_load : Graph → List Row → ℕ → ℕ
 row_load g rows x = length (row_for rows x).columns * rows_of_item g (item_at g x)
 
--- how many columns the rows of the first n items have in all tables together
+-- how many columns the rows of items 0 .. n - 1 have in all tables together
 abbrev pub rows_load : Graph → List Row → ℕ → ℕ
 rows_load g rows n = sum_by (row_load g rows) (numbers_below n)
 
--- the row of an item has too many columns
+-- the row of some item has more columns than a row may have
 pub record IsWideRow (g : Graph) (urgency : List ℕ) (times : List (TreeState (Option ℕ))) : Type 0 where
-  -- the item, and the row that is made of its tree
+  -- the item, and the row that is made from its tree
   pub item : ℕ
   pub within : item < item_count g
   pub row : Row
@@ -28,9 +28,9 @@ pub record IsWideRow (g : Graph) (urgency : List ℕ) (times : List (TreeState (
   -- it has more columns than a row may have
   pub many : MOST_COLUMNS < length row.columns
 
--- the rows of the first items have too many columns together
+-- the rows of the first few items have more columns together than all tables may have
 pub record AreWideRows (g : Graph) (urgency : List ℕ) (times : List (TreeState (Option ℕ))) : Type 0 where
-  -- how many of the first items, and their rows
+  -- how many items, and their rows, each made from its tree
   pub count : ℕ
   pub within : count ≤ item_count g
   pub rows : List Row
@@ -44,33 +44,38 @@ HaveWideRows g urgency times = IsWideRow g urgency times ⊎ AreWideRows g urgen
 
 -- ---- rows within the limits
 
--- The rows of the first n items are within the limits, and `load` counts their columns in all tables. If there is no
--- item, nothing is required.
+-- The rows of items 0 .. n - 1 are within the limits, and `load` is how many columns they have in all tables together.
 pub record AreFewSoFar (g : Graph) (rows : List Row) (n load : ℕ) : Type 0 where
+  -- no row has more columns than a row may have
   pub few : All (λ row. length row.columns ≤ MOST_COLUMNS) rows
-  -- the columns so far, once for each table in which their row stands
+  -- the columns of a row count once for each table in which it stands
   pub is : load ≡ rows_load g rows n
+  -- they aren't more than all tables may have
   pub within : load ≤ MOST_LOAD
 
--- the rows are within the limits, if there is an item to name
+-- if there is an item to name, the rows are within the limits and `load` is right; without one, nothing is counted
 abbrev pub AreFewIf : Option ℕ → Graph → List Row → ℕ → ℕ → Type 0
 AreFewIf None g rows n load = Unit {0}
 AreFewIf (Some item) g rows n load = AreFewSoFar g rows n load
 
--- one more row is within the limits, and `after` counts its columns too; if there is no item, nothing is required
+-- Row x comes next, and is within the limits: `before` counts the columns of the rows before it, `after` its own too.
 pub record IsLoadWith (g : Graph) (row : Row) (x before after : ℕ) : Type 0 where
+  -- the row alone isn't too wide
   pub few : length row.columns ≤ MOST_COLUMNS
   -- each column counts once for each table in which the row stands
   pub is : after ≡ before + length row.columns * rows_of_item g (item_at g x)
+  -- all rows up to this one have no more columns together than all tables may have
   pub within : after ≤ MOST_LOAD
 
--- one more row is within the limits, if there is an item to name
+-- if there is an item to name, the row and the load with it are within the limits; without one, nothing is counted
 abbrev pub IsLoadIf : Option ℕ → Graph → Row → ℕ → ℕ → ℕ → Type 0
 IsLoadIf None g row x before after = Unit {0}
 IsLoadIf (Some item) g row x before after = IsLoadWith g row x before after
 
--- each row of the tables has few enough columns, and so have all rows of all tables together
+-- the tables are within the limits of columns
 pub record DoTablesFit (g : Graph) (nodes : List NodeTable) : Type 0 where
+  -- no item's row has more columns than a row may have
   pub few : (x : ℕ) → x < item_count g → length (columns_of nodes x) ≤ MOST_COLUMNS
+  -- all rows of all tables have no more columns than all tables may have
   pub loads : sum_by (λ x. length (columns_of nodes x) * rows_of_item g (item_at g x)) (numbers_below (item_count g))
       ≤ MOST_LOAD

@@ -1,4 +1,4 @@
-//! The activity of items as trees.
+//! Trees of where items are active.
 ghost use Rattle.std.specs.Prelude.{◌≡◌, ◌≤◌, ◌<◌, IfOk, true};
 ghost use Rattle.cpg_base.specs.Graph.{is_sent, item_count, process_count};
 ghost use Rattle.cpg_expand.specs.Active.{IsActivityOf};
@@ -11,7 +11,7 @@ use cpg_rules::Admitted;
 use cpg_tree::Tree;
 use std::alloc::Global;
 
-/// A tree that is true where an item that is started or sent is active.
+/// Returns a tree that is true where an item is active; the item is a start, or one that is sent.
 pub fn active_item(alloc: Global, admitted: &Admitted, item: u32) -> Result<Tree<bool>, OutOfMemory>
     requires item { item < item_count admitted.now.graph }
     requires acts { process_count admitted.now.graph ≤ item → is_sent admitted.now.graph item ≡ true }
@@ -22,6 +22,7 @@ pub fn active_item(alloc: Global, admitted: &Admitted, item: u32) -> Result<Tree
     let process = problem.producer(item);
     let guard = admitted.guards().guard_of(process);
     let producing = active(alloc, problem, guard)?;
+    // a start is active where its process is
     if (item as usize) < problem.processes().len() {
         return Ok(producing);
     }

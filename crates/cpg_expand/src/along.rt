@@ -1,4 +1,4 @@
-//! One process after another.
+//! One step along the order: the trees of one process and of what it sends.
 ghost use Rattle.std.specs.Prelude.{ℕ, ◌≡◌, ◌<◌, ◌⊎◌, IfErr, IfOk, List, length, slice_set};
 ghost use Rattle.cpg_base.specs.Graph.{item_count, process_count};
 ghost use Rattle.cpg_bus.specs.Plan.{plan_of};
@@ -27,7 +27,7 @@ use cpg_run::{BuildFault, FrozenTimes};
 use cpg_tree::Tree;
 use std::alloc::Global;
 
-/// Puts the times and the ends of a process, and from when on a node is ready after it.
+/// Puts the starts and the ends of a process, and from when on its node is ready after it.
 fn put_begun(
     forest: &mut Forest,
     process: u32,
@@ -52,14 +52,17 @@ fn put_begun(
     forest.ready[node as usize] = ready;
 }
 
-/// The ends of a process, and the tree of when its node goes on after it.
+/// What follows from the starts of a process: its ends, and from when on its node goes on after it.
 #[derive(Drop)]
 struct EndAndReady {
+    /// When it ends in each scenario; none where it is inactive.
     end: Tree<Option<u64>>,
+    /// When its node goes on after it.
     ready: Ready,
 }
 
-/// What follows from the starts of a process: its ends, and when its node goes on after it.
+/// Returns the ends of a process, and from when on its node goes on after it. `TooWide` names the forest's item if the
+/// tree of the starts or that of the ends has too many leaves.
 fn follow(
     alloc: Global,
     problem: &Problem,
@@ -89,7 +92,7 @@ fn follow(
 }
 
 /// Adds the start and the end of a process that isn't frozen, and when its node goes on after it. Returns the tree of
-/// where it is active.
+/// where it is active. `TooWide` names the forest's item if a tree on the way has too many leaves.
 fn begin_thawed(
     alloc: Global,
     admitted: &Admitted,
@@ -119,8 +122,9 @@ fn begin_thawed(
     Ok(active)
 }
 
-/// When the node of a frozen process goes on after it. It is made only if a process waits for it, since a tree of all
-/// that the guard tests can be far wider than the row.
+/// Returns from when on the node of a frozen process goes on after it. The right tree is made only if a later process
+/// that isn't frozen waits for it, since a tree of all that the guard tests can be far wider than the row. `TooWide`
+/// names the forest's item if a tree on the way has too many leaves.
 fn ready_after(
     alloc: Global,
     admitted: &Admitted,
@@ -145,7 +149,7 @@ fn ready_after(
     if active.is_true() {
         return Ok(Ready::After(process));
     }
-    // nothing reads the tree, so any tree is right
+    // no later process reads this tree, so any tree will do
     if !is_waited_for(problem, order, process) {
         let never = Tree::constant(alloc, 0, problem.faults())?;
         return Ok(Ready::At(never));
@@ -159,7 +163,8 @@ fn ready_after(
 }
 
 /// Adds the start and the end of a frozen process, its frozen time, and when its node goes on after it. Returns the
-/// tree of where it is active.
+/// tree of where it is active. `TooWide` names the forest's item if a tree of what it would wait for has too many
+/// leaves.
 fn begin_frozen(
     alloc: Global,
     admitted: &Admitted,
@@ -194,8 +199,8 @@ fn begin_frozen(
     Ok(active)
 }
 
-/// Adds the start and the end of a process, its frozen time if it is frozen, and when its node goes on after it. Returns
-/// the tree of where it is active.
+/// Adds the start and the end of a process, its frozen time if it is frozen, and when its node goes on after it.
+/// Returns the tree of where it is active. `TooWide` names the forest's item if a tree on the way has too many leaves.
 fn begin(
     alloc: Global,
     admitted: &Admitted,
@@ -215,7 +220,7 @@ fn begin(
     ensures begun { IfOk result (IsBegun admitted.now.graph order.now admitted.now.guards process forest.old forest.new frozen.old frozen.new) }
     ensures fault { IfErr result (ShowsLarge forest.old.wide (IsLargeBegun admitted.now.graph order.now admitted.now.guards process forest.old)) }
 {
-    // frozen or not
+    // a frozen process has one start, any other one start in each scenario
     if admitted.problem().is_frozen(process) {
         let active = begin_frozen(alloc, admitted, plan, order, frozen, forest, process)?;
         return Ok(active);
@@ -224,7 +229,8 @@ fn begin(
     Ok(active)
 }
 
-/// Adds the trees of a process and of what it sends, and the frozen times of those that are frozen.
+/// Adds the trees of a process and of what it sends, and the frozen times of those that are frozen. `TooWide` names
+/// the forest's item if a tree on the way to the start and the end has too many leaves.
 pub(crate) fn step(
     alloc: Global,
     admitted: &Admitted,

@@ -1,4 +1,4 @@
-//! The rows that tables are assembled of.
+//! The rows that tables are assembled from.
 ghost use Rattle.std.specs.Prelude.{IfOk};
 ghost use Rattle.cpg_expand.specs.BuiltRows.{IsAssembledOf};
 ghost use Rattle.cpg_table.specs.Writing.{AreWritable};
@@ -10,23 +10,26 @@ use cpg_table::tables_of;
 use cpg_tree_columns::{MadeRow, Peak, listed_rows};
 use std::alloc::Global;
 
-/// All that is built under an order but its tables, which repeat a row for each node that hears its item.
+/// All that is built under an order except its tables, which repeat a row on each node that sends or hears its item.
 #[derive(Drop)]
 pub struct BuiltRows {
-    /// The order.
+    /// The order of the processes.
     pub order: Order,
     /// The row of each item, by number.
     pub rows: Vec<MadeRow>,
-    /// The times of frozen items.
+    /// The frozen times, by item.
     pub frozen: FrozenTimes,
-    /// The greatest finish of all runs, in time units, with its first scenario by the urgency order.
+    /// The greatest finish of all runs, in time units, with the least scenario that has it by the urgency order and
+    /// the least process that ends then.
     pub worst: Peak,
-    /// The greatest excess of all runs, with its first scenario by the urgency order.
+    /// The greatest excess of all runs, in time units, with the least scenario that has it by the urgency order and
+    /// the least process that is so late there; 0 without a process if none is late.
     pub excess: Peak,
 }
 
 impl BuiltRows {
-    /// The tables that are assembled of the rows, with the frozen times and the measures.
+    /// Returns the tables that are assembled from the rows, with the frozen times and the measures. The one error is
+    /// `OutOfMemory`.
     pub fn assemble(self, alloc: Global, admitted: &Admitted) -> Result<Built, OutOfMemory>
         requires { AreWritable admitted.now.graph self.rows.items }
         ensures { IfOk result (IsAssembledOf admitted.now.graph self) }

@@ -1,4 +1,5 @@
-//! Trees down guards.
+//! Trees that are made down a guard: one for each leaf, and for each test one that is made from the trees of its two
+//! sides.
 ghost use Rattle.std.specs.Prelude.{◌≡◌, ◌<◌, ℕ, IfErr, IfOk, IfSome, Option};
 ghost use Rattle.std.specs.Bool.{OnTrue};
 ghost use Rattle.cpg_base.specs.declared.activation.Activation.{Activation};
@@ -15,30 +16,38 @@ use cpg_run::BuildFault;
 use cpg_tree::Tree;
 use std::alloc::Global;
 
-/// The trees of at most this many parts of a guard are kept, in case an equal part comes again.
+/// How many trees of parts of a guard are kept at most, for a part that comes again. More would make the look-up
+/// dearer.
 const KEPT: usize = 64;
 
-/// What holds of the tree of a guard, and how that is made from the trees of its sides.
+/// How a tree is made from a guard, and what holds of it.
 pub(crate) trait Descent<T> {
+    // what has to hold of `self`
     ghost begun: { Self → Type 0 };
 
+    // how many conditions there are; a guard tests these alone
     ghost conditions: { Self → ℕ };
 
+    // the activations that may be at a leaf
     ghost may: { Self → Activation → Type 0 };
 
+    // what holds of each tree that is made
     ghost made: { Self → TreeState T → Type 0 };
 
+    // how a tree is related to its guard
     ghost fits: { Self → Guard → TreeState T → Type 0 };
 
+    // the item that `TooWide` names
     ghost wide: { Self → Option ℕ };
 
+    // why a leaf may be refused
     ghost large: { Self → Activation → Type 0 };
 
-    /// The item to name if a tree has too many leaves.
+    /// Returns the item that `TooWide` names if a tree has too many leaves; `None` if leaves aren't counted.
     fn wide(&self) -> Option<u32>
         ensures { result ≡ wide self.now };
 
-    /// The tree of an activation.
+    /// Returns the tree of a leaf with this activation.
     fn leaf(&self, activation: Activation) -> Result<Tree<T>, BuildFault>
         requires begun { begun self.now }
         requires may { may self.now activation }
@@ -46,7 +55,8 @@ pub(crate) trait Descent<T> {
         ensures fits { IfOk result (fits self.now (Leaf activation)) }
         ensures fault { IfErr result (ShowsLarge (wide self.now) (large self.now activation)) };
 
-    /// The tree of a test of a condition.
+    /// Returns the tree of a test of a condition, given the trees of its sides: `no` if the value is false, `yes` if
+    /// it is true.
     fn test(&self, condition: u32, no: &Tree<T>, yes: &Tree<T>) -> Result<Tree<T>, OutOfMemory>
         requires begun { begun self.now }
         requires condition { condition < conditions self.now }
@@ -56,23 +66,25 @@ pub(crate) trait Descent<T> {
         ensures fits { IfOk result (λ t. (off on : Guard) → fits self.now off no.now → fits self.now on yes.now → fits self.now (Test condition off on) t) };
 }
 
-/// A guard with its tree.
+/// A part of a guard, with the tree that was made for it.
 #[derive(Drop)]
 struct KnownGuard<'a, T> {
+    /// The part itself; an equal part has the same tree.
     guard: &'a GuardTree,
+    /// The tree that `tree_down` made for it.
     tree: Tree<T>,
 }
 
-/// Where the tree of a guard is.
+/// Where the tree of a part of a guard is.
 #[derive(Drop)]
 enum Source<T> {
-    /// At a place among those that are kept.
+    /// At this place among the kept ones.
     At(usize),
-    /// In no list: the tree itself.
+    /// Not among them: the tree itself.
     Alone(Tree<T>),
 }
 
-/// Whether two activations are equal.
+/// Whether two activations are equal. Callers rely only on the answer yes.
 fn are_equal(first: Activation, second: Activation) -> bool
     ensures { OnTrue result (first ≡ second) }
 {
@@ -86,7 +98,7 @@ fn are_equal(first: Activation, second: Activation) -> bool
     }
 }
 
-/// Whether two guards are equal.
+/// Whether two guards have the same tests and leaves. Callers rely only on the answer yes.
 fn is_same(guard: &GuardTree, other: &GuardTree) -> bool
     ensures { OnTrue result (guard.now ≡ other.now) }
 {
@@ -110,7 +122,7 @@ fn is_same(guard: &GuardTree, other: &GuardTree) -> bool
     }
 }
 
-/// The place of a guard that is equal to another.
+/// Returns the first place at which `known` has a guard that is equal to this one, or `None` if there is none.
 fn guard_index<T>(known: &[KnownGuard<'_, T>], guard: &GuardTree) -> Option<usize>
     ensures { IfSome result (λ i. IsAt known.now i guard.now) }
 {
@@ -122,7 +134,7 @@ fn guard_index<T>(known: &[KnownGuard<'_, T>], guard: &GuardTree) -> Option<usiz
     None
 }
 
-/// The tree that is found.
+/// Returns the tree of a source: the kept one at its place, or its own.
 fn tree_of<'a, T>(found: &'a Source<T>, known: &'a [KnownGuard<'_, T>]) -> &'a Tree<T>
     requires { IsThere known.now found.now }
     ensures { IsTreeOf known.now found.now result.now }
@@ -133,7 +145,8 @@ fn tree_of<'a, T>(found: &'a Source<T>, known: &'a [KnownGuard<'_, T>]) -> &'a T
     }
 }
 
-/// Keeps the tree of a guard, if there are few.
+/// Keeps a guard and its tree if fewer than `KEPT` are kept, and returns the place. Otherwise the tree is handed back
+/// in `Alone`.
 fn keep<'a, T: Copy>(
     known: &mut Vec<KnownGuard<'a, T>>,
     guard: &'a GuardTree,
@@ -149,7 +162,8 @@ fn keep<'a, T: Copy>(
     Ok(Source::At(place))
 }
 
-/// The tree of a guard. Parts of the guard that are equal share one tree.
+/// Returns where the tree of a guard is. It is made unless `known` has an equal part of the guard, and then kept if
+/// there is room. `TooWide` names `descent.wide()` if a tree has too many leaves.
 fn found<'a, T: Copy + Eq, D: Descent<T>>(
     descent: &D,
     guard: &'a GuardTree,
@@ -185,7 +199,8 @@ fn found<'a, T: Copy + Eq, D: Descent<T>>(
     }
 }
 
-/// The tree of a guard.
+/// Returns the tree of a guard. Parts of the guard that are equal share one tree on the way. `TooWide` names
+/// `descent.wide()` if a tree has too many leaves.
 pub(crate) fn tree_down<T: Copy + Eq, D: Descent<T>>(
     alloc: Global,
     descent: &D,
@@ -200,6 +215,7 @@ pub(crate) fn tree_down<T: Copy + Eq, D: Descent<T>>(
 {
     let mut known = Vec::new(alloc);
     match found(descent, guard, &mut known)? {
+        // `known` is dropped here, so its order no longer matters
         Source::At(place) => Ok(known.swap_remove(place).tree),
         Source::Alone(tree) => Ok(tree),
     }

@@ -1,4 +1,4 @@
-//! The processes that stand before one on its node, and what their guards test.
+//! The processes that stand before another one on its node, and what their guards test.
 ghost use Rattle.std.specs.Prelude.{◌+◌, ◌≡◌, ◌==◌, ◌&&◌, ◌<◌, ◌≤◌, IfOk, length, nat_le, nat_lt};
 ghost use Rattle.cpg_base.specs.Graph.{condition_count, node_of, process_count};
 ghost use Rattle.cpg_base.specs.Order.{place};
@@ -11,17 +11,22 @@ use cpg_rules::{GuardTop, GuardTree, GuardTrees};
 use cpg_tree::Tree;
 use std::alloc::Global;
 
-/// The processes of a node from a place of an order on, with the guards of the graph.
+/// The processes of a node from the place `from` of an order on, with the guards of the graph.
 #[derive(Clone, Copy)]
 pub(crate) struct NodeSpan<'a> {
+    /// The graph.
     pub(crate) problem: &'a Problem,
+    /// The guard of each process of the graph.
     pub(crate) guards: &'a GuardTrees,
+    /// The order of the processes.
     pub(crate) order: &'a Order,
+    /// The node whose processes are in the span.
     pub(crate) node: u32,
+    /// The first place of the order that the span covers.
     pub(crate) from: u32,
 }
 
-/// Whether a process is on the node of a span and stands between two places.
+/// Whether a process is on the node of a span and stands at `from` or later and before `to`.
 pub(crate) fn stands_between(span: &NodeSpan<'_>, from: u32, to: u32, other: u32) -> bool
     requires other { other < process_count span.now.problem.now }
     requires order { length span.now.order.now ≡ process_count span.now.problem.now }
@@ -32,7 +37,7 @@ pub(crate) fn stands_between(span: &NodeSpan<'_>, from: u32, to: u32, other: u32
     span.problem.node_of(other) == span.node && (from <= at && at < to)
 }
 
-/// Whether a guard leads to an active leaf on each way.
+/// Whether every leaf of a guard is active, so that its process is active in every outcome.
 fn is_always(guard: &GuardTree) -> bool
     ensures { result ≡ is_always guard.now }
 {
@@ -46,8 +51,8 @@ fn is_always(guard: &GuardTree) -> bool
     }
 }
 
-/// The place of a process that is always active, if that is one between two places, and otherwise the first of the
-/// two places.
+/// Returns the place of process `other` if that is always active and between the two places on the node, and `from`
+/// otherwise. What stands before such a process has ended once it has.
 fn later_cut(span: &NodeSpan<'_>, from: u32, to: u32, other: u32) -> u32
     requires along { AreAlong span.now.problem.now span.now.guards.now span.now.order.now }
     requires other { other < process_count span.now.problem.now }
@@ -63,7 +68,8 @@ fn later_cut(span: &NodeSpan<'_>, from: u32, to: u32, other: u32) -> u32
     span.order.place(other)
 }
 
-/// The first place from which on the processes of a node before another place have to be looked at.
+/// Returns a place from which on the processes of the node before `to` have to be looked at: what stands before it has
+/// ended by the end of an always active process from there on. It is 0 if there is no such process.
 fn cut(span: &NodeSpan<'_>, to: u32) -> u32
     requires along { AreAlong span.now.problem.now span.now.guards.now span.now.order.now }
     ensures { IsCut span.now.problem.now span.now.order.now span.now.guards.now span.now.node to result }
@@ -75,7 +81,7 @@ fn cut(span: &NodeSpan<'_>, to: u32) -> u32
     from
 }
 
-/// The processes of a node before a place that have to be looked at.
+/// Returns the span of a node's processes that have to be looked at before the place `to`.
 pub(crate) fn span_before<'a>(
     problem: &'a Problem,
     guards: &'a GuardTrees,
@@ -90,6 +96,7 @@ pub(crate) fn span_before<'a>(
     ensures node { result.node ≡ node }
     ensures cut { IsCut problem.now order.now guards.now node to result.from }
 {
+    // the whole node, to look for the cut in
     let span = NodeSpan {
         problem,
         guards,
@@ -106,7 +113,8 @@ pub(crate) fn span_before<'a>(
     }
 }
 
-/// A tree that is true where a given one is, or where a process of a span tests a condition.
+/// Returns a tree that is true where `asked` is, or where the guard of process `other` tests the condition, if `other`
+/// is in the span and before `to`.
 fn or_asked(
     alloc: Global,
     span: &NodeSpan<'_>,
@@ -132,7 +140,7 @@ fn or_asked(
     Ok(either)
 }
 
-/// A tree that is true where a process of a span before a place tests a condition.
+/// Returns a tree that is true where the guard of some process in the span and before `to` tests the condition.
 pub(crate) fn asked(
     alloc: Global,
     span: &NodeSpan<'_>,
@@ -147,6 +155,7 @@ pub(crate) fn asked(
 {
     let mut asked = Tree::constant(alloc, false, span.problem.faults())?;
     for other in 0..span.problem.processes().len() as u32 {
+        // it is asked for everywhere, and no further process changes that
         if asked.is_true() {
             return Ok(asked);
         }

@@ -1,4 +1,4 @@
-//! Ends of processes.
+//! The ends of processes, and when their nodes go on after them.
 ghost use Rattle.std.specs.Prelude.{◌≡◌, ◌+◌, ◌<◌, IfOk, map};
 ghost use Rattle.cpg_base.specs.Duration.{duration};
 ghost use Rattle.cpg_base.specs.Graph.{process_count};
@@ -13,7 +13,7 @@ use cpg_tree::{Tree, fault};
 use cpg_tree_times::{ends, pick_later};
 use std::alloc::Global;
 
-/// How long an execution of a process lasts with no fault, with one, and so on.
+/// Returns how long an execution of a process lasts with 0, 1, .. k faults.
 fn durations(alloc: Global, problem: &Problem, process: u32) -> Result<Vec<u64>, OutOfMemory>
     requires { process < process_count problem.now }
     ensures { IfOk result (λ durations. durations.items ≡ map (duration problem.now process) (numbers_below (problem.now.faults + 1))) }
@@ -26,7 +26,8 @@ fn durations(alloc: Global, problem: &Problem, process: u32) -> Result<Vec<u64>,
     Ok(durations)
 }
 
-/// The ends of a process.
+/// Returns the ends of a process, given its starts: in each scenario the start and the duration with its fault count
+/// there, and none where it doesn't start.
 pub(crate) fn end(
     alloc: Global,
     problem: &Problem,
@@ -46,7 +47,7 @@ pub(crate) fn end(
     Ok(end)
 }
 
-/// The ends of a process and, if it is inactive, the times from which on the node would have been ready for it. The contract
+/// Returns a tree with the end of a process where it is active, and with the time of `wait` elsewhere. The contract
 /// alone names `problem`.
 fn end_or(
     problem: &Problem,
@@ -64,7 +65,8 @@ fn end_or(
     Ok(ready)
 }
 
-/// When the node of a process that is not always active goes on.
+/// Returns when the node of a process goes on after it, for a process that isn't always active: at its end, or where
+/// it is inactive, when its wait would be over.
 fn ready_at(
     problem: &Problem,
     forest: &Forest,
@@ -80,11 +82,13 @@ fn ready_at(
     ensures ready { IfOk result (IsReadyTree problem.now.faults active.now end.now (ready_by problem.now forest.now wait.now)) }
 {
     match wait {
+        // the wait is until another process has ended
         Ready::After(process) => {
             let before = forest.end_there(problem, *process)?;
             let ready = end_or(problem, active, end, &before)?;
             Ok(ready)
         }
+        // the wait has a tree of its own
         Ready::At(tree) => {
             let ready = end_or(problem, active, end, tree)?;
             Ok(ready)
@@ -92,7 +96,8 @@ fn ready_at(
     }
 }
 
-/// When the node of a process goes on: after its end, or, if it is inactive, once the node would have been ready for it.
+/// Returns from when on the node of a process goes on: after its end, or where it is inactive, when its wait would be
+/// over. If it is always active, its ends say so, and no tree is made.
 pub(crate) fn ready(
     problem: &Problem,
     forest: &Forest,
@@ -109,6 +114,7 @@ pub(crate) fn ready(
     ensures ready { IfOk result (λ ready.
         IsReadyTree problem.now.faults active.now end.now (ready_by problem.now forest.now wait.now) (goes_on end.now ready)) }
 {
+    // the process is always active, so its end is what the node waits for
     if active.is_true() {
         return Ok(Ready::After(process));
     }

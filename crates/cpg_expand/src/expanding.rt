@@ -1,4 +1,4 @@
-//! From an order to what a builder answers, by trees.
+//! From an order to its trees, then to rows and tables.
 ghost use Rattle.std.specs.Prelude.{ℕ, ◌≡◌, IfOk, IfErr, None};
 ghost use Rattle.cpg_expand.specs.GrownFor.{IsGrownFor, IsWidth};
 ghost use Rattle.cpg_expand.specs.Large.{HasLargeTree, ShowsLarge};
@@ -20,21 +20,25 @@ use cpg_run::{BuildFault, Built};
 use cpg_tree_columns::{Peak, excess, tops_of, worst};
 use std::alloc::Global;
 
-/// All that is found under an order except its rows: the trees that the rows are made of, and how good the order is.
+/// All that is found under an order before its rows: the trees that they are made from, and how good the order is.
 #[derive(Drop)]
 pub struct Grown {
-    /// The order.
+    /// The order of the processes.
     pub order: Order,
-    /// The least item that is too wide under it by its views, if there is one.
+    /// The least item that is too wide under it by its views; `None` if none is.
     pub wide: Option<u32>,
+    /// The trees of all processes and items, with the frozen times.
     pub(crate) trees: GrownForest,
-    /// The greatest finish of all runs, in time units, with its first scenario by the urgency order.
+    /// The greatest finish of all runs, in time units, with the least scenario that has it by the urgency order and
+    /// the least process that ends then.
     pub worst: Peak,
-    /// The greatest excess of all runs, with its first scenario by the urgency order.
+    /// The greatest excess of all runs, in time units, with the least scenario that has it by the urgency order and
+    /// the least process that is so late there; 0 without a process if none is late.
     pub excess: Peak,
 }
 
-/// How good an order is, measured by its trees.
+/// Returns all that is found under an order: its trees, with the greatest finish and the greatest excess that they
+/// tell.
 fn measured(
     alloc: Global,
     admitted: &Admitted,
@@ -62,8 +66,8 @@ fn measured(
     })
 }
 
-/// The trees under an order, and how good it is. If there is an item that is too wide, `TooWide` names it if a tree on the
-/// way has too many leaves.
+/// Returns the trees under an order, and how good it is. If `wide` has an item, leaves are counted: `TooWide` names it
+/// if a tree on the way has too many. Without one only memory can run out.
 fn grow_with(
     alloc: Global,
     admitted: &Admitted,
@@ -80,7 +84,7 @@ fn grow_with(
     Ok(grown)
 }
 
-/// Does what `grow` does, if no item is too wide.
+/// Does what `grow` does if no item is too wide. The one error is `OutOfMemory`.
 pub fn grow_narrow(alloc: Global, admitted: &Admitted, order: Order) -> Result<Grown, OutOfMemory>
     requires topological { IsTopological admitted.now.graph order }
     requires narrow { IsNarrow admitted.now.graph order }
@@ -93,8 +97,8 @@ pub fn grow_narrow(alloc: Global, admitted: &Admitted, order: Order) -> Result<G
     }
 }
 
-/// The trees under an order, and how good it is. `TooWide` shows the least item whose row would have too many columns, before
-/// any tree is made.
+/// Returns the trees under an order, and how good it is. `TooWide` has the least item that is too wide by its views;
+/// it comes before any tree is made.
 pub fn grow(alloc: Global, admitted: &Admitted, order: Order) -> Result<Grown, BuildFault>
     requires topological { IsTopological admitted.now.graph order }
     ensures grown { IfOk result (IsGrownFor admitted.now.graph admitted.now.order order) }
@@ -108,8 +112,8 @@ pub fn grow(alloc: Global, admitted: &Admitted, order: Order) -> Result<Grown, B
     Ok(grown)
 }
 
-/// Does what `grow` does, but does not refuse an item for its views. If one has too many, the leaves of trees are
-/// counted on the way, and `TooWide` shows the least such item if a tree has more than 147,456.
+/// Does what `grow` does, but refuses no item for its views alone. If some item is too wide by them, the leaves of
+/// trees are counted on the way; `TooWide` has the least such item if a tree has more than 147,456.
 pub fn grow_bounded(alloc: Global, admitted: &Admitted, order: Order) -> Result<Grown, BuildFault>
     requires topological { IsTopological admitted.now.graph order }
     ensures grown { IfOk result (IsGrownFor admitted.now.graph admitted.now.order order) }
@@ -122,9 +126,9 @@ pub fn grow_bounded(alloc: Global, admitted: &Admitted, order: Order) -> Result<
 }
 
 impl Grown {
-    /// The exact rows, with the frozen times and the measures. Each tree is given back once its row is made. If an item has
-    /// too many views, the columns of rows are counted as they are made, and `TooWide` shows the least such item if a row has
-    /// more than 16,384, or all rows of all tables more than 524,288.
+    /// Returns the rows, with the frozen times and the measures. Each tree is kept in its row, or dropped once that is
+    /// listed. If an item is too wide by its views, columns are counted as rows are made: `TooWide` has the least such
+    /// item if a row has more than 16,384, or all rows of all tables more than 524,288.
     pub fn build_bounded(self, alloc: Global, admitted: &Admitted) -> Result<BuiltRows, BuildFault>
         requires topological { IsTopological admitted.now.graph self.order }
         requires grown { IsGrownFor admitted.now.graph admitted.now.order self.order self }
@@ -154,7 +158,7 @@ impl Grown {
         })
     }
 
-    /// Does what `build_bounded` does, if no item has too many views.
+    /// Does what `build_bounded` does if no item is too wide by its views. The one error is `OutOfMemory`.
     pub fn build(self, alloc: Global, admitted: &Admitted) -> Result<BuiltRows, OutOfMemory>
         requires topological { IsTopological admitted.now.graph self.order }
         requires narrow { IsNarrow admitted.now.graph self.order }
@@ -170,9 +174,9 @@ impl Grown {
     }
 }
 
-/// The exact tables of a graph under an order, with the frozen times and, in time units, the greatest finish and the
-/// greatest excess of all runs, each with its first scenario by the urgency order. `TooWide` shows the least item whose row
-/// would have too many columns, before any tree is made.
+/// Returns the tables of a graph under an order, with the frozen times and, in time units, the greatest finish and the
+/// greatest excess of all runs, each with its least scenario by the urgency order. `TooWide` has the least item that
+/// is too wide by its views; it comes before any tree is made.
 pub fn expand(alloc: Global, admitted: &Admitted, order: &Order) -> Result<Built, BuildFault>
     requires topological { IsTopological admitted.now.graph order.now }
     ensures built { IfOk result (λ built. IsBuiltFor admitted.now.graph admitted.now.order order.now built) }

@@ -1,4 +1,4 @@
-//! The trees that are found along an order.
+//! The trees that are found process by process along an order, and times that are read from them.
 ghost use Rattle.std.specs.Prelude.{[], ◌≡◌, ◌<◌, ◌≤◌, None, All, IfOk, length, true};
 ghost use Rattle.cpg_base.specs.Graph.{condition_count, edge_count, is_message, item_count, process_count, home};
 ghost use Rattle.cpg_tree.specs.GraphTrees.{IsTree};
@@ -22,21 +22,24 @@ use std::marker::Model;
 /// From when on a node is ready for its next process.
 #[derive(Drop)]
 pub(crate) enum Ready {
-    /// From the ends of a process on. Their tree is not copied.
+    /// From the ends of this process on; their tree, in the forest, isn't copied.
     After(u32),
-    /// From the times of a tree on.
+    /// From the times of this tree on.
     At(Tree<u64>),
 }
 
-/// A tree of the times of each item and of the ends of each process, and by node from when on it is ready for its next
-/// process and its slots are free.
+/// The trees so far: each tells a time in every scenario.
 #[derive(Drop)]
 pub(crate) struct Forest {
+    /// For each item, when it starts or is sent; no time where it doesn't.
     pub(crate) times: Vec<Tree<Option<u64>>>,
+    /// For each process, when it ends; no time where it isn't active.
     pub(crate) ends: Vec<Tree<Option<u64>>>,
+    /// For each node, from when on it is ready for its next process.
     pub(crate) ready: Vec<Ready>,
+    /// For each node, from when on its slots are free.
     pub(crate) free: Vec<Tree<u64>>,
-    /// The item to name if a tree on the way has too many leaves; `None` if they aren't counted.
+    /// The item that `TooWide` names if a tree has too many leaves; `None` if leaves aren't counted.
     pub(crate) wide: Option<u32>,
 }
 
@@ -48,7 +51,7 @@ impl Model for Forest {
     ghost view = { λ f. record { times = f.times.items; ends = f.ends.items; ready = f.ready.items; free = f.free.items; wide = f.wide } };
 }
 
-/// Makes `count` trees that have no time in any scenario.
+/// Returns `count` trees that have no time in any scenario.
 fn without_times(
     alloc: Global,
     problem: &Problem,
@@ -66,7 +69,7 @@ fn without_times(
     Ok(trees)
 }
 
-/// Makes `count` trees that are 0 in every scenario.
+/// Returns `count` trees that are 0 in every scenario.
 fn zeros(alloc: Global, problem: &Problem, count: usize) -> Result<Vec<Tree<u64>>, OutOfMemory>
     ensures count { IfOk result (λ trees. length trees.items ≡ count) }
     ensures all { IfOk result (λ trees. All (IsTree problem.now) trees.items) }
@@ -80,7 +83,7 @@ fn zeros(alloc: Global, problem: &Problem, count: usize) -> Result<Vec<Tree<u64>
     Ok(trees)
 }
 
-/// Makes `count` nodes that are ready from the beginning.
+/// Returns, for `count` nodes, that each is ready from time 0 on.
 fn ready_first(alloc: Global, problem: &Problem, count: usize) -> Result<Vec<Ready>, OutOfMemory>
     ensures count { IfOk result (λ nodes. length nodes.items ≡ count) }
     ensures all { IfOk result (λ nodes. All (IsWait problem.now) nodes.items) }
@@ -96,7 +99,8 @@ fn ready_first(alloc: Global, problem: &Problem, count: usize) -> Result<Vec<Rea
 }
 
 impl Forest {
-    /// A forest in which nothing is found yet.
+    /// Returns a forest in which no item has a time and no process an end; nodes are ready and slots free from time 0
+    /// on.
     pub(crate) fn none(
         alloc: Global,
         problem: &Problem,
@@ -116,14 +120,14 @@ impl Forest {
         })
     }
 
-    /// The times of the items. Everything else is dropped.
+    /// Returns the times of the items. The other trees are dropped.
     pub(crate) fn into_times(self) -> Vec<Tree<Option<u64>>>
         ensures { result.items ≡ self.times }
     {
         self.times
     }
 
-    /// The ends of a process, 0 if it isn't active. The contract alone names `problem`.
+    /// Returns the ends of a process, with 0 where it isn't active. The contract alone names `problem`.
     pub(crate) fn end_there(
         &self,
         problem: &Problem,
@@ -138,7 +142,7 @@ impl Forest {
         Ok(there)
     }
 
-    /// The times from which on a node has heard a condition and something else is there.
+    /// Returns from when on a node has heard a condition and `further` is reached too.
     pub(crate) fn heard_and(
         &self,
         problem: &Problem,
@@ -154,7 +158,7 @@ impl Forest {
             (later_by (heard_delay problem.now node condition) (heard_tree problem.now self.now node condition)) further.now) }
     {
         let process = problem.process_of(condition);
-        // an own condition is heard when its process ends, any other at the end of its broadcast
+        // a condition of the node itself is heard when its process ends, any other when its broadcast has arrived
         if problem.node_of(process) == node {
             let both = later_or(&self.ends[process as usize], 0, further)?;
             Ok(both)
@@ -166,7 +170,7 @@ impl Forest {
         }
     }
 
-    /// The times from which on a node is ready and something else is there.
+    /// Returns from when on a node is ready and `there` is reached too.
     pub(crate) fn ready_and(
         &self,
         problem: &Problem,
@@ -180,7 +184,7 @@ impl Forest {
         ensures both { IfOk result (IsLatest problem.now.faults (ready_by problem.now self.now ready.now) there.now) }
     {
         match ready {
-            // the node goes on when that process ends, 0 if it isn't active
+            // the node goes on when that process ends; where it isn't active, it counts as 0
             Ready::After(process) => {
                 // called for its contract: the graph is within its limits
                 let _processes = problem.processes();
@@ -195,7 +199,7 @@ impl Forest {
         }
     }
 
-    /// The times from which on a node is ready and a frame is there.
+    /// Returns from when on a node is ready and the frame of an item has arrived.
     fn ready_and_frame(
         &self,
         problem: &Problem,
@@ -225,7 +229,7 @@ impl Forest {
         }
     }
 
-    /// The times from which on a node is ready and an input from another node is there.
+    /// Returns from when on a node is ready and an input from another node has arrived.
     pub(crate) fn ready_and_input(
         &self,
         problem: &Problem,
@@ -244,7 +248,8 @@ impl Forest {
         Ok(both)
     }
 
-    /// The starts of a process on a node once it is ready and a frame is there, and at a release or later.
+    /// Returns the starts of a process at `release` or later, once its node is ready and the frame of an item has
+    /// arrived.
     fn started_by_frame(
         &self,
         problem: &Problem,
@@ -275,7 +280,8 @@ impl Forest {
         }
     }
 
-    /// The starts of a process on a node once it is ready and an input from another node is there, and at a release or later.
+    /// Returns the starts of a process at `release` or later, once its node is ready and an input from another node
+    /// has arrived.
     pub(crate) fn started_by_input(
         &self,
         problem: &Problem,
@@ -296,8 +302,8 @@ impl Forest {
         Ok(start)
     }
 
-    /// The starts of a process where it is active, and no time elsewhere: once its node is ready and a frame is
-    /// there, and at a release or later.
+    /// Returns the starts of a process at `release` or later, once its node is ready and the frame of an item has
+    /// arrived, where `active` is true; no time elsewhere.
     fn started_by_frame_where(
         &self,
         problem: &Problem,
@@ -331,8 +337,8 @@ impl Forest {
         }
     }
 
-    /// The starts of a process where it is active, and no time elsewhere: once its node is ready and an input from
-    /// another node is there, and at a release or later.
+    /// Returns the starts of a process at `release` or later, once its node is ready and an input from another node
+    /// has arrived, where `active` is true; no time elsewhere.
     pub(crate) fn started_by_input_where(
         &self,
         problem: &Problem,
@@ -355,7 +361,7 @@ impl Forest {
         Ok(start)
     }
 
-    /// The starts of a process on a node once it is ready and at a release or later.
+    /// Returns the starts of a process at `release` or later, once its node is ready.
     pub(crate) fn started(
         &self,
         problem: &Problem,
@@ -383,8 +389,8 @@ impl Forest {
         }
     }
 
-    /// The starts of a process where it is active, and no time elsewhere: once its node is ready, and at a release or
-    /// later.
+    /// Returns the starts of a process at `release` or later, once its node is ready, where `active` is true; no time
+    /// elsewhere.
     pub(crate) fn started_where(
         &self,
         problem: &Problem,
@@ -398,7 +404,7 @@ impl Forest {
         ensures tree { IfOk result (IsTree problem.now) }
         ensures start { IfOk result (IsStartWhere problem.now self.now active.now (ready_by problem.now self.now ready.now) release []) }
     {
-        // a start without regard to the activity, which is then cut to where the process is active
+        // the starts as if the process were always active, then cut to where it is
         let start = self.started(problem, ready, release)?;
         let never = Tree::constant(active.alloc(), None, problem.faults())?;
         let there = Tree::pick(active, &start, &never)?;

@@ -1,4 +1,4 @@
-//! The trees of all processes, along an order.
+//! The trees of all processes, made along an order.
 ghost use Rattle.std.specs.Prelude.{◌≡◌, ◌<◌, IfErr, IfOk, length};
 ghost use Rattle.cpg_base.specs.Graph.{process_count};
 ghost use Rattle.cpg_bus.specs.Plan.{plan_of};
@@ -17,14 +17,16 @@ use cpg_rules::Admitted;
 use cpg_run::{BuildFault, FrozenTimes};
 use std::alloc::Global;
 
-/// Trees, and the frozen times under which they give the runs.
+/// The trees of an order, and the frozen times that they were made under.
 #[derive(Drop)]
 pub(crate) struct GrownForest {
+    /// The frozen times, by item.
     pub(crate) frozen: FrozenTimes,
+    /// The times of items, the ends of processes, and when nodes and slots are free.
     pub(crate) forest: Forest,
 }
 
-/// Refuses the times of what a process sends if a tree of them has too many leaves.
+/// Answers `TooWide` of the forest's item if the tree of an item that the process sends has too many leaves.
 fn few_sent(problem: &Problem, plan: &Plan, forest: &Forest, process: u32) -> Result<(), BuildFault>
     requires plan { plan.now ≡ plan_of problem.now }
     requires process { process < process_count problem.now }
@@ -37,8 +39,8 @@ fn few_sent(problem: &Problem, plan: &Plan, forest: &Forest, process: u32) -> Re
     Ok(())
 }
 
-/// Refuses the tree of when the slots of a node are free if an item of a process at a place or later waits for that and the tree
-/// has too many leaves.
+/// Answers `TooWide` of the forest's item if the tree of when the node's slots are free has too many leaves and an
+/// item of a process at the place `at` or later waits for it.
 fn few_free(
     problem: &Problem,
     order: &Order,
@@ -51,16 +53,19 @@ fn few_free(
     requires forest { HasTrees problem.now forest.now }
     ensures { IfErr result (ShowsLarge forest.now.wide (HasLargeFree problem.now order.now at node forest.now)) }
 {
+    // without an item to name nothing is counted, and the look-up is spared
     if forest.wide.is_none() {
         return Ok(());
     }
+    // no later item reads the tree
     if !is_queued_from(problem, order, node, at) {
         return Ok(());
     }
     few(&forest.free[node as usize], forest.wide)
 }
 
-/// Refuses the trees that a process leaves behind, if one of them has too many leaves.
+/// Answers `TooWide` of the forest's item if a tree that the process leaves behind has too many leaves: one of what it
+/// sends, or that of when its node's slots are free.
 fn few_left(
     problem: &Problem,
     plan: &Plan,
@@ -80,8 +85,8 @@ fn few_left(
     Ok(())
 }
 
-/// The trees of all processes and of what they send, and the frozen times, under an order. If there is an item to name, leaves
-/// are counted: `TooWide` names it if a tree on the way has more than 147,456.
+/// Returns the trees of all processes and of what they send, and the frozen times, under an order. If there is an item
+/// to name, leaves are counted: `TooWide` names it if a tree on the way has more than 147,456.
 pub(crate) fn grown(
     alloc: Global,
     admitted: &Admitted,

@@ -1,4 +1,5 @@
-//! Trees down guards.
+//! Trees that are made down the guard of a process: where it is active, when its node has heard what the guard tests,
+//! and its starts.
 ghost use Rattle.std.specs.Prelude.{⊤, ◌≡◌, ◌<◌, ◌≤◌, All, IfErr, IfOk, None, false, true};
 ghost use Rattle.std.specs.Bool.{OnTrue};
 ghost use Rattle.cpg_base.specs.Graph.{condition_count, edge_count, is_message};
@@ -19,7 +20,7 @@ use cpg_run::BuildFault;
 use cpg_tree::{Tree, value};
 use std::alloc::Global;
 
-/// The tree that the value of a condition picks.
+/// Returns the tree that has the values of `yes` where the condition is true and those of `no` where it is false.
 fn by_value<T: Copy + Eq>(
     alloc: Global,
     problem: &Problem,
@@ -40,10 +41,12 @@ fn by_value<T: Copy + Eq>(
     Ok(picked)
 }
 
-/// A tree that is true where a guard leads to an active leaf.
+/// Makes the tree of where a guard leads to an active leaf.
 #[derive(Clone, Copy)]
 struct Activity<'a> {
+    /// Where the trees are allocated.
     alloc: Global,
+    /// The graph that the guard is of.
     problem: &'a Problem,
 }
 
@@ -52,6 +55,7 @@ impl Descent<bool> for Activity<'_> {
 
     ghost conditions = { λ a. condition_count a.problem.now };
 
+    // a leaf may have any activation
     ghost may = { λ a b. ⊤ };
 
     ghost made = { λ a t. IsTree a.problem.now t };
@@ -60,19 +64,22 @@ impl Descent<bool> for Activity<'_> {
 
     ghost wide = { λ a. None };
 
+    // no leaf is refused
     ghost large = { λ a b. ⊥ };
 
-    // nothing can be too wide here, so leaves aren't counted
+    // leaves aren't counted here: the tree forks on the conditions of the guard alone
     fn wide(&self) -> Option<u32> {
         None
     }
 
+    // a leaf has no test, so it is active in all scenarios or in none
     fn leaf(&self, activation: Activation) -> Result<Tree<bool>, BuildFault> {
         let faults = self.problem.faults();
         let constant = Tree::constant(self.alloc, activation.is_active(), faults)?;
         Ok(constant)
     }
 
+    // the value of the condition picks the side
     fn test(
         &self,
         condition: u32,
@@ -83,7 +90,7 @@ impl Descent<bool> for Activity<'_> {
     }
 }
 
-/// A tree that is true where a guard leads to an active leaf.
+/// Returns a tree that is true where a guard leads to an active leaf, so where its process is active.
 pub(crate) fn active(
     alloc: Global,
     problem: &Problem,
@@ -103,7 +110,7 @@ pub(crate) fn active(
     }
 }
 
-/// A tree that is true where a guard tests a condition.
+/// Returns a tree that is true where a guard tests the condition `wanted` on the scenario's way.
 pub(crate) fn tested_on(
     alloc: Global,
     problem: &Problem,
@@ -116,18 +123,18 @@ pub(crate) fn tested_on(
     ensures tested { IfOk result (IsTestedOn problem.now.faults guard.now wanted) }
 {
     match guard.top() {
-        // no test stands on this way
+        // no test is left on this way
         GuardTop::Leaf(_) => {
             let never = Tree::constant(alloc, false, problem.faults())?;
             Ok(never)
         }
         GuardTop::Test { condition, no, yes } => {
-            // the test is here, so it is on each way from here on
+            // each way from here on has this test
             if condition == wanted {
                 let always = Tree::constant(alloc, true, problem.faults())?;
                 return Ok(always);
             }
-            // otherwise it may be on either side
+            // the condition may be tested further on, on the side that the value picks
             let no = tested_on(alloc, problem, no, wanted)?;
             let yes = tested_on(alloc, problem, yes, wanted)?;
             let picked = by_value(alloc, problem, condition, &yes, &no)?;
@@ -136,12 +143,16 @@ pub(crate) fn tested_on(
     }
 }
 
-/// When a node has heard what a guard tests.
+/// Makes the tree of when a node has heard what a guard tests.
 #[derive(Clone, Copy)]
 struct GuardHearing<'a> {
+    /// Where the trees are allocated.
     alloc: Global,
+    /// The graph that the guard is of.
     problem: &'a Problem,
+    /// The trees so far, which say when a condition is heard.
     forest: &'a Forest,
+    /// The node that hears.
     node: u32,
 }
 
@@ -150,6 +161,7 @@ impl Descent<u64> for GuardHearing<'_> {
 
     ghost conditions = { λ h. condition_count h.problem.now };
 
+    // a leaf may have any activation
     ghost may = { λ h a. ⊤ };
 
     ghost made = { λ h t. IsTree h.problem.now t };
@@ -158,8 +170,10 @@ impl Descent<u64> for GuardHearing<'_> {
 
     ghost wide = { λ h. h.forest.now.wide };
 
+    // no leaf is refused: its tree is one number
     ghost large = { λ h a. ⊥ };
 
+    // the forest's item, or `None` if leaves aren't counted
     fn wide(&self) -> Option<u32> {
         let forest = self.forest;
         forest.wide
@@ -186,7 +200,8 @@ impl Descent<u64> for GuardHearing<'_> {
     }
 }
 
-/// When a node has heard each condition that a guard tests.
+/// Returns the tree of when a node has heard each condition that a guard tests on the scenario's way; 0 where it tests
+/// none. `TooWide` names the forest's item if a tree on the way has too many leaves.
 pub(crate) fn heard(
     alloc: Global,
     problem: &Problem,
@@ -211,7 +226,7 @@ pub(crate) fn heard(
     Ok(heard)
 }
 
-/// Whether no input is from another node.
+/// Whether all these inputs come from the process's own node; so it is if there are none.
 fn are_own(problem: &Problem, edges: &[u32]) -> bool
     requires { All (λ e. e < edge_count problem.now) edges.now }
     ensures { OnTrue result (All (λ e. is_message problem.now e ≡ false) edges.now) }
@@ -226,7 +241,8 @@ fn are_own(problem: &Problem, edges: &[u32]) -> bool
     are_own(problem, others)
 }
 
-/// The starts of a process that waits for its node, its release and these inputs.
+/// Returns the starts of a process that waits for its node, its release and these inputs. `TooWide` names the forest's
+/// item if a tree of the wait with some of the inputs has too many leaves.
 fn start_after(
     problem: &Problem,
     forest: &Forest,
@@ -251,7 +267,7 @@ fn start_after(
         let start = start_after(problem, forest, wait, release, others)?;
         return Ok(start);
     }
-    // this is the last input from another node, so the starts are made at once, with no tree of the wait before
+    // no later input comes from another node, so the starts are made at once, without a tree of this wait
     if are_own(problem, others) {
         let start = forest.started_by_input(problem, wait, *edge, release)?;
         return Ok(start);
@@ -264,8 +280,9 @@ fn start_after(
     Ok(start)
 }
 
-/// The starts of a process where it is active, and no time elsewhere, if it waits for its node, its release and these
-/// inputs.
+/// Returns the starts of a process where it is active, and no time elsewhere; there it waits for its node, its release
+/// and these inputs. `TooWide` names the forest's item if a tree of the wait with some of the inputs has too many
+/// leaves.
 fn start_where(
     problem: &Problem,
     forest: &Forest,
@@ -305,7 +322,7 @@ fn start_where(
     Ok(start)
 }
 
-/// Whether an activation waits for all inputs, if it is one.
+/// Whether the activation waits for all inputs, or is inactive and so waits for none.
 fn is_for_all(activation: Activation) -> bool
     ensures { OnTrue result (WaitsForAll activation) }
 {
@@ -318,7 +335,7 @@ fn is_for_all(activation: Activation) -> bool
     }
 }
 
-/// Whether each activation that a guard leads to waits for all inputs.
+/// Whether no leaf of a guard waits for one input alone.
 fn waits_for_all(guard: &GuardTree) -> bool
     ensures { OnTrue result (AreLeaves WaitsForAll guard.now) }
 {
@@ -337,13 +354,14 @@ fn waits_for_all(guard: &GuardTree) -> bool
     }
 }
 
-/// Whether the starts with a guard are made only where it leads to an active leaf: it tests something, and each
-/// active leaf waits for the same inputs.
+/// Whether the starts are made once for all active leaves of a guard: it tests something, and each active leaf waits
+/// for all inputs.
 fn is_by_activity(guard: &GuardTree) -> bool
     ensures { OnTrue result (AreLeaves WaitsForAll guard.now) }
 {
     match guard.top() {
-        // if nothing is tested, the starts can share the nodes of the ends
+        // if nothing is tested, the starts need no tree of where the process is active, and can share nodes with the
+        // ends before it
         GuardTop::Leaf(_) => false,
         GuardTop::Test {
             condition: _,
@@ -353,7 +371,8 @@ fn is_by_activity(guard: &GuardTree) -> bool
     }
 }
 
-/// The starts of a process with an activation: it waits for its node, its release and its inputs.
+/// Returns the starts of a process with this activation: none if it is inactive, and otherwise once its node is ready,
+/// at its release or later, when all inputs, or the one that the activation names, are there.
 fn start_by(
     alloc: Global,
     problem: &Problem,
@@ -390,14 +409,20 @@ fn start_by(
     }
 }
 
-/// The starts of a process that waits for its node, its release and its inputs.
+/// Makes the starts of a process down its guard.
 #[derive(Clone, Copy)]
 struct Starting<'a> {
+    /// Where the trees are allocated.
     alloc: Global,
+    /// The graph that the guard is of.
     problem: &'a Problem,
+    /// The trees so far, which say when inputs are there.
     forest: &'a Forest,
+    /// From when on the node is ready and has heard what the guard tests.
     wait: &'a Ready,
+    /// The release of the process, before which it doesn't start.
     release: u64,
+    /// The edges that lead to the process.
     inputs: &'a [u32],
 }
 
@@ -407,6 +432,7 @@ impl Descent<Option<u64>> for Starting<'_> {
 
     ghost conditions = { λ s. condition_count s.problem.now };
 
+    // an activation by an input names an edge of the graph
     ghost may = { λ s a. IsByBelow (edge_count s.problem.now) a };
 
     ghost made = { λ s t. IsTree s.problem.now t };
@@ -415,13 +441,16 @@ impl Descent<Option<u64>> for Starting<'_> {
 
     ghost wide = { λ s. s.forest.now.wide };
 
+    // a leaf is refused if a tree that is made of its inputs one after another has too many leaves
     ghost large = { λ s a. IsLargeWith s.problem.now s.forest.now (ready_by s.problem.now s.forest.now s.wait.now) (awaited s.inputs.now a) };
 
+    // the forest's item, or `None` if leaves aren't counted
     fn wide(&self) -> Option<u32> {
         let forest = self.forest;
         forest.wide
     }
 
+    // the activation says which inputs are waited for
     fn leaf(&self, activation: Activation) -> Result<Tree<Option<u64>>, BuildFault> {
         start_by(
             self.alloc,
@@ -434,6 +463,7 @@ impl Descent<Option<u64>> for Starting<'_> {
         )
     }
 
+    // the value of the condition picks the side
     fn test(
         &self,
         condition: u32,
@@ -444,8 +474,9 @@ impl Descent<Option<u64>> for Starting<'_> {
     }
 }
 
-/// The starts of a process with a guard: it waits for its node, its release and its inputs. `active` says where the
-/// guard leads to an active leaf.
+/// Returns the starts of a process with a guard: it waits for its node, its release and its inputs. `active` says
+/// where the guard leads to an active leaf. `TooWide` names the forest's item if a tree on the way has too many
+/// leaves.
 pub(crate) fn start(
     problem: &Problem,
     forest: &Forest,
@@ -468,7 +499,7 @@ pub(crate) fn start(
     ensures fault { IfErr result (ShowsLarge forest.now.wide (IsLargeStart problem.now forest.now (ready_by problem.now forest.now wait.now) release inputs.now guard.now)) }
 {
     if is_by_activity(guard) {
-        // the guard tests something, and each active leaf waits for all inputs: one tree serves all leaves
+        // each active leaf waits for all inputs, so one tree of starts serves all of them
         let start = start_where(problem, forest, wait, release, inputs, active)?;
         return Ok(start);
     }

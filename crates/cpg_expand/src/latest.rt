@@ -1,5 +1,5 @@
-//! The latest time that a frozen item would have, found for each thing that it waits for separately: a tree of all of
-//! them together can be far wider than the item's row.
+//! The latest time that a frozen item would have. Each thing that it waits for is looked at alone, since a tree of all
+//! of them can be far wider than the item's row.
 ghost use Rattle.std.specs.Prelude.{◌≡◌, ◌<◌, ◌≤◌, All, IfOk, length};
 ghost use Rattle.cpg_base.specs.Bus.{round, slot_length};
 ghost use Rattle.cpg_base.specs.Graph.{condition_count, edge_count, home, item_count, process_at, process_count};
@@ -20,7 +20,7 @@ use cpg_tree::{Tree, time_later};
 use cpg_tree_times::slot_at;
 use std::alloc::Global;
 
-/// The greatest time of a tree in a scenario in which another one is true.
+/// Returns the greatest time that `tree` has in a scenario in which `wanted` is true; `None` exactly if there is none.
 fn most_where(problem: &Problem, tree: &Tree<Option<u64>>, wanted: &Tree<bool>) -> Option<u64>
     requires tree { IsTree problem.now tree.now }
     requires wanted { IsTree problem.now wanted.now }
@@ -31,7 +31,7 @@ fn most_where(problem: &Problem, tree: &Tree<Option<u64>>, wanted: &Tree<bool>) 
     cpg_tree_columns::most_where(tree, wanted)
 }
 
-/// The greater of a time and of another one later by a delay.
+/// Returns the greater of `latest` and of the time with the delay; `latest` if there is no time.
 fn or_later(latest: u64, time: Option<u64>, delay: u64) -> u64
     ensures { result ≡ or_later latest delay time }
 {
@@ -41,7 +41,8 @@ fn or_later(latest: u64, time: Option<u64>, delay: u64) -> u64
     }
 }
 
-/// The greater of a time and of the latest time at which a frame is there where a tree is true.
+/// Returns `latest`, raised to the latest arrival of an item's frame in a scenario in which `wanted` is true; `latest`
+/// if there is none.
 fn after_frame(
     problem: &Problem,
     forest: &Forest,
@@ -52,7 +53,7 @@ fn after_frame(
     requires forest { HasTrees problem.now forest.now }
     requires item { item < item_count problem.now }
     requires wanted { IsTree problem.now wanted.now }
-    // the result is `latest`, raised to a slot after the latest time of the item where `wanted` is true
+    // a frame arrives at the end of its slot, so a slot's length after its time
     ensures { IsRaised problem.now (HasLater (times_of problem.now forest.now item) wanted.now
         (slot_length problem.now (home problem.now item))) latest result }
 {
@@ -60,7 +61,8 @@ fn after_frame(
     or_later(latest, time, problem.slot_length(problem.home(item)))
 }
 
-/// The greater of a time and of the latest end of a process where a tree is true.
+/// Returns `latest`, raised to the latest end of a process in a scenario in which `wanted` is true; `latest` if there
+/// is none.
 fn after_end(
     problem: &Problem,
     forest: &Forest,
@@ -77,7 +79,8 @@ fn after_end(
     or_later(latest, time, 0)
 }
 
-/// The greater of a time and of the latest time at which a node has heard a condition where a tree is true.
+/// Returns `latest`, raised to the latest time at which a node hears a condition in a scenario in which `wanted` is
+/// true; `latest` if there is none.
 fn after_condition(
     problem: &Problem,
     forest: &Forest,
@@ -106,8 +109,8 @@ fn after_condition(
     )
 }
 
-/// The greater of a time and of the latest end of a process where a tree is true, if the process is one of a span
-/// before a place.
+/// Returns `latest`, raised to the latest end of process `other` where `active` is true, if that is in the span and
+/// before `to`.
 fn after_one(
     span: &NodeSpan<'_>,
     forest: &Forest,
@@ -123,14 +126,14 @@ fn after_one(
     ensures { IsRaised span.now.problem.now
         (HasEnded span.now.problem.now span.now.order.now forest.now active.now span.now.node span.now.from to other) latest result }
 {
-    // this process isn't one of the span
+    // this process isn't in the span or not before `to`, so it isn't waited for
     if !stands_between(span, span.from, to, other) {
         return latest;
     }
     after_end(span.problem, forest, other, active, latest)
 }
 
-/// The greater of a time and of the latest end of any process of a span before a place.
+/// Returns `first`, raised to the latest end, where `active` is true, of any process in the span and before `to`.
 fn after_ends(span: &NodeSpan<'_>, forest: &Forest, active: &Tree<bool>, to: u32, first: u64) -> u64
     requires along { AreAlong span.now.problem.now span.now.guards.now span.now.order.now }
     requires forest { HasTrees span.now.problem.now forest.now }
@@ -146,7 +149,7 @@ fn after_ends(span: &NodeSpan<'_>, forest: &Forest, active: &Tree<bool>, to: u32
     latest
 }
 
-/// A tree that is true where both of two trees are.
+/// Returns a tree that is true where both are.
 fn both(
     alloc: Global,
     problem: &Problem,
@@ -163,8 +166,8 @@ fn both(
     Ok(both)
 }
 
-/// The greater of a time and of the latest time at which a node has heard a condition where a tree is true and a
-/// guard of a span before a place tests it.
+/// Returns `latest`, raised to the latest time at which the span's node hears the condition, where `active` is true
+/// and the guard of some process in the span and before `to` tests it.
 fn after_asked(
     alloc: Global,
     span: &NodeSpan<'_>,
@@ -182,7 +185,7 @@ fn after_asked(
         (HasHeard span.now.problem.now span.now.order.now span.now.guards.now forest.now active.now span.now.node span.now.from to condition) latest) }
 {
     let problem = span.problem;
-    // if the condition is heard no later than that, it does not matter which guards test it
+    // where `active` is true it is never heard later than `latest`, so it doesn't matter which guards test it
     if after_condition(problem, forest, span.node, condition, active, latest) == latest {
         return Ok(latest);
     }
@@ -192,8 +195,8 @@ fn after_asked(
     Ok(heard)
 }
 
-/// The greater of a time and of the latest time at which a node has heard what a guard of a span before a place
-/// tests, where a tree is true.
+/// Returns `first`, raised to the latest time at which the span's node hears any condition where `active` is true and
+/// the guard of some process in the span and before `to` tests it.
 fn after_hearing(
     alloc: Global,
     span: &NodeSpan<'_>,
@@ -216,7 +219,7 @@ fn after_hearing(
     Ok(latest)
 }
 
-/// The greater of a time and of the latest time at which an input from another node is there.
+/// Returns `latest`, raised to the latest arrival of an input where `active` is true, if it comes from another node.
 fn after_input(
     problem: &Problem,
     forest: &Forest,
@@ -236,7 +239,8 @@ fn after_input(
     after_frame(problem, forest, problem.message_item(edge), active, latest)
 }
 
-/// The greater of a time and of the latest time at which any of these inputs is there.
+/// Returns `first`, raised to the latest arrival, where `active` is true, of any of these inputs that comes from
+/// another node.
 fn after_inputs(
     problem: &Problem,
     forest: &Forest,
@@ -256,9 +260,9 @@ fn after_inputs(
     latest
 }
 
-/// The latest start of a process. It waits until the processes before it on its node have ended, until the node has
-/// heard what their guards and its own test, for its release and for these inputs. `None` exactly if the process is
-/// never active.
+/// Returns the latest start of a process in any scenario: it waits for its release, these inputs, the ends of the
+/// processes in the span before it, and until its node has heard what their guards and its own test. `None` exactly if
+/// the process is never active.
 pub(crate) fn latest_start(
     alloc: Global,
     span: &NodeSpan<'_>,
@@ -278,26 +282,29 @@ pub(crate) fn latest_start(
     let problem = span.problem;
     let at = span.order.place(process);
     let ready = Tree::constant(alloc, Some(problem.release(process)), problem.faults())?;
-    // no scenario has the process active
+    // the release has a time everywhere, so without one here the process is never active
     let Some(first) = most_where(problem, &ready, active) else {
         return Ok(None);
     };
-    // first the ends before it, then what is heard, then the inputs: each step may raise the latest start
+    // each step may raise the latest start; `at + 1` also takes in the guard of the process itself
     let ended = after_ends(span, forest, active, at, first);
     let heard = after_hearing(alloc, span, forest, active, at + 1, ended)?;
     Ok(Some(after_inputs(problem, forest, active, edges, heard)))
 }
 
-/// An item that is sent: its number, the tree of where it goes, and the length of a round.
+/// An item that is sent.
 #[derive(Clone, Copy)]
 pub(crate) struct Sent<'a> {
+    /// Its number.
     pub(crate) item: u32,
+    /// Where it goes.
     pub(crate) goes: &'a Tree<bool>,
+    /// The length of a round of the bus.
     pub(crate) round: u64,
 }
 
-/// The greater of a time and of a round after the latest time at which an item is sent where another one goes, if it
-/// stands before that one in the queue of its node.
+/// Returns `latest`, raised to a round after the latest time of item `other` in a scenario in which `sent` goes, if
+/// `other` stands before it in the queue of its node.
 fn after_queued(
     problem: &Problem,
     order: &Order,
@@ -314,7 +321,7 @@ fn after_queued(
     requires other { other < item_count problem.now }
     ensures { IsRaised problem.now (HasQueued problem.now order.now forest.now sent.now.goes.now sent.now.item other) latest result }
 {
-    // the other item doesn't stand before this one
+    // the other item isn't before this one in a queue, so this one doesn't wait for it
     if !stands_before(problem, order, other, sent.item) {
         return latest;
     }
@@ -322,8 +329,8 @@ fn after_queued(
     or_later(latest, time, sent.round)
 }
 
-/// The greater of a time and of a round after the last of the items that stand before an item in the queue of its
-/// node.
+/// Returns `first`, raised to a round after the latest time of each item that stands before `sent` in the queue of its
+/// node, in a scenario in which `sent` goes.
 fn after_queue(
     problem: &Problem,
     order: &Order,
@@ -345,8 +352,8 @@ fn after_queue(
     latest
 }
 
-/// The latest time of an item where it goes. It is sent once its producer has ended and its slots are free: in the
-/// first slot from the latest end on, or a round after what stands before it, whichever is later.
+/// Returns the latest time at which an item is sent in any scenario: in the first slot from its producer's latest end
+/// on, or a round after an item before it in the queue, whichever is later. `None` exactly if it never goes.
 pub(crate) fn latest_send(
     problem: &Problem,
     order: &Order,
@@ -363,7 +370,7 @@ pub(crate) fn latest_send(
     requires end { IsTree problem.now end.now }
     ensures { IsLatestSend problem.now order.now forest.now share sent.now.goes.now end.now sent.now.item result }
 {
-    // an item that never goes has no latest time
+    // where the item goes its producer has ended, so without an end it never goes
     let last = most_where(problem, end, sent.goes)?;
     let first = slot_at(share, Some(last));
     Some(after_queue(problem, order, forest, sent, first))

@@ -1,6 +1,6 @@
-//! Tables by trees. Along an order a tree is made of each process's start and end and of each time at which something
-//! is sent: it gives that time in every scenario. Then each item gets a row, the columns of its tree, and the
-//! greatest finish and excess are found. No scenario is listed.
+//! Tables from trees. Along an order, a tree is made for each process's start and end, and for each item that is sent;
+//! it tells the time in every scenario. Then each item gets a row, the columns of its tree, and the greatest finish
+//! and excess are found. Scenarios aren't gone over one by one.
 #![tactic(auto)]
 
 mod activity;

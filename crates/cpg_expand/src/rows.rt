@@ -1,4 +1,4 @@
-//! Rows of trees.
+//! The rows of the items, made from the trees of their times.
 ghost use Rattle.std.specs.Prelude.{◌+◌, ◌*◌, ◌≡◌, ◌≤◌, ◌<◌, ◌⊎◌, All, IfErr, IfOk, IfSome, IsPermutation, Some, length};
 ghost use Rattle.cpg_base.specs.Graph.{item_at, item_count, process_count};
 ghost use Rattle.cpg_base.specs.Numbers.{numbers_below};
@@ -16,8 +16,8 @@ use cpg_tree::Tree;
 use cpg_tree_columns::{MadeRow, row};
 use std::alloc::Global;
 
-/// The number of columns of the rows so far in all tables, with those of one more row, if there is an item to name.
-/// `TooWide` names it if that row, or all rows together, have too many.
+/// Returns the number of columns of the rows so far in all tables, with those of one more row, if there is an item to
+/// name. `TooWide` names it if that row, or all rows together, have too many.
 fn load_with(
     problem: &Problem,
     wide: Option<u32>,
@@ -32,6 +32,7 @@ fn load_with(
     ensures fault { IfErr result (ShowsLarge wide ((MOST_COLUMNS < length row.now.columns)
         ⊎ (MOST_LOAD < load + length row.now.columns * rows_of_item problem.now (item_at problem.now item)))) }
 {
+    // without an item to name columns aren't counted
     let Some(name) = wide else {
         return Ok(load);
     };
@@ -39,6 +40,7 @@ fn load_with(
     if columns > MOST_COLUMNS {
         return Err(BuildFault::TooWide(name));
     }
+    // a row stands in several tables: its sender's and its hearers'
     let sum = load + columns * rows_of_item(problem, item);
     if sum > MOST_LOAD {
         return Err(BuildFault::TooWide(name));
@@ -46,8 +48,9 @@ fn load_with(
     Ok(sum)
 }
 
-/// A row for each item: its tree is either kept in it or given back. If there is an item to name, columns are counted:
-/// `TooWide` names it if a row has more than 16,384, or all rows of all tables more than 524,288.
+/// Returns a row for each item, by number. The tree of the item is either kept in its row or dropped once that is
+/// listed. If there is an item to name, columns are counted: `TooWide` names it if a row has more than 16,384, or all
+/// rows of all tables more than 524,288.
 pub(crate) fn rows(
     alloc: Global,
     problem: &Problem,

@@ -1,4 +1,4 @@
-//! What a process sends.
+//! What a process sends: in which scenarios, when, and when the slots of its node are free after that.
 ghost use Rattle.std.specs.Prelude.{◌≡◌, ◌<◌, ◌≤◌, IfOk, IfSome, length, slice_set, true};
 ghost use Rattle.cpg_base.specs.Bus.{round};
 ghost use Rattle.cpg_base.specs.Order.{place};
@@ -25,7 +25,7 @@ use cpg_tree::{Tree, value};
 use cpg_tree_times::{later, pick_later, same_as, slots};
 use std::alloc::Global;
 
-/// A tree that is true where a given one is and a condition has a value.
+/// Returns a tree that is true where `active` is and the condition has the value `wanted`.
 fn tested(
     alloc: Global,
     problem: &Problem,
@@ -46,7 +46,8 @@ fn tested(
     Ok(both)
 }
 
-/// The condition whose value decides whether an edge is live once its source has ended, and that value.
+/// Returns the condition that an edge asks for, with the value that it wants; `None` if the edge is live wherever its
+/// source is active.
 fn asked(problem: &Problem, edge: u32) -> Option<(u32, bool)>
     requires { edge < edge_count problem.now }
     ensures asked { result ≡ asked problem.now edge }
@@ -58,15 +59,15 @@ fn asked(problem: &Problem, edge: u32) -> Option<(u32, bool)>
         Some(wanted) => match problem.condition_of(source) {
             // the edge asks for a value of its source's condition
             Some(condition) => Some((condition, wanted)),
-            // a source without a condition: the edge is live with its source
+            // its source has no condition, so the edge is live wherever the source is active
             None => None,
         },
-        // the edge asks for nothing
+        // the edge asks for no value
         None => None,
     }
 }
 
-/// A tree that is true where an edge is live, given where its source is active.
+/// Returns a tree that is true where an edge is live, given where its source is active.
 fn live(
     alloc: Global,
     problem: &Problem,
@@ -80,7 +81,7 @@ fn live(
     ensures live { IfOk result (IsLiveTree problem.now edge active.now) }
 {
     match asked(problem, edge) {
-        // the source is active and the condition has the value
+        // the edge is live where the source is active and the condition has the value
         Some(question) => {
             let tested = tested(alloc, problem, active, question.0, question.1)?;
             Ok(tested)
@@ -93,7 +94,7 @@ fn live(
     }
 }
 
-/// A tree that is true where an item is sent, given where its producer is active.
+/// Returns a tree that is true where an item is sent, given where its producer is active.
 pub(crate) fn goes(
     alloc: Global,
     problem: &Problem,
@@ -113,7 +114,7 @@ pub(crate) fn goes(
             let live = live(alloc, problem, active, edge)?;
             Ok(live)
         }
-        // anything else goes where its producer is active
+        // a broadcast goes wherever its producer is active
         _ => {
             let same = same_as(active, true)?;
             Ok(same)
@@ -121,7 +122,8 @@ pub(crate) fn goes(
     }
 }
 
-/// The first free slots at the end of a process or later, where an item is sent.
+/// Returns a tree with the first free slot at `end` or later where an item goes, and no time elsewhere. `free` says
+/// from when on slots are free.
 fn unfrozen_sent(
     alloc: Global,
     problem: &Problem,
@@ -137,7 +139,7 @@ fn unfrozen_sent(
     ensures sent { IfOk result (IsSentTree problem.now.faults share goes.now end.now free.now) }
 {
     let slots = slots(share, end, free)?;
-    // the item goes in each scenario, so no fork on `goes` is needed
+    // the item goes in each scenario, so what was free before doesn't matter
     if goes.is_true() {
         return Ok(slots);
     }
@@ -146,8 +148,9 @@ fn unfrozen_sent(
     Ok(sent)
 }
 
-/// When the slots are free once an item is sent. It is made only if an item waits for it, since behind a frozen item
-/// this tree can be far wider than the item's row.
+/// Returns when the slots are free after an item: a round after it where it goes, and as before elsewhere. That holds
+/// only if some item waits for it; otherwise any tree is returned, since the right one can be far wider than a frozen
+/// item's row.
 fn freed(
     problem: &Problem,
     order: &Order,
@@ -182,7 +185,8 @@ fn freed(
     Ok(freed)
 }
 
-/// The first free slots of an item's node at its producer's end or later, where the item goes.
+/// Returns a tree with the first free slot of an item's node at its producer's end or later where the item goes, and
+/// no time elsewhere.
 fn slots_of(
     alloc: Global,
     problem: &Problem,
@@ -209,7 +213,7 @@ fn slots_of(
     Ok(sent)
 }
 
-/// When the slots of an item's node are free once it is sent, if an item waits for that.
+/// Returns when the slots of an item's node are free after it, if an item waits for that; otherwise any tree.
 fn free_then(
     problem: &Problem,
     plan: &Plan,
@@ -235,7 +239,7 @@ fn free_then(
     Ok(freed)
 }
 
-/// Puts the times of an item and the times from which on the slots of a node are free.
+/// Puts the times of an item, and from when on the slots of its node are free.
 fn put(forest: &mut Forest, item: u32, times: Tree<Option<u64>>, node: u32, free: Tree<u64>)
     requires item { item < length forest.old.times }
     requires node { node < length forest.old.free }
@@ -251,15 +255,18 @@ fn put(forest: &mut Forest, item: u32, times: Tree<Option<u64>>, node: u32, free
     forest.free[node as usize] = free;
 }
 
-/// A graph, its plan and an order of its processes.
+/// A graph, its plan of inputs, queues and slots, and an order of its processes.
 #[derive(Clone, Copy)]
 pub(crate) struct PlannedCourse<'a> {
+    /// The graph.
     pub(crate) problem: &'a Problem,
+    /// The plan of the graph.
     pub(crate) plan: &'a Plan,
+    /// The order of the processes.
     pub(crate) order: &'a Order,
 }
 
-/// The latest time at which an item would be sent, its frozen time aside, where it goes.
+/// Returns the latest time at which a frozen item would be sent if it weren't frozen; `None` exactly if it never goes.
 fn latest_of(
     course: &PlannedCourse<'_>,
     forest: &Forest,
@@ -288,7 +295,7 @@ fn latest_of(
     latest_send(problem, course.order, forest, share, &sent, end)
 }
 
-/// The times of an item that is sent, its frozen time set if it is frozen.
+/// Returns the times of an item that is sent. If it is frozen, they are one time, which is set in `frozen`.
 fn sent_of(
     alloc: Global,
     course: &PlannedCourse<'_>,
@@ -319,7 +326,8 @@ fn sent_of(
     Ok(sent)
 }
 
-/// Adds the times of an item that a process sends, and when the slots of its node are free then.
+/// Adds an item that a process sends: its times, its frozen time if it is frozen, and when the slots of its node are
+/// free after it.
 fn add(
     alloc: Global,
     course: &PlannedCourse<'_>,
@@ -342,7 +350,7 @@ fn add(
     ensures added { IfOk result (λ u. IsItemAdded course.now.problem.now course.now.order.now active.now item forest.old forest.new frozen.old frozen.new) }
 {
     let problem = course.problem;
-    // where the item goes, its times, and when the slots are free behind it
+    // where the item goes, when it is sent, and when slots are free behind it
     let goes = goes(alloc, problem, active, item)?;
     let sent = sent_of(alloc, course, frozen, forest, &goes, item)?;
     let free = free_then(
@@ -358,7 +366,7 @@ fn add(
     Ok(())
 }
 
-/// Adds what a process sends, in its order.
+/// Adds the items that a process sends, in the order of its queue.
 pub(crate) fn send(
     alloc: Global,
     course: &PlannedCourse<'_>,

@@ -1,4 +1,4 @@
-//! Starts of processes.
+//! The starts of processes: what they wait for on their nodes, and how a frozen one is set.
 ghost use Rattle.std.specs.Prelude.{◌≡◌, ◌<◌, ◌≤◌, All, IfErr, IfOk, length};
 ghost use Rattle.cpg_expand.specs.Freezing.{IsFrozenBy, set_if};
 ghost use Rattle.cpg_base.specs.Graph.{condition_count, edge_count, item_count, process_at, process_count};
@@ -19,8 +19,8 @@ use cpg_tree::Tree;
 use cpg_tree_times::fixed;
 use std::alloc::Global;
 
-/// Refuses a tree of when a node is ready that has too many leaves. The ends of a process are counted when they are made. The
-/// contract alone names `problem`.
+/// Refuses the tree of when a node is ready if it has too many leaves: `TooWide` names the forest's item, if it has
+/// one. The ends of a process were counted when they were made. The contract alone names `problem`.
 fn few_ready(problem: &Problem, forest: &Forest, node: u32) -> Result<(), BuildFault>
     requires forest { HasTrees problem.now forest.now }
     requires node { node < length problem.now.nodes }
@@ -32,8 +32,9 @@ fn few_ready(problem: &Problem, forest: &Forest, node: u32) -> Result<(), BuildF
     }
 }
 
-/// From when on a node is ready for a process with a guard and has heard what the guard tests. `None` if the guard
-/// tests nothing: then only the node's readiness counts.
+/// Returns from when on a node is ready for a process and has heard what its guard tests. `None` exactly if the guard
+/// tests nothing: then the process waits until its node is ready. `TooWide` names the forest's item if a tree on the
+/// way has too many leaves.
 pub(crate) fn waiting(
     alloc: Global,
     problem: &Problem,
@@ -66,8 +67,8 @@ pub(crate) fn waiting(
     }
 }
 
-/// What a process waits for on its node: when the node is ready and has heard what is tested, or, if nothing is
-/// tested, when the node is ready. The contract alone names `problem`.
+/// Returns what a process waits for on its node: `heard`, which says when its node is ready and has heard what is
+/// tested; without that, what says when the node is ready. The contract alone names `problem`.
 pub(crate) fn wait_for<'a>(
     problem: &Problem,
     forest: &'a Forest,
@@ -84,7 +85,8 @@ pub(crate) fn wait_for<'a>(
     }
 }
 
-/// The starts of a process, its frozen time aside, by where it is active.
+/// Returns the starts of a process that isn't frozen. `active` says where it is active. `TooWide` names the forest's
+/// item if a tree on the way has too many leaves.
 pub(crate) fn unfrozen_start(
     problem: &Problem,
     forest: &Forest,
@@ -120,7 +122,7 @@ pub(crate) fn unfrozen_start(
     )
 }
 
-/// Sets the frozen time of an item, if there is one.
+/// Sets `latest` as the frozen time of an item; with `None` nothing changes.
 fn set_if(frozen: &mut FrozenTimes, item: u32, latest: Option<u64>)
     requires { item < length frozen.old }
     ensures { frozen.new ≡ set_if frozen.old item latest }
@@ -130,8 +132,8 @@ fn set_if(frozen: &mut FrozenTimes, item: u32, latest: Option<u64>)
     }
 }
 
-/// Sets the latest time of an item as its frozen time, if there is one, and gives the tree of that one time. The contract
-/// alone names `problem`.
+/// Sets `latest` as the frozen time of an item, and returns the tree that has this time where the item goes. With
+/// `None`, which is right only if it never goes, no time is set. The contract alone names `problem`.
 pub(crate) fn freeze(
     problem: &Problem,
     frozen: &mut FrozenTimes,
@@ -145,6 +147,7 @@ pub(crate) fn freeze(
     ensures tree { IfOk result (IsTree problem.now) }
     ensures frozen { IfOk result (IsFrozenBy item latest goes.now frozen.old frozen.new) }
 {
+    // if there is no latest time, `goes` is nowhere true, so 0 isn't read
     let one = fixed(goes, latest.unwrap_or(0))?;
     set_if(frozen, item, latest);
     Ok(one)

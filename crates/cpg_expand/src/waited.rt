@@ -1,4 +1,5 @@
-//! What waits until a node is ready or its slots are free.
+//! Whether something later in the order waits until a node is ready or its slots are free. If nothing does, no tree of
+//! that is needed.
 ghost use Rattle.std.specs.Prelude.{◌+◌, ◌≡◌, ◌==◌, ◌&&◌, ◌<◌, length, nat_le, nat_lt, not, true};
 ghost use Rattle.cpg_base.specs.Graph.{home, is_frozen, is_sent, item_count, node_of, process_count, producer};
 ghost use Rattle.cpg_base.specs.Order.{place};
@@ -7,7 +8,7 @@ ghost use Rattle.cpg_order.specs.Queue.{rank_of_item};
 
 use cpg_base::{Item, Order, Problem};
 
-/// Whether a process that isn't frozen is on a node and stands behind a place.
+/// Whether process `other` is on the node, stands behind the place `at`, and isn't frozen.
 fn waits_behind(problem: &Problem, order: &Order, node: u32, at: u32, other: u32) -> bool
     requires other { other < process_count problem.now }
     requires order { length order.now ≡ process_count problem.now }
@@ -16,8 +17,8 @@ fn waits_behind(problem: &Problem, order: &Order, node: u32, at: u32, other: u32
     problem.node_of(other) == node && (at < order.place(other) && !problem.is_frozen(other))
 }
 
-/// Whether some process behind a given one is on the same node and is not frozen. The start of a frozen process does
-/// not rest on a tree of both.
+/// Whether some process behind a given one is on the same node and isn't frozen. A frozen process looks at what it
+/// waits for separately, so it needs no tree of when its node is ready.
 pub(crate) fn is_waited_for(problem: &Problem, order: &Order, process: u32) -> bool
     requires process { process < process_count problem.now }
     requires order { length order.now ≡ process_count problem.now }
@@ -34,7 +35,7 @@ pub(crate) fn is_waited_for(problem: &Problem, order: &Order, process: u32) -> b
     false
 }
 
-/// Whether an item that isn't frozen is sent by a node, for a process at a place or later.
+/// Whether item `other` is sent by the node for a process at the place `at` or later, and isn't frozen.
 fn is_sent_later(problem: &Problem, order: &Order, node: u32, at: u32, other: u32) -> bool
     requires other { other < item_count problem.now }
     requires order { length order.now ≡ process_count problem.now }
@@ -45,7 +46,7 @@ fn is_sent_later(problem: &Problem, order: &Order, node: u32, at: u32, other: u3
         && (problem.home(other) == node && at <= order.place(problem.producer(other)))
 }
 
-/// Whether an item that isn't frozen is sent by a node, for a process at a place or later.
+/// Whether the node sends some item that isn't frozen for a process at the place `at` or later.
 pub(crate) fn is_queued_from(problem: &Problem, order: &Order, node: u32, at: u32) -> bool
     requires order { length order.now ≡ process_count problem.now }
     ensures queued { IsQueuedFor problem.now order.now at node → result ≡ true }
@@ -59,13 +60,15 @@ pub(crate) fn is_queued_from(problem: &Problem, order: &Order, node: u32, at: u3
     false
 }
 
-/// Whether some item that is not frozen waits until the slots of an item's node are free after that item. A frozen
-/// item does not rest on such a tree.
+/// Whether the tree of when slots are free after an item is needed: the item isn't frozen, or some item that isn't
+/// frozen is sent by its node for the same process or a later one. It may be true of one that is sent before this
+/// item; then the tree is made in vain.
 pub(crate) fn is_queued_for(problem: &Problem, order: &Order, item: u32) -> bool
     requires item { item < item_count problem.now }
     requires order { length order.now ≡ process_count problem.now }
     ensures { IsQueuedFor problem.now order.now (place order.now (producer problem.now item)) (home problem.now item) → result ≡ true }
 {
+    // an item that isn't frozen counts itself
     if !problem.is_frozen(item) {
         return true;
     }
@@ -77,11 +80,12 @@ pub(crate) fn is_queued_for(problem: &Problem, order: &Order, item: u32) -> bool
     )
 }
 
-/// Whether what is sent for a process goes before something else that is.
+/// Whether one item of a process goes before another one of it: the broadcast first, then the messages by number.
 fn is_sooner(first: Item, second: Item) -> bool
     ensures { result ≡ nat_lt (rank_of_item first) (rank_of_item second) }
 {
     match second {
+        // only a message has items of its process before it
         Item::Message(later) => match first {
             Item::Message(edge) => edge < later,
             _ => true,
@@ -90,7 +94,8 @@ fn is_sooner(first: Item, second: Item) -> bool
     }
 }
 
-/// Whether an item is sent before another one by the same node.
+/// Whether `other` stands before `item` in the queue of one node: its producer stands earlier in the order, or they
+/// have one producer and it goes sooner.
 pub(crate) fn stands_before(problem: &Problem, order: &Order, other: u32, item: u32) -> bool
     requires other { other < item_count problem.now }
     requires item { item < item_count problem.now }

@@ -42,10 +42,12 @@ use Rattle.cpg_follow_laws.specs.Follow.{by_time, records_at, records_by, record
 use Rattle.cpg_follow_laws.specs.Follow.{PlaysAreFollowed, stream_of, StreamsGiveWhatIsDue}
 use Rattle.cpg_follow_laws.proofs.Reports.{told_by_time, tells_by_time}
 
--- the frames of a turn are fine, one after another
+-- Given a node a of a state that a play has reached, and a time: the frames and the ends of a turn at that time are
+-- ones that a node on a stream takes.
 module _ {g : Graph} {tables : List NodeTable} {w : World} (k : Played g tables w) (c : Cluster)
     (r : Reached g tables w c) (a : ℕ) (l : a < length g.nodes) (time : ℕ) where
-  -- frames of the turn, heard one after another by a node that keeps what is true, are never strange
+  -- Frames of the turn aren't strange to a node that keeps only what is true. By induction on the frames: the first
+  -- isn't strange, as what it tells is true, and after it the node still keeps only what is true.
   fine : (fs : List Frame) (d : Dispatcher) (table : d.table ≡ own_table g a (table_at tables a))
       (known : Literal → Type 0) →
       Keeps g.faults d.heard known →
@@ -65,7 +67,8 @@ module _ {g : Graph} {tables : List NodeTable} {w : World} (k : Played g tables 
         ]) (λ e n. there e (Contains-rest f fs e n)),
   )
 
-  -- an end that is true fits what is kept, if that is true too
+  -- A true end fits what is kept, if that is true too: the ranges of its process's faults and of its value have the
+  -- true numbers, which are those of the end.
   fits : (ranges : List Range) (known : Literal → Type 0) → Keeps g.faults ranges known →
       ((m : Literal) → known m → holds w.scenario m ≡ true) → (e : Ended) →
       IsTrueEnd g w.scenario (own_table g a (table_at tables a)) e →
@@ -76,7 +79,7 @@ module _ {g : Graph} {tables : List NodeTable} {w : World} (k : Played g tables 
     value (own_of (own_table g a (table_at tables a)) e.process).condition (λ d is. t.value d (sym t.condition ∙ is)),
   )
     where
-      -- by whether the process has a condition: its value is then what was heard
+      -- by whether the process has a condition: if so, the range of its value has the value of the end
       value : (o : Option ℕ) → ((d : ℕ) → o ≡ Some d →
           (value_variable d < 160) × (number_of_value e.value ≡ number_of w.scenario (value_variable d))) →
           ValueFits ranges o e.value
@@ -91,7 +94,7 @@ module _ {g : Graph} {tables : List NodeTable} {w : World} (k : Played g tables 
   heard_all [] d = refl
   heard_all (f ∷ fs) d = heard_all fs (hear d f)
 
-  -- ends change nothing that was heard
+  -- ends change nothing that was heard; by induction on `es`
   heard_finished : (es : List Ended) (d : Dispatcher) → (fold finished d es).heard ≡ d.heard
   heard_finished [] d = refl
   heard_finished (e ∷ es) d = heard_finished es (finished d e)
@@ -122,7 +125,8 @@ module _ {g : Graph} {tables : List NodeTable} {w : World} (k : Played g tables 
     all_fine = fine frames ready table_is
         (Learnt g tables w.scenario a (by (r.holds a l).last)) keeps_ready learnt_true (λ f m. m)
 
-    -- each end that is due fits the node's table and what the node has heard, since it is a true end
+    -- Each end that is due fits the node's table and what the node has heard after the frames. The end is true, and so
+    -- is all that the node has heard: what it had learnt before, and what the frames tell.
     all_fit : (z : Ended) → Contains (due_reports ready time) z → EndFits ready.table (hear_all ready frames).heard z
     all_fit z m =
         let q = ends_parts k a l (r.holds a l).heard (r.holds a l).last time (coming k c r a l time e free) z
@@ -144,7 +148,8 @@ module _ {g : Graph} {tables : List NodeTable} {w : World} (k : Played g tables 
           | inr n ↦ learnt_true m n
         ]) z known)))
 
-    -- the turn of a play is followed
+    -- The turn of a play is followed: a node on a stream takes its reports by time, its frames and its ends. The
+    -- reports are of different processes, so in order of time they leave the same state as in the play.
     followed : (p : NodeProgress) → HasCome p (dispatcher_at c a) (get_or c.acts a []) →
         IsFollowed p (dispatcher_at c a) (get_or c.acts a []) time
         (by_time (reports_now g w (dispatcher_at c a) time)) frames
@@ -165,7 +170,8 @@ module _ {g : Graph} {tables : List NodeTable} {w : World} (k : Played g tables 
         after_is None moment h = omega arith
         after_is (Some last) moment h = floor_after (Some last) moment h
 
-    -- if a turn of a play is followed, the stream comes to the cluster's next state
+    -- On the records of a turn, the stream is lawful and comes to the node's next state in the cluster, with its acts.
+    -- The turn changes this node alone, at its place in the lists of the cluster.
     turn_followed : (p : NodeProgress) → HasCome p (dispatcher_at c a) (get_or c.acts a []) →
         let s = follow (lawful p) (records_at g w c a time) in
         (s.fault ≡ None) ×
@@ -201,7 +207,8 @@ whole s e = ap (λ o. record { progress = s.progress; fault = o }) (sym e)
 -- given a node of a play
 module _ {g : Graph} {tables : List NodeTable} {w : World} (k : Played g tables w) (node : ℕ)
     (l : node < length g.nodes) where
-  -- when a node is asked, the stream of each node follows what that node is told
+  -- When node a is asked, the stream of `node` comes to its next state. Either a is this node, and its records are
+  -- those of the turn, if it takes one; or it is another, and this node has no records and stays as it was.
   step_followed : (c : Cluster) → Reached g tables w c → (a : ℕ) (p : NodeProgress) →
       HasCome p (dispatcher_at c node) (get_or c.acts node []) →
       Comes g (step g w c a) node (follow (lawful p) (records_in_step g w c a node))
@@ -238,7 +245,8 @@ module _ {g : Graph} {tables : List NodeTable} {w : World} (k : Played g tables 
       other (Waits b) o ne = (refl, h)
       other IsDone o ne = (refl, h)
 
-  -- in a play the stream of each node follows what that node is told
+  -- In a play the stream of the node comes to its last state. By induction on the turns: the records of the first are
+  -- followed (`step_followed`), then those of the others.
   play_followed : (turns : List ℕ) (c : Cluster) → Reached g tables w c → (p : NodeProgress) →
       HasCome p (dispatcher_at c node) (get_or c.acts node []) →
       Comes g (play g w c turns) node (follow (lawful p) (records_in g w c node turns))
@@ -282,7 +290,9 @@ plays_are_followed g tables f h v w turns node is l =
     let c = all_followed (played_of g tables f h v w is) node l turns in
     record { none = c.0; comes = c.1 }
 
--- if the node is done, the stream with its close gives what is due
+-- If the node is done, the stream with its close gives what is due. The records bring it to the node's last state,
+-- after which the close adds no act, as the node has no next instant. In the play a node that is done has done what is
+-- due.
 pub streams_give : StreamsGiveWhatIsDue
 streams_give g tables f h v w turns node close is l over late =
     let c : Cluster = play g w (initial_cluster g tables) turns in

@@ -33,13 +33,13 @@ AllHave ranges = All HasNumber ranges
 
 -- ---- ends
 
--- what an end tells leaves no range empty
+-- the value that an end tells leaves no range empty: it has the value alone
 value_has : (heard : List Range) (o : Option ℕ) (value : Bool) → AllHave heard → AllHave (know_value heard o value)
 value_has heard None value h = h
 value_has heard (Some c) value h = All-set HasNumber heard (value_variable c)
     (record { low = number_of_value value; high = number_of_value value }) (omega arith) h
 
--- several ends leave no range empty
+-- several ends leave no range empty; by induction on `es`
 ends_have : (table : OwnTable) (es : List Ended) (heard : List Range) → AllHave heard →
     AllHave (fold (hear_end table) heard es)
 ends_have table [] heard h = h
@@ -49,7 +49,7 @@ ends_have table (e ∷ es) heard h = ends_have table es (hear_end table heard e)
 
 -- ---- turns, in which a live node is told nothing
 
--- no range that the node holds is empty
+-- no range that a node holds is empty
 abbrev Has : NodeProgress → Type 0
 Has p = AllHave p.dispatcher.heard
 
@@ -58,7 +58,7 @@ turn_has : (p : NodeProgress) (o : Option ℕ) → Has p → Has (turn_if p o)
 turn_has p None h = h
 turn_has p (Some time) h = ends_have p.dispatcher.table (due_reports p.dispatcher time) p.dispatcher.heard h
 
--- some turns without frames leave none empty
+-- some turns without frames leave no range empty
 turns_have : (count limit : ℕ) (p : NodeProgress) → Has p → Has (turns_below count limit p)
 unfolding turns_below
 turns_have zero limit p h = h
@@ -67,7 +67,7 @@ turns_have (suc count) limit p h =
 
 -- ---- records
 
--- a frame that isn't strange leaves no range empty
+-- a frame that isn't strange leaves no range empty: that it would is the last of the tests of `is_strange`
 fine : (d : Dispatcher) (time : ℕ) (f : Frame) → is_strange d time f ≡ false → AllHave (hear_frame d.table d.heard f)
 fine d time f e =
     let unknown : Bool = not (list_any (λ (row : Row). row.item == f.item) d.table.hears) in
@@ -79,7 +79,8 @@ fine d time f e =
     λ k d l. ltb-false (get_or heard k d).high (get_or heard k d).low
     (from_any_false is_contradicted heard (get_or heard k d) q (Contains-get_or heard k d l))
 
--- a step keeps what `Has` says: by whether a frame arrives or a process ends
+-- A step leaves no range empty. By the event: a frame is heard only if it isn't strange, an end is kept until its
+-- planned time, and a close takes the turns up to it.
 step_has : (time : ℕ) (event : Event) (p : NodeProgress) → Has p → Has (step time event p).progress
 step_has time (Arrival f) p h =
     let q : NodeProgress = turned time p in
@@ -97,7 +98,7 @@ step_has time Close p h = turns_have (time + 1) (time + 1) p h
 abbrev Holds : LiveState → Type 0
 Holds s = Has s.progress
 
--- a record that is judged by the node's own state leaves none empty
+-- an event that is judged by the state of a stream leaves no range empty: it is refused, or it is a step
 judged_holds : (s : LiveState) (time : ℕ) (event : Option Event) → Holds s → Holds (judged s time event)
 judged_holds s time None h = h
 judged_holds s time (Some event) h =
@@ -113,7 +114,7 @@ judged_holds s time (Some event) h =
         go None = h
         go (Some defect) = h
 
--- a record, or several, leave no range empty, since a frame that would is refused
+-- a record leaves no range empty: after a lawless record or a close nothing is taken, and any other record is judged
 record_holds : (s : LiveState) (bytes : List ℕ) → Holds s → Holds (take_record s bytes)
 record_holds s bytes h =
     cond_both (is_some s.lawless) s _ Holds (λ _. h) (λ _. cond_both s.closed (refused s Length) _ Holds (λ _. h)
@@ -130,7 +131,8 @@ rest_holds s rest h =
     cond_both (is_some s.lawless) s _ Holds (λ _. h) (λ _. cond_both (s.closed && nat_lt 0 (length rest))
     (refused s Length) (record s { rest = rest }) Holds (λ _. h) (λ _. h))
 
--- no range that a node holds after any bytes is empty
+-- No range that a node holds after any bytes is empty. At the start each range has all numbers, and the records and the
+-- rest of the bytes leave none empty.
 pub no_range_is_empty : NoRangeIsEmpty
 no_range_is_empty table bytes =
     rest_holds (fold take_record (open_stream table) (cut_bytes bytes).whole) (cut_bytes bytes).rest
@@ -139,7 +141,7 @@ no_range_is_empty table bytes =
 
 -- ---- what a frame leaves
 
--- a variable on which no literal is keeps its range
+-- a variable that no literal is about keeps its range; by induction on `ls`
 untold : (v : ℕ) (ls : List Literal) (heard : List Range) → ((l : Literal) → Contains ls l → l.variable ≢ v) →
     range_of (cut_all heard ls) v ≡ range_of heard v
 untold v [] heard ne = refl
@@ -153,12 +155,14 @@ same_answer true b f e = sym (f refl)
 same_answer false true f e = e refl
 same_answer false false f e = refl
 
+-- given ranges of which none is empty, and the literals of a frame
 module _ (heard : List Range) (ls : List Literal) (have : AllHave heard) where
   -- the ranges once the frame is heard
   abbrev left : List Range
   left = cut_all heard ls
 
-  -- if a frame leaves a range empty, it does so at a variable of one of its literals, and conversely
+  -- If a frame leaves a range empty, it does so at a variable of one of its literals: any other variable keeps its
+  -- range, which wasn't empty.
   at_told : list_any is_contradicted left ≡ true →
       list_any (λ (l : Literal). is_contradicted (range_of left l.variable)) ls ≡ true
   at_told e =
@@ -186,7 +190,7 @@ module _ (heard : List Range) (ls : List Literal) (have : AllHave heard) where
                 omega (arith, less, ap (λ (r : Range). r.low) none)
           ]
 
-  -- a range that is empty at the variable of a literal is among all ranges
+  -- a range that is empty at the variable of a literal is one of all ranges: past their end none is empty
   at_all : list_any (λ (l : Literal). is_contradicted (range_of left l.variable)) ls ≡ true →
       list_any is_contradicted left ≡ true
   at_all e =

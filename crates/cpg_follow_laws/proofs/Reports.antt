@@ -11,7 +11,7 @@ use Rattle.cpg_cluster.specs.Taking.{AllFinish}
 use Rattle.cpg_live.specs.Told.{MayReport, after_reports}
 use Rattle.cpg_follow_laws.specs.Follow.{inserted, by_time}
 
--- of different processes, and in order of time
+-- the two reports are of different processes
 abbrev pub Apart : ℕ × Ended → ℕ × Ended → Type 0
 Apart a b = a.1.process ≢ b.1.process
 
@@ -19,7 +19,8 @@ Apart a b = a.1.process ≢ b.1.process
 abbrev pub NotLater : ℕ × Ended → ℕ × Ended → Type 0
 NotLater a b = a.0 ≤ b.0
 
--- of reports of different processes that may come one after another, each may come first
+-- Of reports of different processes that may come one after another, each may come first. By induction on the reports:
+-- one that may come after the first may come before it, as it is of another process.
 pub all_may : (es : List (ℕ × Ended)) (d : Dispatcher) → AllFinish d es → Rises Apart es → (e : ℕ × Ended) →
     Contains es e →
     MayFinish d e.0 e.1
@@ -29,7 +30,8 @@ all_may (x ∷ es) d h r e c = elim (Contains-cases x es e c) [
   | inr m ↦ may_before d x.1 e.0 e.1 (r.0 e m) (all_may es (finished d x.1) h.1 r.1 e m)
 ]
 
--- reports of different processes, each of which may come first, may come one after another in order of time
+-- Reports of different processes, each of which may come first, may come one after another if they are in order of
+-- time. By induction on the reports: after the first, each of the others may still come first.
 may_tell : (es : List (ℕ × Ended)) (d : Dispatcher) (from : ℕ) →
     ((e : ℕ × Ended) → Contains es e → MayFinish d e.0 e.1) → Rises Apart es →
     Rises NotLater es →
@@ -44,7 +46,7 @@ may_tell (x ∷ es) d from may r t lo = (
 
 -- Reports in order of time.
 
--- what is in a list with one more report is that report or was there before
+-- what is in a list with one more report is that report or was there before; by induction on `ys`
 in_inserted : (x : ℕ × Ended) (ys : List (ℕ × Ended)) (e : ℕ × Ended) → Contains (inserted x ys) e →
     (x ≡ e) ⊎ Contains ys e
 in_inserted x [] e c = elim (Contains-cases x [] e c) [ inl s ↦ inl s | inr n ↦ inr n ]
@@ -60,7 +62,7 @@ in_inserted x (y ∷ ys) e c = go (leb x.0 y.0) c (in_inserted x ys e)
       | inr n ↦ elim (ih n) [ inl s ↦ inl s | inr m ↦ inr (Contains-rest y ys e m) ]
     ]
 
--- each report in order of time is one of those that are given
+-- each report in order of time is one of those that are given; by induction on `es`
 pub in_by_time : (es : List (ℕ × Ended)) (e : ℕ × Ended) → Contains (by_time es) e → Contains es e
 in_by_time [] e c = c
 in_by_time (x ∷ es) e c = elim (in_inserted x (by_time es) e c) [
@@ -68,7 +70,7 @@ in_by_time (x ∷ es) e c = elim (in_inserted x (by_time es) e c) [
   | inr m ↦ Contains-rest x es e (in_by_time es e m)
 ]
 
--- in order of time they are still of different processes
+-- reports of different processes stay so if one of another process is inserted; by induction on `ys`
 apart_inserted : (x : ℕ × Ended) (ys : List (ℕ × Ended)) → ((e : ℕ × Ended) → Contains ys e → Apart x e) →
     Rises Apart ys →
     Rises Apart (inserted x ys)
@@ -86,12 +88,12 @@ apart_inserted x (y ∷ ys) h r = go (leb x.0 y.0) (apart_inserted x ys (λ e c.
       ih,
     )
 
--- sorted by time, reports are still of different processes
+-- sorted by time, reports are still of different processes; by induction on `es`
 apart_by_time : (es : List (ℕ × Ended)) → Rises Apart es → Rises Apart (by_time es)
 apart_by_time [] r = r
 apart_by_time (x ∷ es) r = apart_inserted x (by_time es) (λ e c. r.0 e (in_by_time es e c)) (apart_by_time es r.1)
 
--- they rise in time
+-- reports in order of time stay so if one is inserted; by induction on `ys`
 rises_inserted : (x : ℕ × Ended) (ys : List (ℕ × Ended)) → Rises NotLater ys → Rises NotLater (inserted x ys)
 rises_inserted x [] r = ((λ e c. absurd (Contains-nil e c)), r)
 rises_inserted x (y ∷ ys) r = go (leb x.0 y.0) refl (rises_inserted x ys r.1)
@@ -114,14 +116,15 @@ rises_inserted x (y ∷ ys) r = go (leb x.0 y.0) refl (rises_inserted x ys r.1)
       ih,
     )
 
--- sorted by time, they rise in time
+-- sorted by time, reports are in order of time; by induction on `es`
 rises_by_time : (es : List (ℕ × Ended)) → Rises NotLater (by_time es)
 rises_by_time [] = tt
 rises_by_time (x ∷ es) = rises_inserted x (by_time es) (rises_by_time es)
 
 -- What they leave.
 
--- a report that is inserted among reports of other processes leaves the same as if it came first
+-- A report that is inserted among reports of other processes leaves the same dispatcher as if it came first. By
+-- induction on the others: reports of different processes can be swapped.
 told_inserted : (d : Dispatcher) (x : ℕ × Ended) (ys : List (ℕ × Ended)) →
     ((e : ℕ × Ended) → Contains ys e → Apart x e) →
     after_reports d (inserted x ys) ≡ after_reports (finished d x.1) ys
@@ -136,14 +139,14 @@ told_inserted d x (y ∷ ys) h =
     go true ih = refl
     go false ih = ih ∙ ap (λ d. after_reports d ys) (sym (swap d x.1 y.1 (h y (Contains-first y ys))))
 
--- they leave the same dispatcher in order of time
+-- sorted by time, reports of different processes leave the same dispatcher; by induction on `es`
 pub told_by_time : (es : List (ℕ × Ended)) (d : Dispatcher) → Rises Apart es →
     after_reports d (by_time es) ≡ after_reports d es
 told_by_time [] d r = refl
 told_by_time (x ∷ es) d r =
     told_inserted d x (by_time es) (λ e c. r.0 e (in_by_time es e c)) ∙ told_by_time es (finished d x.1) r.1
 
--- so they may be told in order of time
+-- reports of different processes that a dispatcher may take one after another may be told to it in order of time
 pub tells_by_time : (es : List (ℕ × Ended)) (d : Dispatcher) (from : ℕ) → AllFinish d es → Rises Apart es →
     ((e : ℕ × Ended) → MayFinish d e.0 e.1 → from ≤ e.0) →
     MayReport d from (by_time es)

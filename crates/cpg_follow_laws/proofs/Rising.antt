@@ -23,7 +23,7 @@ use Rattle.cpg_follow_laws.specs.Follow.{by_time, records_at, records_by, record
 use Rattle.cpg_node.proofs.Commuting.{next_same}
 use Rattle.cpg_follow_laws.proofs.Reports.{tells_by_time}
 
--- the moment of the last turn
+-- the time of the last turn, or 0 if there was none
 abbrev moment : Option ℕ → ℕ
 moment None = 0
 moment (Some last) = last
@@ -34,13 +34,13 @@ rise_weaker : (from later to : ℕ) (es : List (ℕ × Event)) → from ≤ late
 rise_weaker from later to [] le h = omega (arith, le, h)
 rise_weaker from later to (e ∷ es) le h = (omega (arith, le, h.0), h.1, h.2)
 
--- two lists of records that rise, the second from where the first ends, rise together
+-- two lists of records that rise, the second from a time that the first doesn't pass, rise one after the other
 rise_join : (xs ys : List (ℕ × Event)) (from middle to : ℕ) → RiseWithin from middle xs → RiseWithin middle to ys →
     RiseWithin from to (xs ++ ys)
 rise_join [] ys from middle to h k = rise_weaker from middle to ys h k
 rise_join (x ∷ xs) ys from middle to h k = (h.0, h.1, rise_join xs ys x.0 middle to h.2 k)
 
--- reports that a node may take are in order of time up to its next instant
+-- reports that a node may take one after another are in order of time up to its next instant, which they don't change
 reports_within : (time : ℕ) (es : List (ℕ × Ended)) (d : Dispatcher) (from : ℕ) → next d ≡ Some time → from ≤ time →
     MayReport d from es →
     RiseWithin from time (map end_event es)
@@ -52,17 +52,17 @@ reports_within time (e ∷ es) d from n le m = (
       (subst (λ o. IfSome o (λ n. e.0 ≤ n)) n m.1.before) m.2,
 )
 
--- frames that arrive at a time are at that time
+-- frames that arrive at a time are at that time; by induction on `fs`
 frames_within : (time : ℕ) (fs : List Frame) → RiseWithin time time (map (frame_event time) fs)
 frames_within time [] = omega arith
 frames_within time (f ∷ fs) = (omega arith, refl, frames_within time fs)
 
--- what comes after the last turn isn't before its moment
+-- what comes after the last turn isn't before it
 after_moment : (last : Option ℕ) (time : ℕ) → is_after last time ≡ true → moment last ≤ time
 after_moment None time h = omega arith
 after_moment (Some last) time h = omega (arith, floor_after (Some last) time h)
 
--- if the next turn may come only after the close, the last one came by then
+-- if the instant after the last turn is at most the close plus 1, the last turn isn't after the close
 by_moment : (last : Option ℕ) (close : ℕ) → after_last last ≤ close + 1 → moment last ≤ close
 by_moment None close h = omega arith
 by_moment (Some last) close h = omega (arith, h)
@@ -70,7 +70,7 @@ by_moment (Some last) close h = omega (arith, h)
 -- given a node of a play
 module _ {g : Graph} {tables : List NodeTable} {w : World} (k : Played g tables w) (node : ℕ)
     (l : node < length g.nodes) where
-  -- the records of a turn lie between the last turn and this one
+  -- the records of a turn are in order of time, from the last turn to this one: first the reports, then the frames
   turn_within : (c : Cluster) → Reached g tables w c → (time : ℕ) → next (dispatcher_at c node) ≡ Some time →
       RiseWithin (moment (dispatcher_at c node).last) time (records_at g w c node time)
   turn_within c r time e =
@@ -82,7 +82,8 @@ module _ {g : Graph} {tables : List NodeTable} {w : World} (k : Played g tables 
       (reports_within time (by_time reports) d (moment d.last) e
       (after_moment d.last time (next_is d time e).after) may) (frames_within time _)
 
-  -- the records of a play, from a state on, lie between the node's last turn and a close
+  -- The records of a play from a state on are in order of time, from the node's last turn to the close. By induction on
+  -- the turns: those of the first turn, if it is the node's own, and from there on those of the others.
   rise_play : (turns : List ℕ) (c : Cluster) → Reached g tables w c → (close : ℕ) →
       moment (dispatcher_at (play g w c turns) node).last ≤ close →
       RiseWithin (moment (dispatcher_at c node).last) close (records_in g w c node turns)
@@ -136,7 +137,7 @@ module _ {g : Graph} {tables : List NodeTable} {w : World} (k : Played g tables 
       other (Waits b) o ne h = h
       other IsDone o ne h = h
 
--- the records of a node in a play are in order of time
+-- the records of a node in a play are in order of time: those from the first state on, in which there was no turn
 pub records_rise : RecordsRise
 records_rise g tables f h v w turns node close is l late =
     let k = played_of g tables f h v w is in

@@ -35,19 +35,19 @@ use Rattle.cpg_follow_laws.specs.Follow.{by_time, records_at, records_by, record
 use Rattle.cpg_follow_laws.proofs.Reports.{all_may, in_by_time}
 use Rattle.cpg_follow_laws.proofs.Follow.{keeps_ready}
 
--- what holds of what a map gives of each element holds of all its results
+-- what holds of what a map gives of each element holds of all its results; by induction on `xs`
 all_map : {X Y : Type 0} (P : Y → Type 0) (f : X → Y) (xs : List X) → ((x : X) → Contains xs x → P (f x)) →
     AllByRecursion P (map f xs)
 all_map P f [] h = tt
 all_map P f (x ∷ xs) h = (h x (Contains-first x xs), all_map P f xs (λ y m. h y (Contains-rest x xs y m)))
 
--- what holds of all of two lists holds of all of both together
+-- what holds of all of two lists holds of all of both together; by induction on `xs`
 all_append : {X : Type 0} (P : X → Type 0) (xs ys : List X) → AllByRecursion P xs → AllByRecursion P ys →
     AllByRecursion P (xs ++ ys)
 all_append P [] ys h k = k
 all_append P (x ∷ xs) ys h k = (h.0, all_append P xs ys h.1 k)
 
--- a frame that isn't strange is of a column that is there
+-- a frame that isn't strange is of a column that is there: that it isn't is one of the tests of `is_strange`
 column_there : (d : Dispatcher) (time : ℕ) (f : Frame) → is_strange d time f ≡ false →
     f.column < length (columns_in d.table.hears f.item)
 column_there d time f e =
@@ -64,7 +64,7 @@ column_there d time f e =
     is_true true e = refl
     is_true false e = absurd (true≢false e)
 
--- if no row has too many columns, no item has
+-- if each row has at most the limit of columns, so has the row of each item; by induction on `rows`
 columns_few : (rows : List Row) (x : ℕ) → ((row : Row) → Contains rows row → length row.columns ≤ MOST_COLUMNS) →
     length (columns_in rows x) ≤ MOST_COLUMNS
 columns_few [] x h = omega arith
@@ -76,13 +76,13 @@ columns_few (row ∷ rows) x h = go (row.item == x) (columns_few rows x (λ r m.
     go true ih = h row (Contains-first row rows)
     go false ih = ih
 
--- a frame has the item of its act, and a message carries no value
+-- a frame has the item of its act
 frame_item : (w : World) (i : Item) (a : Act) → (frame_of_item w i a).item ≡ a.item
 frame_item w (Start p) a = refl
 frame_item w (Message e) a = refl
 frame_item w (Broadcast c) a = refl
 
--- a frame of no broadcast carries no value
+-- a frame of a start or a message carries the value false
 frame_plain : (g : Graph) (w : World) (x : ℕ) (a : Act) → x < process_count g + edge_count g →
     (frame_of_item w (item_at g x) a).value ≡ false
 frame_plain g w x a less = go (nat_lt x (process_count g)) (nat_lt x (process_count g + edge_count g))
@@ -114,7 +114,8 @@ module _ {g : Graph} {tables : List NodeTable} {w : World} (k : Played g tables 
   -- given a node that takes its turn at the time
   module _ (c : Cluster) (r : Reached g tables w c) (time : ℕ) (e : next (dispatcher_at c node) ≡ Some time)
       (q : answer g c node ≡ Took) where
-    -- the record of each frame fits in its bytes
+    -- The record of each frame has room: its item is one of the graph, its column is one of a lawful row, and a message
+    -- carries no value.
     frame_fits : (f : Frame) → Contains (frames_now g w c (reported g w (dispatcher_at c node) time) time) f →
         Fits (frame_event time f)
     frame_fits f m =
@@ -138,7 +139,7 @@ module _ {g : Graph} {tables : List NodeTable} {w : World} (k : Played g tables 
               sym (ap (λ (f : Frame). f.value) a.is) ∙ frame_plain g w a.item a.act (omega (arith, item, before)),
         )
 
-    -- the record of each report fits in its bytes
+    -- The record of each report has room: its process is one of the graph, and its faults are at most k.
     report_fits : (z : ℕ × Ended) → Contains (by_time (reports_now g w (dispatcher_at c node) time)) z →
         Fits (end_event z)
     report_fits z m =
@@ -154,14 +155,14 @@ module _ {g : Graph} {tables : List NodeTable} {w : World} (k : Played g tables 
           omega (arith, may.few, faults, within.faults),
         )
 
-    -- so all that it is told at a turn has
+    -- so has each record of the turn
     turn_fits : AllByRecursion Fits (records_at g w c node time)
     turn_fits = all_append Fits (map end_event (by_time (reports_now g w (dispatcher_at c node) time)))
         (map (frame_event time) (frames_now g w c (reported g w (dispatcher_at c node) time) time))
         (all_map Fits end_event (by_time (reports_now g w (dispatcher_at c node) time)) report_fits)
         (all_map Fits (frame_event time) (frames_now g w c (reported g w (dispatcher_at c node) time) time) frame_fits)
 
-  -- each record of a node in a play fits in its bytes
+  -- each record of a node in a play has room; by induction on the turns, of which only the node's own have records
   pub all_fit : (turns : List ℕ) (c : Cluster) → Reached g tables w c →
       AllByRecursion Fits (records_in g w c node turns)
   all_fit [] c r = tt

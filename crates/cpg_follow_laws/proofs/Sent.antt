@@ -29,11 +29,13 @@ by_up : (last : Option ℕ) (m n : ℕ) → by last n ≡ true → m ≤ n → b
 by_up None m n e l = e
 by_up (Some t) m n e l = le-leb m t (omega (arith, leb-true n t e))
 
--- a range from a number to itself has that number only
+-- a range whose ends are one number is the range of that number
 same_range : (r : Range) (n : ℕ) → r.low ≡ n → r.high ≡ n → r ≡ only n
 same_range r n low high = λ i. record { low = low i; high = high i }
 
--- the range of a value that a node has sent is just the value that the frame carried
+-- The range that a node holds of a value that it has sent has just the value that the frame carries. The condition's
+-- process runs on this node and has ended, as a send comes after its producer's end. So the node has learnt the value
+-- from the end, and what it keeps is just what it has learnt.
 pub sent_values_are_known : SentValuesAreKnown
 sent_values_are_known g tables f h v w turns node condition a is l m e =
     let k : Played g tables w = played_of g tables f h v w is in

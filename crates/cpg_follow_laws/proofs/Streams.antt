@@ -30,7 +30,7 @@ use Rattle.cpg_follow_laws.proofs.Follow.{plays_are_followed, streams_give}
 use Rattle.cpg_follow_laws.proofs.Rising.{records_rise}
 use Rattle.cpg_follow_laws.proofs.Room.{all_fit}
 
--- a lawful close of bytes that aren't too many is their end as they are read
+-- given the bytes of a stream that aren't more than the limit
 module _ (table : NodeTable) (bytes : List ℕ) (short : length bytes ≤ STREAM_LIMIT) where
   -- no bytes are left out, since there are no more than the limit
   whole : read_part bytes ≡ bytes
@@ -55,7 +55,9 @@ module _ (table : NodeTable) (bytes : List ℕ) (short : length bytes ≤ STREAM
   read_lines h close e =
       ap₂ (λ (bytes : List ℕ) end. act_lines h (after table bytes).progress.acts ++ close_of end) whole e
 
--- the stream that spells a node's records and a close is lawful to that close and does what is due
+-- The stream that spells a node's records and a close is lawful to that close, and on it the node does what is due. In
+-- any order in which time doesn't fall, the records lead to one state, and each has room in a record's bytes, so what
+-- holds of the records in the play's order (`streams_give`) holds of the bytes.
 pub bytes_give : BytesOfPlaysGiveWhatIsDue
 bytes_give g tables within of f v w turns node close es is l t =
     let h = has_shape g within tables of in

@@ -10,12 +10,12 @@ use Rattle.cpg_live.specs.Stream.{after}
 abbrev pub HasNumber : Range → Type 0
 HasNumber r = r.low ≤ r.high
 
--- Each range that a node holds after any bytes, lawful or not, has a number, whatever the node's table.
+-- whatever a node's table, and whatever bytes it is fed, each range that it then holds has a number
 abbrev pub NoRangeIsEmpty : Type 0
 NoRangeIsEmpty = (table : NodeTable) (bytes : List ℕ) → All HasNumber (after table bytes).progress.dispatcher.heard
 
--- If no range is empty before a frame, the frame leaves an empty one exactly if it does so at a variable of one of
--- its literals.
+-- If no range is empty before a frame, the frame leaves an empty one only at a variable of one of its literals. So it
+-- is enough to look at these.
 abbrev pub FramesContradictWhereTheyTell : Type 0
 FramesContradictWhereTheyTell = (table : OwnTable) (heard : List Range) (f : Frame) → All HasNumber heard →
     list_any is_contradicted (hear_frame table heard f) ≡ list_any

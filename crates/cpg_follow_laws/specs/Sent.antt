@@ -14,8 +14,8 @@ use Rattle.cpg_cluster.specs.Correct.{IsWorld}
 abbrev pub only : ℕ → Range
 only n = record { low = n; high = n }
 
--- In each state of each play of valid tables: if a node has sent the value of a condition, its range of that
--- condition is just the value that the frame carries.
+-- In each state of each play of valid tables, if a node has broadcast a condition, the range that it holds of the
+-- condition's value has just the value that the frame carries.
 abbrev pub SentValuesAreKnown : Type 0
 SentValuesAreKnown = (g : Graph) (tables : List NodeTable) → WellFormed g → HasShape g tables → IsValid g tables →
     (w : World) (turns : List ℕ) (node condition : ℕ) (a : Act) → IsWorld g w → node < length g.nodes →

@@ -19,35 +19,36 @@ use Rattle.cpg_live.specs.Spelling.{RiseWithin, closed_at, stream_bytes}
 use Rattle.cpg_live.specs.Reorder.{AreThoseOf}
 use Rattle.cpg_follow_laws.specs.Follow.{records_in}
 
--- The records are all those of the node in a play in which it is done. They are in any order that rises in time, up to
--- a close that isn't before its last turn.
+-- these records are all those of a node in a play in which it is done, in any order in which time doesn't fall, up to a
+-- close that isn't before the node's last turn
 pub record IsToldAll (g : Graph) (tables : List NodeTable) (w : World) (turns : List ℕ) (node close : ℕ)
     (es : List (ℕ × Event)) : Type 0 where
   -- the records are those of the node in the play, in any order
   pub those : AreThoseOf es (records_in g w (initial_cluster g tables) node turns)
-  -- in a stream they rise in time and are not after the close
+  -- their times don't fall and aren't after the close
   pub rise : RiseWithin 0 close es
   -- after the play the node has no turn left
   pub done : answer g (play g w (initial_cluster g tables) turns) node ≡ Done
   -- the close isn't before the node's last turn
   pub late : after_last (dispatcher_at (play g w (initial_cluster g tables) turns) node).last ≤ close + 1
+  -- a record has room for its time
   pub small : close < 2 ^ 64
 
--- A stream is lawful to its close, and the acts of a node on it are those that are due. If it isn't too long to be
--- read, its end as it is read is that close, and its lines are those of the acts and of the close.
+-- on the stream with these bytes, a node does what is due up to its close
 pub record DoesWhatIsDue (g : Graph) (tables : List NodeTable) (w : World) (node close : ℕ)
     (bytes : List ℕ) : Type 0 where
+  -- the stream is lawful to its close
   pub ends : outcome (after (table_at tables node) bytes) ≡ Ok close
-  -- the node does on the stream what is due in the scenario
+  -- the node's acts on it are those that are due in the scenario
   pub acts : IsDue g tables w.scenario node (after (table_at tables node) bytes).progress.acts
-  -- the stream is read to its close if it is short enough, and its lines are the acts and then the close
+  -- if the stream isn't too long, it is read to its close, and its lines are those of the acts and then of the close
   pub read : length bytes ≤ STREAM_LIMIT → stream_end (table_at tables node) bytes ≡ Ok close
   pub lines : (h : Head) → length bytes ≤ STREAM_LIMIT →
       stream_lines h (table_at tables node) bytes ≡ act_lines h (after (table_at tables node) bytes).progress.acts
       ++ closed_line close
 
--- This holds for the stream that spells a node's records and a close after them. It does so in each play of valid
--- tables, in every scenario of the graph, and however early executions end.
+-- This holds of the bytes that spell a node's records and a close after them, in each play of valid tables: in every
+-- scenario, and however early executions end.
 abbrev pub BytesOfPlaysGiveWhatIsDue : Type 0
 BytesOfPlaysGiveWhatIsDue = (g : Graph) (tables : List NodeTable) → IsWithinLimits g → AreTablesOf (head_of g) tables →
     WellFormed g → IsValid g tables →

@@ -1,4 +1,5 @@
-//! Laws that join plays and streams: a node's records in a play are a lawful stream, on which the node does what is due.
+//! Laws that join plays and streams: a node's records in a play are a lawful stream, and on it the node does what is
+//! due. The functions do nothing; each states its law in its contract.
 #![tactic(auto)]
 
 ghost use Rattle.cpg_follow_laws.specs.Follow.{PlaysAreFollowed, RecordsRise, StreamsGiveWhatIsDue};
@@ -11,29 +12,28 @@ pub fn plays_are_followed()
     ensures { PlaysAreFollowed }
 {}
 
-/// At the close of the stream, a node that is done in the play has done what is due.
+/// If a node is done in a play, it has done what is due at the close of the stream of its records.
 pub fn streams_give_what_is_due()
     ensures { StreamsGiveWhatIsDue }
 {}
 
-/// The records of a play are in order of time.
+/// A node's records in a play are in order of time.
 pub fn records_rise()
     ensures { RecordsRise }
 {}
 
-/// The bytes that spell a node's records, in any order that rises in time, are a stream that is lawful to its close. On that
-/// stream the node does what is due.
+/// The bytes that spell a node's records, in any order in which time doesn't fall, are a stream that is lawful to its
+/// close. On it the node does what is due.
 pub fn bytes_of_plays_give_what_is_due()
     ensures { BytesOfPlaysGiveWhatIsDue }
 {}
 
-/// No range that a node holds is empty, after any bytes.
+/// Whatever bytes a node is fed, no range that it then holds is empty.
 pub fn no_range_is_empty()
     ensures { NoRangeIsEmpty }
 {}
 
-/// If no range is empty before a frame, the frame leaves an empty one exactly if it does so at a variable of one of its
-/// literals.
+/// If no range is empty before a frame, the frame leaves an empty one only at a variable of one of its literals.
 pub fn frames_contradict_where_they_tell()
     ensures { FramesContradictWhereTheyTell }
 {}

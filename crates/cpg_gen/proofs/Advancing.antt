@@ -1,4 +1,4 @@
--- Draws one after another.
+-- Numbers after several draws.
 use Rattle.std.proofs.Common.{ℕ, zero, suc, ◌+◌, ◌≡◌, refl, ap, ◌∙◌, arith}
 use Rattle.cpg_base.specs.Draws.{next_number}
 use Rattle.cpg_gen.specs.Draws.{number_after}
@@ -6,6 +6,7 @@ use Rattle.cpg_gen.specs.Draws.{number_after}
 -- n draws after m draws are n + m draws
 pub number_after-add : (x m n : ℕ) → number_after (number_after x m) n ≡ number_after x (n + m)
 unfolding number_after
+-- by induction on `n`
 number_after-add x m zero = ap (number_after x) (omega arith)
 number_after-add x m (suc n) =
     let later : suc (n + m) ≡ suc n + m = omega arith in

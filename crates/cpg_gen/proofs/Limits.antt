@@ -25,17 +25,17 @@ use Rattle.cpg_gen.specs.Draws.{nth_draw, number_after}
 use Rattle.cpg_gen.specs.Generated.{generated, generated_process, generated_edges, process_from, edges_by, edge_of}
 use Rattle.cpg_gen.specs.Generated.{when_of, predecessor_by, numbered, node_name, slot_of, number_before}
 
--- a list made of n numbers has n elements
+-- a list with an element for each number below n has n elements
 length-by : {X : Type 0} (f : ℕ → X) (n : ℕ) → length (map f (numbers_below n)) ≡ n
 length-by f n = length-map-range_with_len f 0 n
 
--- what holds of each element by its number holds of all
+-- if a fact holds of the element for each number below n, it holds of all
 all_by : {X : Type 0} (P : X → Type 0) (f : ℕ → X) (n : ℕ) → ((i : ℕ) → i < n → P (f i)) →
     All P (map f (numbers_below n))
 all_by P f n h = λ i d l. let within : i < n = omega (arith, length-by f n) in
     subst P (sym (get_or-map-below f n i d within)) (h i within)
 
--- what holds of each two elements by their numbers holds of all pairs
+-- if a relation holds of the elements for each two numbers i < j below n, it holds of all pairs
 pairs_by : {X : Type 0} (R : X → X → Type 0) (f : ℕ → X) (n : ℕ) → ((i j : ℕ) → i < j → j < n → R (f i) (f j)) →
     AllPairs R (map f (numbers_below n))
 pairs_by R f n h = λ i j d l m.
@@ -44,7 +44,7 @@ pairs_by R f n h = λ i j d l m.
     subst (λ x. R x (get_or (map f (numbers_below n)) j d)) (sym (get_or-map-below f n i d first))
     (subst (R (f i)) (sym (get_or-map-below f n j d within)) (h i j l within))
 
--- one letter and two numbers give two names
+-- a letter with two different numbers below 60 makes two different names
 numbered_differ : (b : ℕ) (i j : ℕ) → i < j → j < 60 → numbered (b ∷ []) i ≢ numbered (b ∷ []) j
 numbered_differ b i j l m e = absurd (omega (arith, decimal_injective i j (omega arith) (omega arith) (ap (drop 1) e)))
 
@@ -52,8 +52,9 @@ numbered_differ b i j l m e = absurd (omega (arith, decimal_injective i j (omega
 pub draw-lt : (x n bound : ℕ) → 0 < bound → nth_draw x n bound < bound
 draw-lt x n bound l = mod-lt (number_after x n / 2 ^ 33) l
 
--- a process made of a draw is within the limits
+-- a process made of draws is within the limits, with one of four nodes
 process_within : (x i : ℕ) → IsProcessWithin 4 (process_from x i)
+-- each cost is 1 more than a draw, or a draw, below a bound
 process_within x i = record {
   node = mod-lt i (omega arith);
   works = omega arith;
@@ -67,12 +68,13 @@ process_within x i = record {
   deadline = search rules;
 }
 
--- so is each of the four slots
+-- the slot of each of the four nodes is within the limits
 slot_within : (i : ℕ) → i < 4 → IsSlotWithin 4 (slot_of i)
 slot_within i l =
     record { node = l; lasts = omega arith; length = omega arith; holds = omega arith; bytes = omega arith }
 
--- a frozen edge of one byte from an earlier process, conditional only at two
+-- an edge leads from one of the 60 processes to a later one; its message is one byte long and frozen; and it has a `when`
+-- only if its source is process 10 or 20
 pub record IsGeneratedEdge (e : Edge) : Type 0 where
   pub rises : e.from < e.to
   pub within : e.to < 60
@@ -84,7 +86,7 @@ pub record IsGeneratedEdge (e : Edge) : Type 0 where
 predecessor-lt : (x i : ℕ) → i ≢ 0 → predecessor_by x i < i
 predecessor-lt x i some = omega arith
 
--- an edge has a `when` only if it is chosen to
+-- if what is Some only if b is true is Some, b is true
 when_chosen : (b odd : Bool) → is_some (cond b (Some odd) None) ≡ true → b ≡ true
 when_chosen true odd e = refl
 when_chosen false odd e = absurd (true≢false (sym e))
@@ -97,7 +99,7 @@ edges_are x i l e k = go (i == 0) refl (i == 40) refl k
     of_join : (value : Bool) → IsGeneratedEdge (edge_of 10 40 (Some value))
     of_join value = record { rises = omega arith; within = omega arith; size = refl; frozen = refl; chosen = λ _. refl }
 
-    -- so is one that is drawn
+    -- an edge that is drawn is a generated one
     of_drawn : i ≢ 0 → IsGeneratedEdge (edge_of (predecessor_by x i) i (when_of (predecessor_by x i) i))
     of_drawn some = record {
       rises = predecessor-lt x i some;
@@ -111,6 +113,7 @@ edges_are x i l e k = go (i == 0) refl (i == 40) refl k
     go : (root : Bool) → (i == 0) ≡ root → (join : Bool) → (i == 40) ≡ join →
         Contains (cond root [] (cond join (edge_of 10 40 (Some true) ∷ edge_of 10 40 (Some false) ∷ [])
         (edge_of (predecessor_by x i) i (when_of (predecessor_by x i) i) ∷ []))) e → IsGeneratedEdge e
+    -- the edge is one of the list's one or two
     go true r join j k = absurd (Contains-nil e k)
     go false r true j k = elim (Contains-cases (edge_of 10 40 (Some true)) (edge_of 10 40 (Some false) ∷ []) e k) [
       | inl s ↦ subst IsGeneratedEdge s (of_join true)
@@ -168,7 +171,7 @@ module _ (number : ℕ) where
       ∙ same_sum_by (λ i. length (generated_edges number i)) inputs_of (numbers_below 60)
       (λ i k. edges_long (number_after (number_before number i) 6) i)
 
-  -- at most the two processes whose edges are conditional have a condition
+  -- whether a process is one of the two whose edges may be conditional
   abbrev is_choice : ℕ → Bool
   is_choice p = (p == 10) || (p == 20)
 
@@ -225,6 +228,7 @@ module _ (number : ℕ) where
 
   -- each node of a generated graph has a slot, so each that sends has one
   pub senders_have_slots : HasSenderSlots (generated number)
+  -- the producer of the item runs on one of the four nodes, each of which has a slot
   senders_have_slots x l _ =
       let made = producer_from_sources (generated number) (λ e h. (within_limits.edges e _ h).from) x l in
       let node : home (generated number) x < 4 =
@@ -257,6 +261,7 @@ pub parts_within : (number : ℕ) (nodes : List (List ℕ)) (slots : List Slot) 
     nodes ≡ (generated number).nodes → slots ≡ (generated number).slots → processes ≡ (generated number).processes →
     edges ≡ (generated number).edges →
     IsWithinLimits (graph_of nodes slots processes edges)
+-- the graph of these parts is the generated one
 parts_within number nodes slots processes edges n s p e =
     let same : graph_of nodes slots processes edges ≡ generated number =
     λ i. record {

@@ -18,7 +18,7 @@ draws_before_push i =
     ap (sum_by draws_of) (below_push i) ∙ sum_by_push draws_of (numbers_below i) i in
     omega (arith, pushed)
 
--- so the number before the next process is drawn from the one before this
+-- after the draws of process i, the number is the one from which those of process i + 1 start
 number_before_next : (number i : ℕ) → number_after (number_before number i) (draws_of i) ≡ number_before number (i + 1)
 number_before_next number i =
     number_after-add number (draws_before i) (draws_of i) ∙ ap (number_after number) (draws_before_push i)

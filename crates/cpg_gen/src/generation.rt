@@ -1,4 +1,4 @@
-//! The generated graph.
+//! The graph that a number generates.
 ghost use Rattle.std.specs.Prelude.{◌≡◌, IfOk, map};
 ghost use Rattle.std.specs.List.{flat_map};
 ghost use Rattle.cpg_base.specs.Numbers.{numbers_below};
@@ -9,14 +9,16 @@ use crate::parts::{numbered, process, push_edges, slot};
 use cpg_base::{Edge, Name, OutOfMemory, Problem, Process, Slot};
 use std::alloc::Global;
 
-/// The processes and edges that are drawn.
+/// The processes and edges of a generated graph, which come from draws.
 #[derive(Drop)]
 struct Drawn {
+    /// The processes, by number.
     processes: Vec<Process>,
+    /// The edges, by the process that they lead to.
     edges: Vec<Edge>,
 }
 
-/// The names of the four nodes.
+/// Returns the names of the four nodes: N0 to N3.
 fn nodes(alloc: Global) -> Result<Vec<Name>, OutOfMemory>
     ensures { IfOk result (λ nodes. nodes.items ≡ map node_name (numbers_below 4)) }
 {
@@ -27,7 +29,7 @@ fn nodes(alloc: Global) -> Result<Vec<Name>, OutOfMemory>
     Ok(nodes)
 }
 
-/// The slots of the four nodes.
+/// Returns the slots of the four nodes, one each in the order of the nodes.
 fn slots(alloc: Global) -> Result<Vec<Slot>, OutOfMemory>
     ensures { IfOk result (λ slots. slots.items ≡ map slot_of (numbers_below 4)) }
 {
@@ -38,7 +40,8 @@ fn slots(alloc: Global) -> Result<Vec<Slot>, OutOfMemory>
     Ok(slots)
 }
 
-/// The processes and edges, drawn in the order of the processes.
+/// Returns the 60 processes of the graph and its edges. Each process takes its draws, and then one for the edge to it if it
+/// has a predecessor.
 fn draw_all(alloc: Global, number: u64) -> Result<Drawn, OutOfMemory>
     ensures processes { IfOk result (λ drawn. drawn.processes.items ≡ map (generated_process number) (numbers_below 60)) }
     ensures edges { IfOk result (λ drawn. drawn.edges.items ≡ flat_map (generated_edges number) (numbers_below 60)) }
@@ -53,8 +56,8 @@ fn draw_all(alloc: Global, number: u64) -> Result<Drawn, OutOfMemory>
     Ok(Drawn { processes, edges })
 }
 
-/// The graph that a number generates: 60 processes on four nodes with at most two conditions, two faults, and a deadline of
-/// 10^9 time units. The one error is `OutOfMemory`.
+/// Returns the graph that a number generates: 60 processes on four nodes with at most two conditions, for two faults, with a
+/// deadline of 10^9 time units. The one error is `OutOfMemory`.
 pub fn generate(alloc: Global, number: u64) -> Result<Problem, OutOfMemory>
     ensures { IfOk result (λ problem. problem ≡ generated number) }
 {

@@ -9,23 +9,23 @@ mod parts;
 
 pub use generation::generate;
 
-/// The graph of every number is within the limits of a graph file.
+/// Law: the graph of every number is within the limits of a graph file.
 pub fn generated_are_within_limits()
     ensures { GeneratedAreWithinLimits }
 {}
 
-/// The graph of every number is well formed, and each node that sends has a slot.
+/// Law: the graph of every number is well formed, and each node that sends has a slot.
 pub fn generated_are_well_formed()
     ensures formed { GeneratedAreWellFormed }
     ensures slots { GeneratedHaveSenderSlots }
 {}
 
-/// In the graph of every number edges lead to greater processes alone, so there is no cycle.
+/// Law: in the graph of every number each edge leads to a process with a greater number, so there is no cycle.
 pub fn generated_edges_rise()
     ensures { GeneratedEdgesRise }
 {}
 
-/// The graph of every number has at most two conditions.
+/// Law: the graph of every number has at most two conditions.
 pub fn generated_have_few_conditions()
     ensures { GeneratedHaveFewConditions }
 {}

@@ -1,4 +1,4 @@
-//! The parts of a generated graph.
+//! The parts of a generated graph: its names, slots, processes and edges.
 ghost use Rattle.std.specs.Prelude.{◌≡◌, ◌<◌, ◌+◌, ◌++◌, if◌then◌else◌, IfOk, OnOk};
 ghost use Rattle.cpg_base.specs.Name.{IsName};
 ghost use Rattle.cpg_base.specs.Draws.{next_number};
@@ -9,17 +9,22 @@ use crate::draws::Draws;
 use cpg_base::{Edge, Name, OutOfMemory, Process, Slot};
 use std::alloc::Global;
 
-/// The costs of a process, as they are drawn.
+/// What is drawn for the executions of a process; the fields are those of `Process`.
 #[derive(Clone, Copy)]
 struct Costs {
+    /// The longest time of its work alone.
     wcet: u64,
+    /// Into how many parts an execution is cut.
     parts: u32,
+    /// The time to detect a fault, in each part.
     alpha: u64,
+    /// The time to save a checkpoint, in each part.
     chi: u64,
+    /// The time to recover from a fault.
     mu: u64,
 }
 
-/// A letter and a number as a name.
+/// Returns the name of a letter with a number behind it. The one error is `OutOfMemory`.
 pub(crate) fn numbered(alloc: Global, letter: &str, number: u32) -> Result<Name, OutOfMemory>
     requires { IsName (numbered letter.now number) }
     ensures { IfOk result (λ name. name ≡ numbered letter.now number) }
@@ -33,7 +38,7 @@ pub(crate) fn numbered(alloc: Global, letter: &str, number: u32) -> Result<Name,
     }
 }
 
-/// The slot of a node.
+/// Returns the slot of a node: it lasts 10 time units and takes messages of up to 8 bytes.
 pub(crate) fn slot(node: u32) -> Slot
     ensures { result ≡ slot_of node }
 {
@@ -44,7 +49,7 @@ pub(crate) fn slot(node: u32) -> Slot
     }
 }
 
-/// The costs of a process, by the next five draws.
+/// Returns the costs of a process, by the next five draws.
 fn draw_costs(draws: &mut Draws) -> Costs
     ensures costs { result ≡ record {
       wcet = 1 + nth_draw draws.old.number 1 50;
@@ -64,7 +69,7 @@ fn draw_costs(draws: &mut Draws) -> Costs
     }
 }
 
-/// The process of a number, by the next five draws.
+/// Returns the process of a number, by the next five draws. The one error is `OutOfMemory`.
 pub(crate) fn process(alloc: Global, draws: &mut Draws, number: u32) -> Result<Process, OutOfMemory>
     requires { number < 60 }
     ensures process { IfOk result (λ process. process ≡ process_from draws.old.number number) }
@@ -89,7 +94,8 @@ pub(crate) fn process(alloc: Global, draws: &mut Draws, number: u32) -> Result<P
     })
 }
 
-/// The value of its source's condition with which an edge is taken.
+/// Returns the value of its source's condition that an edge depends on; `None` if the source has no condition. Processes 10 and
+/// 20 have one: targets with an odd number need it true, those with an even number false.
 fn when(source: u32, target: u32) -> Option<bool>
     ensures { result ≡ when_of source target }
 {
@@ -99,7 +105,7 @@ fn when(source: u32, target: u32) -> Option<bool>
     None
 }
 
-/// An edge of one byte, whose message is frozen.
+/// Returns an edge whose message, if it has one, is one byte long and frozen.
 fn edge(source: u32, target: u32, when: Option<bool>) -> Edge
     ensures { result ≡ edge_of source target when }
 {
@@ -112,7 +118,7 @@ fn edge(source: u32, target: u32, when: Option<bool>) -> Edge
     }
 }
 
-/// The edge to a process from its predecessor, by the next draw.
+/// Returns the edge to a process from its predecessor, by the next draw.
 fn drawn_edge(draws: &mut Draws, target: u32) -> Edge
     requires { 0 < target }
     ensures edge { result ≡ edge_of (predecessor_by (next_number draws.old.number) target) target
@@ -124,7 +130,8 @@ fn drawn_edge(draws: &mut Draws, target: u32) -> Edge
     edge(source, target, when(source, target))
 }
 
-/// Pushes the edges to a process, with a draw if it has a predecessor.
+/// Adds the edges to a process: none to the first, two to the join, and one to each other, which takes a draw. The one error is
+/// `OutOfMemory`.
 pub(crate) fn push_edges(
     edges: &mut Vec<Edge>,
     draws: &mut Draws,

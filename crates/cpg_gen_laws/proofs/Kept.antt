@@ -67,7 +67,8 @@ not_both false e f = both_ways false refl e
 module _ (number : ℕ) where
   -- ---- cycles
 
-  -- an edge leads to a greater process
+  -- An edge leads to a greater process.
+  -- Each generated edge does.
   rises : (p q : ℕ) → has_edge (generated number) p q ≡ true → p < q
   rises p q t =
       let found = list_any_parts (λ (e : Edge). (e.from == p) && (e.to == q)) (generated number).edges t in
@@ -151,13 +152,14 @@ module _ (number : ℕ) where
       (Contains-map slot_of (numbers_below 4) node (Contains-numbers 4 node l))
       (eq-eqb node node refl)
 
-  -- which holds 8 bytes
+  -- the slot of each node holds 8 bytes
   slot_holds : (node : ℕ) → node < 4 → bytes_in (map slot_of (numbers_below 4)) node ≡ 8
   slot_holds node l = eqb-true (bytes_in (map slot_of (numbers_below 4)) node) 8
       (from_all (λ n. bytes_in (map slot_of (numbers_below 4)) n == 8) (numbers_below 4) node refl
       (Contains-numbers 4 node l))
 
-  -- each message fits into its sender's slot
+  -- Each message fits into its sender's slot.
+  -- A generated edge has one byte, and each slot eight.
   pub all_fit : AllFit (generated number)
   all_fit e l =
       let from = (within_limits number).edges e _ l in
@@ -170,7 +172,8 @@ module _ (number : ℕ) where
 
   -- ---- no fault
 
-  -- a generated graph shows no fault but that memory runs out
+  -- A generated graph shows no fault but that memory runs out.
+  -- Fault by fault: each would break a rule that generated graphs keep.
   pub no_fault : (fault : RuleFault) → ShowsFault (generated number) fault → fault ≡ OutOfMemory
   no_fault (Cycle walk) shows = absurd (no_cycle (walk, shows))
   no_fault TooManyTracks shows = absurd (let l = few_tracks in let m = shows.2 in omega (arith, l, m))

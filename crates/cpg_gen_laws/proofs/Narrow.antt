@@ -53,25 +53,25 @@ product_few p w l e = subst (λ v. p * v ≤ 7564) (sym e) (omega (arith, l))
 abbrev AreValues : List ℕ → Type 0
 AreValues vs = (v : ℕ) → Contains vs v → 128 ≤ v
 
--- a reach without variables is one
+-- a reach without variables has values alone
 none_values : AreValues []
 none_values v k = absurd (Contains-nil v k)
 
--- so are the values of some conditions
+-- the variables of some conditions are values alone
 values_values : (cs : List ℕ) → AreValues (map value_variable cs)
 values_values cs v k = let r = Contains-map_parts value_variable cs v k in omega (arith, r.2)
 
--- so are two such reaches together
+-- two reaches of values alone make one together
 append_values : (xs ys : List ℕ) → AreValues xs → AreValues ys → AreValues (xs ++ ys)
 append_values xs ys h k v c =
     ⊎_elim (λ (a : Contains xs v). h v a) (λ (a : Contains ys v). k v a) (Contains-append_cases xs ys v c)
 
--- so is either of two
+-- either of two reaches of values alone is one
 either_values : (b : Bool) (xs ys : List ℕ) → AreValues xs → AreValues ys → AreValues (cond b xs ys)
 either_values true xs ys h k = h
 either_values false xs ys h k = k
 
--- so is the first of two, if the test picks it
+-- so is the first of two, if a test picks it, whatever the second is
 first_values : (b : Bool) (xs ys : List ℕ) → b ≡ true → AreValues xs → AreValues (cond b xs ys)
 first_values true xs ys e h = h
 first_values false xs ys e h = absurd (both_ways false refl e)
@@ -83,7 +83,8 @@ no_count vs h p l =
 
 -- ---- sums
 
--- a sum over more numbers is no less
+-- A sum over more numbers is no less.
+-- By induction on how many more.
 sums_grow : (f : ℕ → ℕ) (n m : ℕ) → sum_by f (numbers_below n) ≤ sum_by f (numbers_below (n + m))
 sums_grow f n zero = let e : n + 0 ≡ n = omega arith in
     subst (λ k. sum_by f (numbers_below n) ≤ sum_by f (numbers_below k)) (sym e) (omega arith)
@@ -94,7 +95,7 @@ sums_grow f n (suc m) =
     let e : n + suc m ≡ n + m + 1 = omega arith in
     subst (λ k. sum_by f (numbers_below n) ≤ sum_by f (numbers_below k)) (sym e) (omega (arith, pushed, ih))
 
--- what an item adds at most
+-- the load that an item adds at most, by its number: 60 starts, 60 messages, and then broadcasts
 abbrev bound : ℕ → ℕ
 bound x = cond (nat_lt x 60) 7564 (cond (nat_lt x 120) 8 30256)
 
@@ -158,7 +159,8 @@ module _ (number : ℕ) where
     one_view : (o : List Bool) → views_of_outcome (generated number) reached o ≡ 1
     one_view o = ap (λ n. ways n 2) (no_free o) ∙ ways_of_none 2
 
-    -- a reach of values alone has at most one view for each outcome
+    -- A reach of values alone has at most one view for each outcome.
+    -- Without fault counts in reach each quiet outcome has one view, and there are at most four outcomes.
     pub views_by_outcome : views (generated number) reached ≤ 4
     views_by_outcome =
         let os = outcomes (condition_count (generated number)) in
@@ -179,17 +181,19 @@ module _ (number : ℕ) where
       item : item_at (generated number) (message_item (generated number) e) ≡ Message e
       item = item_at-message (generated number) e l
 
-      -- it is sent by the value of a condition at most
+      -- whether it is sent depends on the value of a condition at most
       source_values : AreValues (source_value (generated number) e)
       source_values = either_values (is_some (edge_at (generated number) e).when)
           (map value_variable (option_to_list (condition_of (generated number) (source (generated number) e)))) []
           (values_values (option_to_list (condition_of (generated number) (source (generated number) e)))) none_values
 
+      -- so whether the item of the message is sent does too
       sent_values :
           AreValues (sent_value (generated number) (item_at (generated number) (message_item (generated number) e)))
       sent_values = subst (λ i. AreValues (sent_value (generated number) i)) (sym item) source_values
 
-      -- the send of a message depends on values alone, since generated messages are frozen
+      -- The send of a message depends on values alone, since generated messages are frozen.
+      -- Its reach is the conditions of its producer and the value of its own `when`.
       send_values : is_message (generated number) e ≡ true →
           AreValues (send_reach (generated number) order r (message_item (generated number) e))
       send_values t =
@@ -260,7 +264,8 @@ module _ (number : ℕ) where
               omega (arith, product, most))
         ]
 
-    -- the loads of the first n items are at most 514,832
+    -- The loads of the first n items are at most 514,832.
+    -- Each load is within its bound, and the bounds of all 122 items add up to this.
     pub loads_up_to : (n : ℕ) → n ≤ item_count (generated number) →
         sum_by (load (generated number) r) (numbers_below n) ≤ 514832
     loads_up_to n l =
@@ -276,7 +281,8 @@ module _ (number : ℕ) where
         let total = bounds in
         omega (arith, each, grown, total)
 
-    -- no item has too many views or too great a load
+    -- No item has too many views or too great a load.
+    -- 7,564 is below 16,384, and 514,832 below 524,288.
     not_wide : (x : ℕ) → x < item_count (generated number) → is_too_wide (generated number) r x ≡ false
     not_wide x l =
         let narrow = few_views (reach_of r x) in

@@ -116,12 +116,12 @@ one_more p q (x ∷ xs) y h k f t = ⊎_elim
 later_passes : (at : ℕ → ℕ) (m x : ℕ) → nat_lt (at x) m ≡ true → nat_lt (at x) (suc m) ≡ true
 later_passes at m x t = let l = ltb-true (at x) m t in lt-ltb (at x) (suc m) (omega (arith, l))
 
--- so no fewer moments come before the next one
+-- no fewer moments come before m + 1 than before m
 count_grows : (at : ℕ → ℕ) (n m : ℕ) → count_before at n m ≤ count_before at n (suc m)
 count_grows at n m =
     length-filter-le (λ x. nat_lt (at x) m) (λ x. nat_lt (at x) (suc m)) (numbers_below n) (later_passes at m)
 
--- and one more if some moment is m
+-- and one more does if some moment is m
 count_more : (at : ℕ → ℕ) (n m x : ℕ) → x < n → at x ≡ m → count_before at n m + 1 ≤ count_before at n (suc m)
 count_more at n m x l e = one_more (λ x. nat_lt (at x) m) (λ x. nat_lt (at x) (suc m)) (numbers_below n) x
     (later_passes at m) (Contains-numbers n x l)
@@ -206,7 +206,8 @@ module _ (number : ℕ) where
         (moment_of_end (generated number) order p) in
         omega (arith, a, b)
 
-    -- no bound is above 19,720: 60 ends and 122 items
+    -- No bound is above 19,720: 60 ends and 122 items.
+    -- 60 executions of at most 166 and 122 items of at most 80 are 9,960 + 9,760.
     bound_few : (m : ℕ) → bound m ≤ 19720
     bound_few m =
         let a = count_few (moment_of_end (generated number) order) (process_count (generated number)) m in
@@ -219,8 +220,10 @@ module _ (number : ℕ) where
     module _ (frozen : List (Option ℕ)) (still : AreFrozenTimes (generated number) order frozen) where
       -- all times and ends before the moment m are at most its bound
       record SmallBefore (t : Times) (m : ℕ) : Type 0 where
+        -- no item before m has a later time
         pub items : (x : ℕ) → x < item_count (generated number) → moment (generated number) order x < m →
             time_in t x ≤ bound m
+        -- no process ends later before m
         pub ends : (p : ℕ) → p < process_count (generated number) → moment_of_end (generated number) order p < m →
             end_in t p ≤ bound m
 
@@ -356,7 +359,8 @@ module _ (number : ℕ) where
             (let sends = subst (λ i. phase i ≡ rank_of_item i + 2) (sym c.3) (let r : 2 ≡ 0 + 2 = omega arith in r) in
             send_le m x a (omega (arith, is)) l sends (send_made m x is sends))
 
-        -- a time is at most b if the unfrozen time and the frozen one are
+        -- A time is at most b if the unfrozen time and the frozen one are.
+        -- An active item's time is the greater of the two, and an inactive one has 0.
         time_le : (x b : ℕ) → x < item_count (generated number) → unfrozen_time (generated number) order s t x ≤ b →
             ((time : ℕ) → get_or frozen x None ≡ Some time → time ≤ b) → time_in t x ≤ b
         time_le x b l h k = elim (cases_Bool (item_active (generated number) s.values (item_at (generated number) x))) [
@@ -391,7 +395,8 @@ module _ (number : ℕ) where
       AllSmall m = (s : Scenario) (t : Times) → IsScenario (generated number) s →
           IsRun (generated number) order frozen s t → SmallBefore t m
 
-      -- a frozen time of a moment isn't much greater than the times before the moment
+      -- A frozen time of a moment isn't much greater than the times before the moment.
+      -- It is the unfrozen time in some scenario's run, where that is known of it.
       still_le : (m x : ℕ) → AllSmall m → x < item_count (generated number) → moment (generated number) order x ≡ m →
           (time : ℕ) → get_or frozen x None ≡ Some time →
           time ≤ bound m + 80
@@ -446,7 +451,8 @@ module _ (number : ℕ) where
           let few = bound_few m in
           omega (arith, most, few)
 
-      -- no process exceeds its due in a run, since all end by 19,720
+      -- No process exceeds its due in a run, since all end by 19,720.
+      -- The due of each is 10^9.
       no_excess : (s : Scenario) (t : Times) → IsScenario (generated number) s →
           IsRun (generated number) order frozen s t →
           excess_in_run (generated number) t ≤ 0

@@ -9,11 +9,11 @@ use Rattle.cpg_rules.specs.Rules.{AllFit}
 use Rattle.cpg_rules.specs.Faults.{ShowsFault}
 use Rattle.cpg_gen.specs.Generated.{generated}
 
--- there is no cycle
+-- no generated graph has a cycle
 abbrev pub GeneratedHaveNoCycle : Type 0
 GeneratedHaveNoCycle = (number : ℕ) → HasCycle (generated number) → ⊥
 
--- there are at most four tracks
+-- a generated graph has at most four tracks: it has two conditions
 abbrev pub GeneratedHaveFewTracks : Type 0
 GeneratedHaveFewTracks = (number : ℕ) → track_count (generated number) ≤ 4
 
@@ -25,6 +25,6 @@ GeneratedHaveSingleJoins = (number : ℕ) → HasSingleJoins (generated number)
 abbrev pub GeneratedMessagesFit : Type 0
 GeneratedMessagesFit = (number : ℕ) → AllFit (generated number)
 
--- no fault is shown but that memory runs out
+-- no generated graph is refused, except that memory may run out
 abbrev pub GeneratedShowNoFault : Type 0
 GeneratedShowNoFault = (number : ℕ) (fault : RuleFault) → ShowsFault (generated number) fault → fault ≡ OutOfMemory

@@ -17,7 +17,7 @@ GeneratedEndEarly =
     (s : Scenario) (t : Times) → IsScenario (generated number) s → IsRun (generated number) order frozen s t → (p : ℕ) →
     p < process_count (generated number) → end_in t p ≤ 19720
 
--- no process ends past its due
+-- no process of a generated graph ends past its due, so the greatest excess is 0
 abbrev pub GeneratedAreInTime : Type 0
 GeneratedAreInTime =
     (number : ℕ) (order : List ℕ) → IsTopological (generated number) order → (frozen : List (Option ℕ)) →

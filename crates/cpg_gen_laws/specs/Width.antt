@@ -12,7 +12,7 @@ use Rattle.cpg_gen.specs.Generated.{generated}
 abbrev pub GeneratedHaveFewScenarios : Type 0
 GeneratedHaveFewScenarios = (number : ℕ) → length (scenarios (generated number)) ≤ 7564
 
--- no list of variables has more than 7,564 views
+-- no list of variables has more than 7,564 views in a generated graph, since each view is a scenario
 abbrev pub GeneratedHaveFewViews : Type 0
 GeneratedHaveFewViews = (number : ℕ) (reached : List ℕ) → views (generated number) reached ≤ 7564
 
@@ -22,12 +22,12 @@ GeneratedMessagesHaveFewViews =
     (number : ℕ) (order : List ℕ) (r : Reach) → IsReach (generated number) order r → (e : ℕ) →
     e < edge_count (generated number) → views (generated number) (reach_of r (message_item (generated number) e)) ≤ 4
 
--- all items together have a load of at most 514,832: 60 processes with one row, 60 messages with two, and two
--- broadcasts with four
+-- All items together have a load of at most 514,832: 60 processes with one row of 7,564 views, 60 messages with two rows
+-- of four views, and two broadcasts with four rows of 7,564 views. That is 453,840 + 480 + 60,512.
 abbrev pub GeneratedHaveSmallLoads : Type 0
 GeneratedHaveSmallLoads = (number : ℕ) (order : List ℕ) (r : Reach) → IsReach (generated number) order r →
     sum_by (load (generated number) r) (numbers_below (item_count (generated number))) ≤ 514832
 
--- no item is too wide under any order
+-- no item of a generated graph is too wide under any order
 abbrev pub GeneratedAreNarrow : Type 0
 GeneratedAreNarrow = (number : ℕ) (order : List ℕ) → IsNarrow (generated number) order

@@ -15,48 +15,48 @@ pub fn generated_have_few_tracks()
     ensures { GeneratedHaveFewTracks }
 {}
 
-/// No outcome makes two inputs of the join live.
+/// No outcome makes two inputs of a join live in the graph of any number.
 pub fn generated_have_single_joins()
     ensures { GeneratedHaveSingleJoins }
 {}
 
-/// Each message fits into its sender's slot.
+/// Each message of the graph of every number fits into its sender's slot.
 pub fn generated_messages_fit()
     ensures { GeneratedMessagesFit }
 {}
 
-/// The graph of every number keeps all rules: it shows no fault but that memory runs out.
+/// The graph of every number keeps all rules: it isn't refused, except that memory may run out.
 pub fn generated_show_no_fault()
     ensures { GeneratedShowNoFault }
 {}
 
-/// The graph of every number has at most 7,564 scenarios, and no item more views.
+/// The graph of every number has at most 7,564 scenarios, and so no item has more views.
 pub fn generated_have_few_scenarios()
     ensures scenarios { GeneratedHaveFewScenarios }
     ensures views { GeneratedHaveFewViews }
 {}
 
-/// Each message has at most four views.
+/// Each message of the graph of every number has at most four views, under any order.
 pub fn generated_messages_have_few_views()
     ensures { GeneratedMessagesHaveFewViews }
 {}
 
-/// All loads together are at most 514,832.
+/// The loads of all items together, which bound the columns of all rows, are at most 514,832 under any order.
 pub fn generated_have_small_loads()
     ensures { GeneratedHaveSmallLoads }
 {}
 
-/// Nothing is too wide under any order.
+/// Nothing in the graph of any number is too wide under any order.
 pub fn generated_are_narrow()
     ensures { GeneratedAreNarrow }
 {}
 
-/// Under a topological order no process ends later than 19,720.
+/// Under a topological order no process of the graph of any number ends later than 19,720.
 pub fn generated_end_early()
     ensures { GeneratedEndEarly }
 {}
 
-/// Under a topological order no process ever ends past its due.
+/// Under a topological order no process of the graph of any number ends past its due.
 pub fn generated_are_in_time()
     ensures { GeneratedAreInTime }
 {}

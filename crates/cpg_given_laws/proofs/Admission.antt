@@ -61,7 +61,8 @@ module _ (g : Graph) (given : Option (List ℕ)) where
       let next = place order (process_of g c) + 1 in
       (is.0, is.1, ordered_of_other order off next is.2, ordered_of_other order on next is.3)
 
-  -- the guards are those of the graph with another order, too
+  -- The guards are those of the graph with another order, too.
+  -- Activations don't look at the order that a graph gives.
   guards_of_other : (order : List ℕ) (guards : Guards) → AreGuardsOf g order guards →
       AreGuardsOf (other g given) order guards
   guards_of_other order guards are = record {
@@ -109,7 +110,8 @@ limits_with g order limits within = record {
   order = within;
 }
 
--- an admitted graph is admitted with a topological order, with the same urgency order and guards
+-- An admitted graph is admitted with a topological order, with the same urgency order and guards.
+-- No rule but the one on given orders looks at the order, and that one holds of a topological one.
 pub admitted_with : (g : Graph) (urgency order : List ℕ) (guards : Guards) → IsAdmitted g urgency guards →
     IsTopological g order →
     IsAdmitted (other g (Some order)) urgency guards

@@ -48,7 +48,7 @@ module _ (d : Data) (ms : Members) where
   unfolding read_integer
   same_integer key h = ap (λ found. found >>= required_in (top_of ms) key) (same_optional as_integer key h)
 
-  -- and the same list of tables
+  -- every other key has the same list of tables
   same_tables : (key : Key) → Differs (slice_cmp nat_cmp (text_of key) (codes "order")) →
       read_array (top_of (keyed d ms)) key ≡ read_array (top_of ms) key
   unfolding read_array

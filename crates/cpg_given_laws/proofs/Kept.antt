@@ -39,7 +39,7 @@ same_measures g urgency given order excess worst = (
 -- an admitted graph that gives no order, and a compile of it
 module _ (g : Graph) (urgency : List ℕ) (guards : Guards) (c : Compiled) (is : IsAdmitted g urgency guards)
     (ungiven : g.order ≡ None) (made : IsCompilation g urgency c) where
-  -- its first order is the urgency order
+  -- the first order of the graph, which gives none, is the urgency order
   first_is : first_order g urgency ≡ urgency
   first_is = ap (λ o. unwrap_or o urgency) ungiven
 
@@ -68,7 +68,7 @@ module _ (g : Graph) (urgency : List ℕ) (guards : Guards) (c : Compiled) (is :
   taken order =
       (λ t. elim t [ inl p ↦ absurd (none_preferred order p) | inr first ↦ first.0 ], λ e. inr (e, none_preferred))
 
-  -- and compiles under it
+  -- the graph that gives the order compiles under it
   compiled : IsCompiled (with_order g c.order) urgency c.order
   compiled = record {
     narrow = λ none. absurd (none-some c.order (sym none));
@@ -100,7 +100,7 @@ module _ (g : Graph) (urgency : List ℕ) (guards : Guards) (c : Compiled) (is :
         (subst (λ f. IsWorst g urgency c.order f b.worst b.worst_in b.worst_by) (sym same_frozen)
         (worst_back g (Some c.order) c.order b.frozen urgency b.worst b.worst_in b.worst_by built.worst))
 
-    -- so is the time of each item in each scenario
+    -- each item has the same time in each scenario
     same_times : (x : ℕ) (s : Scenario) → IsScenario g s → at c.built.tables.nodes x s ≡ at b.tables.nodes x s
     same_times x s law =
         let run = a_run g c.order c.built.frozen s topological in
@@ -109,7 +109,8 @@ module _ (g : Graph) (urgency : List ℕ) (guards : Guards) (c : Compiled) (is :
         (run_of_other g (Some c.order) c.order s run.0 b.frozen
         (subst (λ f. IsRun g c.order f s run.0) same_frozen run.1)))
 
-  -- each compile of it has the same order, and tables that ask the same
+  -- Each compile of it has the same order, and tables that ask the same.
+  -- What is built under one order asks the same, whatever order the graph gives.
   same : (d : Compiled) → IsCompilation (with_order g c.order) urgency d → AskTheSame g c d
   same d again =
       let order : d.order ≡ c.order = (taken d.order).0 again.compiled.taken in

@@ -37,7 +37,7 @@ module _ (g : Graph) (given : Option (List ℕ)) (order : List ℕ) (frozen : Li
   }
 
 module _ (g : Graph) (given : Option (List ℕ)) (order : List ℕ) (frozen : List (Option ℕ)) where
-  -- and the other way
+  -- a time that an item would have in the graph with another order is one that it would have in the graph
   would_back : (x time : ℕ) → WouldHave (other g given) order frozen x time → WouldHave g order frozen x time
   would_back = would_have (other g given) g.order order frozen
 
@@ -69,7 +69,8 @@ module _ (g : Graph) (given : Option (List ℕ)) (order : List ℕ) (frozen : Li
       by = λ t run. is.by t (run_back g given order frozen s t run);
     }
 
-    -- the greatest excess under an order is the same whatever order the graph gives
+    -- The greatest excess under an order is the same whatever order the graph gives.
+    -- Scenarios and runs are the same.
     pub excess_of_other : (excess : ℕ) (s : Scenario) (by : Option ℕ) → IsExcess g urgency order frozen excess s by →
         IsExcess (other g given) urgency order frozen excess s by
     excess_of_other excess s by is = record {
@@ -95,7 +96,8 @@ pub worst_back : (g : Graph) (given : Option (List ℕ)) (order : List ℕ) (fro
     IsWorst (other g given) urgency order frozen worst s by → IsWorst g urgency order frozen worst s by
 worst_back g given = worst_of_other (other g given) g.order
 
--- both measures under an order are the same whatever order the graph gives
+-- Both measures under an order are the same whatever order the graph gives.
+-- Frozen times, excess and finish are.
 pub measured_of_other : (g : Graph) (given : Option (List ℕ)) (urgency order : List ℕ) (excess worst : ℕ) →
     IsMeasured g urgency order excess worst →
     IsMeasured (other g given) urgency order excess worst

@@ -95,13 +95,13 @@ module _ (g : Graph) (given : Option (List ℕ)) where
         (ap (λ f. map (heard_there g t (node_of g p)) (flat_map (f s.values) (before_on_node g order p ++ p ∷ [])))
         same_deciding)
 
-    -- so does a send
+    -- a send has the same bounds whatever order is given
     same_send : (x : ℕ) → send_bounds other order s t x ≡ send_bounds g order s t x
     same_send x = ap (λ f. next_slot g (home g x) (end_in t (producer g x))
         ∷ map (λ y. time_in t y + round g) (filter f (queued_before g order x)))
         (fun_ext (λ y. same_item_active s.values (item_at g y)))
 
-    -- so does each item
+    -- each item has the same bounds whatever order is given
     same_bounds : (x : ℕ) (it : Item) → bounds_of_item other order s t x it ≡ bounds_of_item g order s t x it
     same_bounds x (Start p) = same_start p
     same_bounds x (Message e) = same_send x

@@ -36,13 +36,13 @@ module _ (g : Graph) (given : Option (List ℕ)) where
         ++ flat_map (end_reach r) (before_on_node g order p)
         ++ flat_map (input_reach g r) (inputs g p)) same_conditions
 
-    -- so does a send
+    -- a send has the same reach whatever order is given
     same_send_reach : (x : ℕ) → send_reach (other g given) order r x ≡ send_reach g order r x
     same_send_reach x = ap {B = List ℕ} (λ f. (if is_frozen g x then map value_variable (f (producer g x))
         else end_reach r (producer g x) ++ flat_map (reach_of r) (queued_before g order x))
         ++ sent_value g (item_at g x)) same_conditions
 
-    -- so does each item
+    -- each item has the same reach whatever order is given
     same_reach : (x : ℕ) (it : Item) → reach_by_item (other g given) order r x it ≡ reach_by_item g order r x it
     same_reach x (Start p) = same_start_reach p
     same_reach x (Message e) = ap (λ vs. if is_sent_item g (Message e) then vs else []) (same_send_reach x)

@@ -24,7 +24,7 @@ module _ (g : Graph) (urgency : List ℕ) (none : g.order ≡ None) where
   back : (P : List ℕ → Type 0) → P (first_order g urgency) → P urgency
   back P p = subst P first p
 
-  -- and the other way
+  -- what holds of the urgency order holds of the first order
   forth : (P : List ℕ → Type 0) → P urgency → P (first_order g urgency)
   forth P p = subst P (sym first) p
 
@@ -42,7 +42,7 @@ module _ (g : Graph) (urgency : List ℕ) (none : g.order ≡ None) where
     better = p.better;
   }
 
-  -- and the other way
+  -- the track order that is better is preferred, since the graph gives no order
   preferred_back : (order : List ℕ) → IsTrackOrderPreferred g urgency order → IsPreferred g urgency order
   preferred_back order p = record {
     ungiven = none;
@@ -77,7 +77,7 @@ module _ (g : Graph) (urgency : List ℕ) (none : g.order ≡ None) where
     λ c. record { narrow = λ _. forth (IsNarrow g) c.narrow; taken = (taken order).1 c.taken; in_time = c.in_time },
   )
 
-  -- it is late if it is so by both
+  -- the graph is late by the compile's words exactly if it is so by those that know of two orders alone
   late : IsLate g urgency ↔ IsLateByTwo g urgency
   late = (
     λ l. record {
@@ -105,7 +105,7 @@ module _ (g : Graph) (urgency : List ℕ) (none : g.order ≡ None) where
       run = back (λ o. IsRun g o h.frozen s h.times) h.run;
       ends = h.ends;
     },
-    -- and back
+    -- what is shown by the urgency order is shown by the first order
     λ h. record {
       frozen = h.frozen;
       frozen_times = forth (λ o. AreFrozenTimes g o h.frozen) h.frozen_times;

@@ -20,9 +20,10 @@ with_order g order = record g { order = Some order }
 -- tables, or is out of memory. Any tables that it makes ask the same in every scenario, and have the same frozen times
 -- and greatest finish.
 pub record KeepsTables (g : Graph) (urgency : List ℕ) (guards : Guards) (c : Compiled) : Type 0 where
+  -- it is admitted with the same urgency order and guards, and its compile takes the given order
   pub admitted : IsAdmitted (with_order g c.order) urgency guards
   pub taken : (order : List ℕ) → IsCompileOrder (with_order g c.order) urgency order ↔ (order ≡ c.order)
-  -- the compile can only fail for want of memory
+  -- its compile fails only if memory runs out
   pub made : (fault : CompileFault) → ShowsCompileFault (with_order g c.order) urgency fault → fault ≡ OutOfMemory
   -- any other compilation of it asks for the same
   pub same : (d : Compiled) → IsCompilation (with_order g c.order) urgency d → AskTheSame g c d

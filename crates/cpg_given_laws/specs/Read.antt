@@ -17,7 +17,8 @@ names_along g order = array (items_of (map (λ p. string (process_name (labels_o
 abbrev pub with_key : Graph → List ℕ → Members → Members
 with_key g order ms = with_member (codes "order") (names_along g order) ms
 
--- If a file says a graph, a file whose document is the same but for this key says the graph that gives the order.
+-- If a file says a graph, and a second file has the same document but for these names at `order`, the second says the
+-- same graph with this order.
 abbrev pub GivenOrdersAreRead : Type 0
 GivenOrdersAreRead = (bytes new : List ℕ) (ms : Members) (g : Graph) (order : List ℕ) → document_of bytes ≡ Ok ms →
     problem_of bytes ≡ Ok g →

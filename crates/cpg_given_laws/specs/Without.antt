@@ -12,9 +12,11 @@ use Rattle.cpg_core.specs.Compilation.{ShowsCompileFault}
 use Rattle.cpg_core.specs.Compiled.{IsMeasured, IsBetter, IsLateUnder, IsInTimeUnder, IsCompileOrder, IsCompiled}
 use Rattle.cpg_core.specs.Compiled.{IsLate, IsShownLate}
 
--- the track order, if no item is too wide under it and it is better than the urgency order
+-- the track order is taken rather than the urgency order
 pub record IsTrackOrderPreferred (g : Graph) (urgency order : List ℕ) : Type 0 where
+  -- the order is the track order
   pub track : HasTrackOrder g order
+  -- no item is too wide by its views under it
   pub narrow : IsNarrow g order
   -- its excess and its finish
   pub excess : ℕ
@@ -24,19 +26,21 @@ pub record IsTrackOrderPreferred (g : Graph) (urgency order : List ℕ) : Type 0
   pub urgency_excess : ℕ
   pub urgency_worst : ℕ
   pub urgency_measured : IsMeasured g urgency urgency urgency_excess urgency_worst
+  -- less excess, or as much and an earlier finish
   pub better : IsBetter excess worst urgency_excess urgency_worst
 
--- the track order exactly if it is preferred, and otherwise the urgency order
+-- the order is the track order if that is preferred, and otherwise the urgency order
 abbrev pub IsBetterOfTwo : Graph → List ℕ → List ℕ → Type 0
 IsBetterOfTwo g urgency order = IsTrackOrderPreferred g urgency order ⊎
     ((order ≡ urgency) × ((other : List ℕ) → IsTrackOrderPreferred g urgency other → ⊥))
 
--- the tables are written: for the better of the two, under which every process ends by its due
+-- tables are written for the better of the two orders, under which every process ends by its due
 pub record IsCompiledByTwo (g : Graph) (urgency order : List ℕ) : Type 0 where
   -- no item is too wide under the urgency order
   pub narrow : IsNarrow g urgency
   -- the order is the better of the urgency order and the track order
   pub taken : IsBetterOfTwo g urgency order
+  -- nothing is late under it
   pub in_time : IsInTimeUnder g urgency order
 
 -- no tables are written: under the urgency order some process is late, and no track order exists, or an item is too
@@ -55,21 +59,27 @@ pub record IsShownLateByUrgency (g : Graph) (urgency : List ℕ) (s : Scenario) 
   -- the frozen times under the urgency order
   pub frozen : List (Option ℕ)
   pub frozen_times : AreFrozenTimes g urgency frozen
+  -- the greatest excess under it
   pub excess : ℕ
   -- s is the least scenario with the greatest excess, and p the least process that has it there
   pub is_excess : IsExcess g urgency urgency frozen excess s (Some p)
+  -- the times of a run
   pub times : Times
-  -- the run of s, in which p ends at this time
+  -- the run is that of s, and p ends at this time in it
   pub run : IsRun g urgency frozen s times
   pub ends : get_or times.ends p None ≡ Some time
 
--- a compile's answers are these, and no others
+-- The definitions of a compile and those here, which know of no given order, say the same of each of its answers.
 pub record IsAsWithoutTheKey (g : Graph) (urgency : List ℕ) : Type 0 where
-  -- the order, the tables, why the graph is late, what that shows, and which item is too wide
+  -- the compile's order is the better of the two
   pub taken : (order : List ℕ) → IsCompileOrder g urgency order ↔ IsBetterOfTwo g urgency order
+  -- tables are written under an order by the one exactly if they are by the other
   pub compiled : (order : List ℕ) → IsCompiled g urgency order ↔ IsCompiledByTwo g urgency order
+  -- the graph is late by the one exactly if it is by the other
   pub late : IsLate g urgency ↔ IsLateByTwo g urgency
+  -- a late graph shows the same scenario, process and end
   pub shown : (s : Scenario) (p time : ℕ) → IsShownLate g urgency s p time ↔ IsShownLateByUrgency g urgency s p time
+  -- the same item is too wide; `order` isn't given, so what is made needn't be too large as well
   pub wide : (x : ℕ) → ShowsCompileFault g urgency (TooWide x) ↔ IsLeastWide g urgency x
 
 -- This holds for each graph that gives no order.

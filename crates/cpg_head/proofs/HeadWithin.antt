@@ -21,7 +21,7 @@ use Rattle.cpg_base.proofs.ConditionProcesses.{condition_of_process_of, process_
 use Rattle.cpg_head.specs.Head.{HeadProcess, IsHead, IsHeadProcess, IsHeadEdge, IsExtra, AreExtras}
 use Rattle.cpg_head.specs.GraphHead.{head_process, extra_of, is_plain, head_of}
 
--- an execution is short
+-- an execution of a process within the limits, with at most 8 faults, lasts less than 2 ^ 60
 short : (n : ℕ) (p : Process) (f : ℕ) → IsProcessWithin n p → f ≤ 8 → duration_of p f < 2 ^ 60
 short n p f w h =
     let parts : p.parts * (p.alpha + p.chi) ≤ 255 * 2000000000 =
@@ -39,6 +39,7 @@ All-below P n h = All-weaker (Contains (numbers_below n)) P (λ x c. h x (number
 -- as many results of a map pass as elements whose results do
 count_by-map : {X Y : Type 0} (p : Y → Bool) (f : X → Y) (xs : List X) →
     count_by p (map f xs) ≡ count_by (λ x. p (f x)) xs
+-- by induction on the list
 count_by-map p f [] = refl
 count_by-map p f (x ∷ xs) =
     sum_by-cons (λ y. cond (p y) 1 0) (f x) (map f xs) ∙ ap (λ n. cond (p (f x)) 1 0 + n) (count_by-map p f xs)

@@ -1,12 +1,14 @@
-//! How long an execution takes, by its number of faults.
+//! How long an execution of a process lasts, by its number of faults.
 ghost use Rattle.std.specs.Prelude.{◌≡◌, IfOk};
 
 use cpg_base::OutOfMemory;
 use std::marker::Model;
 
-/// The longest times of an execution with 0, 1, .. faults, in time units of the graph file, seen as their list.
+/// How long an execution lasts at most with 0, 1, .. faults, in time units of the graph file. It is seen as the list of these
+/// times.
 #[derive(Drop)]
 pub struct Durations {
+    /// The times, by number of faults.
     times: Vec<u64>,
 }
 
@@ -19,21 +21,21 @@ impl Model for Durations {
 }
 
 impl Durations {
-    /// Durations from these times, the one without faults first.
+    /// Returns the durations of these times, the one without faults first.
     pub fn new(times: Vec<u64>) -> Durations
         ensures { result ≡ times.items }
     {
         Durations { times }
     }
 
-    /// All durations, the one without faults first.
+    /// Returns all times, the one without faults first.
     pub fn times(&self) -> &[u64]
         ensures { result.now ≡ self.now }
     {
         self.times.as_slice()
     }
 
-    /// A copy of the durations.
+    /// Returns equal durations. The one error is `OutOfMemory`.
     pub fn copy(&self) -> Result<Durations, OutOfMemory>
         ensures { IfOk result (λ durations. durations ≡ self.now) }
     {

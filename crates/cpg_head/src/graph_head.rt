@@ -1,4 +1,4 @@
-//! The parts of the head for a graph.
+//! The parts of a pack's head that is made for a graph.
 ghost use Rattle.std.specs.Prelude.{◌≡◌, ◌<◌, ◌+◌, IfOk, map, option_map};
 ghost use Rattle.std.specs.List.{list_all};
 ghost use Rattle.cpg_base.specs.Numbers.{numbers_below};
@@ -10,11 +10,12 @@ use crate::{Durations, Extra, HeadProcess};
 use cpg_base::{Edge, Name, OutOfMemory, Problem, Process};
 use std::alloc::Global;
 
-/// How long the executions of a process take.
+/// Returns how long the executions of a process last.
 fn durations_of(alloc: Global, problem: &Problem, process: u32) -> Result<Durations, OutOfMemory>
     requires { process < process_count problem.now }
     ensures { IfOk result (λ times. times ≡ map (duration problem.now process) (numbers_below (problem.now.faults + 1))) }
 {
+    // there is a duration for no fault too
     let end = problem.faults() + 1;
     let mut times = Vec::new(alloc);
     times.reserve(end as usize)?;
@@ -24,7 +25,7 @@ fn durations_of(alloc: Global, problem: &Problem, process: u32) -> Result<Durati
     Ok(Durations::new(times))
 }
 
-/// What a head says of a process.
+/// Returns what a head says of a process.
 fn head_process(alloc: Global, problem: &Problem, process: u32) -> Result<HeadProcess, OutOfMemory>
     requires { process < process_count problem.now }
     ensures { IfOk result (λ p. p ≡ head_process problem.now process) }
@@ -38,7 +39,7 @@ fn head_process(alloc: Global, problem: &Problem, process: u32) -> Result<HeadPr
     })
 }
 
-/// What a head says of each process.
+/// Returns what a head says of each process, by number. The one error is `OutOfMemory`.
 pub fn head_processes(alloc: Global, problem: &Problem) -> Result<Vec<HeadProcess>, OutOfMemory>
     ensures { IfOk result (λ v. v.items ≡ map (head_process problem.now) (numbers_below (process_count problem.now))) }
 {
@@ -51,14 +52,14 @@ pub fn head_processes(alloc: Global, problem: &Problem) -> Result<Vec<HeadProces
     Ok(processes)
 }
 
-/// A copy of the names.
+/// Returns a copy of the nodes' names. The one error is `OutOfMemory`.
 pub fn head_nodes(alloc: Global, names: &[Name]) -> Result<Vec<Name>, OutOfMemory>
     ensures { IfOk result (λ v. v.items ≡ names.now) }
 {
     Ok(Vec::from_clones(alloc, names)?)
 }
 
-/// The ends of the edges.
+/// Returns for each edge the processes that it leads from and to. The one error is `OutOfMemory`.
 pub fn head_edges(alloc: Global, edges: &[Edge]) -> Result<Vec<(u32, u32)>, OutOfMemory>
     ensures { IfOk result (λ v. v.items ≡ map (λ e. (e.from, e.to)) edges.now) }
 {
@@ -70,14 +71,14 @@ pub fn head_edges(alloc: Global, edges: &[Edge]) -> Result<Vec<(u32, u32)>, OutO
     Ok(ends)
 }
 
-/// Whether each process has neither a release nor a deadline of its own.
+/// Whether each process is released at 0 and has no deadline of its own.
 fn are_plain(processes: &[Process]) -> bool
     ensures { result ≡ list_all is_plain processes.now }
 {
     processes.iter().all(|process| process.release == 0 && process.deadline.is_none())
 }
 
-/// What version 2 adds for each process.
+/// Returns what version 2 adds for each process. The one error is `OutOfMemory`.
 fn extras_of(alloc: Global, processes: &[Process]) -> Result<Vec<Extra>, OutOfMemory>
     ensures { IfOk result (λ v. v.items ≡ map extra_of processes.now) }
 {
@@ -92,7 +93,8 @@ fn extras_of(alloc: Global, processes: &[Process]) -> Result<Vec<Extra>, OutOfMe
     Ok(extras)
 }
 
-/// What version 2 adds for the processes, if some process needs it.
+/// Returns what version 2 adds for each process; `None` exactly if no process has a release above 0 or a deadline of its own.
+/// The one error is `OutOfMemory`.
 pub fn head_extras(alloc: Global, problem: &Problem) -> Result<Option<Vec<Extra>>, OutOfMemory>
     ensures { IfOk result (λ o. option_map (λ v. v.items) o ≡ extras_of problem.now) }
 {

@@ -1,4 +1,4 @@
-//! The head of a pack.
+//! The head of a pack, which says what its tables are made for.
 ghost use Rattle.std.specs.Prelude.{◌≡◌, ◌↔◌, ◌≤◌, ◌<◌, ◌^◌, IsTrue, IfOk, IfSome, IfNone, All, None, Some, count_by, length, option_map};
 ghost use Rattle.cpg_head.specs.GraphHead.{head_of};
 ghost use Rattle.cpg_head.specs.Head.{IsHead, IsHeadProcess, IsHeadEdge, IsExtra, AreExtras, version_of, extra_at};
@@ -12,15 +12,14 @@ use cpg_base::{
 use std::alloc::Global;
 use std::marker::Model;
 
-/// Durations are below this, in time units of the graph file.
+/// All durations in a head are below this, in time units of the graph file.
 pub const TIME_END: u64 = 1 << 60;
 
-/// The head of a pack: what its tables are made for (docs/FORMATS.md). It is seen as the fault number, the nodes' names,
-/// the processes, the edges by the numbers of the processes that they run between and, in version 2 only, an `Extra` for
-/// each process.
+/// The head of a pack: what its tables are made for (docs/FORMATS.md). It is seen as the most faults, the nodes' names, the
+/// processes, the edges by the processes that they lead from and to and, in version 2 only, an `Extra` for each process.
 #[derive(Drop)]
 pub struct Head {
-    /// How many faults the tables tolerate.
+    /// The most faults in a cycle that the tables tolerate.
     faults: u8,
     /// The names of the nodes.
     nodes: Vec<Name>,
@@ -55,7 +54,7 @@ impl Model for Head {
     }) };
 }
 
-/// Whether there are few enough of each kind of part.
+/// Whether there are no more faults, nodes, processes and edges than a head may have.
 fn are_counts_within(faults: u8, nodes: usize, processes: usize, edges: usize) -> bool
     ensures { IsTrue result ↔ ((faults ≤ MOST_FAULTS) × (nodes ≤ MOST_NODES) × (processes ≤ MOST_PROCESSES) × (edges ≤ MOST_EDGES)) }
 {
@@ -65,14 +64,14 @@ fn are_counts_within(faults: u8, nodes: usize, processes: usize, edges: usize) -
     processes <= MOST_PROCESSES && edges <= MOST_EDGES
 }
 
-/// How many processes have a condition.
+/// Returns how many processes have a condition.
 pub fn condition_count(processes: &[HeadProcess]) -> usize
     ensures { result ≡ count_by (λ p. p.condition) processes.now }
 {
     processes.iter().filter(|process| process.condition).count()
 }
 
-/// Whether all of these durations are below 2^60.
+/// Whether all durations of a process are below 2^60.
 fn are_times_within(times: &[u64]) -> bool
     ensures { IsTrue result ↔ All (λ t. t < 2 ^ 60) times.now }
 {
@@ -93,7 +92,7 @@ fn is_process_within(process: &HeadProcess, faults: u8, nodes: usize) -> bool
     are_times_within(times)
 }
 
-/// Whether all processes are within the limits.
+/// Whether each process is on one of the nodes, and has a duration in range for each number of faults.
 fn are_processes_within(processes: &[HeadProcess], faults: u8, nodes: usize) -> bool
     ensures { IsTrue result ↔ All (IsHeadProcess faults nodes) processes.now }
 {
@@ -102,25 +101,25 @@ fn are_processes_within(processes: &[HeadProcess], faults: u8, nodes: usize) -> 
         .all(|process| is_process_within(process, faults, nodes))
 }
 
-/// Whether an edge is between two of the processes.
+/// Whether an edge leads from one of the processes to one of them.
 fn is_edge_within(edge: (u32, u32), processes: usize) -> bool
     ensures { IsTrue result ↔ IsHeadEdge processes edge }
 {
     (edge.0 as usize) < processes && (edge.1 as usize) < processes
 }
 
-/// Whether all edges are between two of the processes.
+/// Whether each edge leads from one of the processes to one of them.
 fn are_edges_within(edges: &[(u32, u32)], processes: usize) -> bool
     ensures { IsTrue result ↔ All (IsHeadEdge processes) edges.now }
 {
     edges.iter().all(|edge| is_edge_within(*edge, processes))
 }
 
-/// Whether a release and a deadline are in range.
+/// Whether a release, and a deadline if there is one, are at most the longest time.
 fn is_extra_within(extra: Extra) -> bool
     ensures { IsTrue result ↔ IsExtra extra }
 {
-    // `None` says that the process has no deadline of its own
+    // `None` is no deadline of the process's own, which is in range
     let due = match extra.deadline {
         Some(deadline) => deadline <= LONGEST,
         None => true,
@@ -128,14 +127,14 @@ fn is_extra_within(extra: Extra) -> bool
     extra.release <= LONGEST && due
 }
 
-/// Whether all of these are in range.
+/// Whether the release of each extra, and its deadline if it has one, are at most the longest time.
 fn are_extras_within(extras: &[Extra]) -> bool
     ensures { IsTrue result ↔ All IsExtra extras.now }
 {
     extras.iter().all(|extra| is_extra_within(*extra))
 }
 
-/// A copy of the extras, if there are any.
+/// Returns a copy of the extras, or `None` if there are none. The one error is `OutOfMemory`.
 fn copy_extras(extras: &Option<Vec<Extra>>) -> Result<Option<Vec<Extra>>, OutOfMemory>
     ensures { IfOk result (λ copy. option_map (λ v. v.items) copy ≡ option_map (λ v. v.items) extras.now) }
 {
@@ -146,7 +145,7 @@ fn copy_extras(extras: &Option<Vec<Extra>>) -> Result<Option<Vec<Extra>>, OutOfM
 }
 
 impl Head {
-    /// A head of version 1, and `None` exactly if one of the limits is broken.
+    /// Returns a head of version 1; `None` exactly if there are too many of a kind, or some number is out of range.
     pub fn new(
         faults: u8,
         nodes: Vec<Name>,
@@ -190,8 +189,8 @@ impl Head {
         })
     }
 
-    /// The head in version 2, with these extras. `None` exactly if there isn't one `Extra` for each process, or a number
-    /// in one is above 10^9.
+    /// Returns the head in version 2, with these extras; `None` exactly if there isn't one `Extra` for each process, or some time
+    /// in them is above 10^9.
     pub fn with_extras(self, extras: Vec<Extra>) -> Option<Head>
         ensures head { IfSome result (λ h. h ≡ record self { extras = Some extras.items }) }
         ensures within { IfSome result IsHead }
@@ -212,7 +211,7 @@ impl Head {
         })
     }
 
-    /// How many faults the tables tolerate.
+    /// Returns the most faults in a cycle that the tables tolerate.
     pub fn faults(&self) -> u8
         ensures faults { result ≡ self.now.faults }
         ensures within { IsHead self.now }
@@ -220,7 +219,7 @@ impl Head {
         self.faults
     }
 
-    /// The names of the nodes.
+    /// Returns the names of the nodes, by number.
     pub fn nodes(&self) -> &[Name]
         ensures nodes { result.now ≡ self.now.nodes }
         ensures within { IsHead self.now }
@@ -228,7 +227,7 @@ impl Head {
         self.nodes.as_slice()
     }
 
-    /// The processes.
+    /// Returns the processes, by number.
     pub fn processes(&self) -> &[HeadProcess]
         ensures processes { result.now ≡ self.now.processes }
         ensures within { IsHead self.now }
@@ -236,7 +235,7 @@ impl Head {
         self.processes.as_slice()
     }
 
-    /// The edges, each by the numbers of the processes that it leads from and to.
+    /// Returns for each edge the processes that it leads from and to.
     pub fn edges(&self) -> &[(u32, u32)]
         ensures edges { result.now ≡ self.now.edges }
         ensures within { IsHead self.now }
@@ -244,14 +243,14 @@ impl Head {
         self.edges.as_slice()
     }
 
-    /// The version of a pack with this head, 1 or 2.
+    /// Returns the version of a pack with this head, 1 or 2.
     pub fn version(&self) -> u8
         ensures { result ≡ version_of self.now }
     {
         if self.extras.is_some() { 2 } else { 1 }
     }
 
-    /// What version 2 adds for a process, and `None` exactly in version 1.
+    /// Returns what version 2 adds for a process; `None` exactly in version 1.
     pub fn extra(&self, process: u32) -> Option<&Extra>
         requires { process < length self.now.processes }
         ensures extra { option_map (λ e. e.now) result ≡ extra_at self.now process }
@@ -263,7 +262,7 @@ impl Head {
         }
     }
 
-    /// A copy of the head.
+    /// Returns an equal head. The one error is `OutOfMemory`.
     pub fn copy(&self) -> Result<Head, OutOfMemory>
         ensures { IfOk result (λ head. head ≡ self.now) }
     {
@@ -277,8 +276,8 @@ impl Head {
     }
 }
 
-/// The head of tables for a graph. It is of version 1 exactly if no process has a release above 0 or a deadline of
-/// its own.
+/// Returns the head of tables for a graph. It is of version 1 exactly if no process has a release above 0 or a deadline of its
+/// own. The one error is `OutOfMemory`.
 pub fn head_of(alloc: Global, problem: &Problem) -> Result<Head, OutOfMemory>
     ensures { IfOk result (λ head. head ≡ head_of problem.now) }
 {

@@ -1,4 +1,4 @@
-//! The parts of a pack's head.
+//! What a pack's head says of each process.
 ghost use Rattle.std.specs.Prelude.{◌≡◌, IfOk};
 
 use crate::Durations;
@@ -14,7 +14,7 @@ pub struct HeadProcess {
     pub node: u32,
     /// Whether it has a condition.
     pub condition: bool,
-    /// How long its executions take.
+    /// How long its executions last at most, by number of faults.
     pub times: Durations,
 }
 
@@ -28,7 +28,7 @@ pub struct Extra {
 }
 
 impl HeadProcess {
-    /// A copy of the process.
+    /// Returns an equal value. The one error is `OutOfMemory`.
     pub fn copy(&self) -> Result<HeadProcess, OutOfMemory>
         ensures { IfOk result (λ process. process ≡ self.now) }
     {
@@ -41,7 +41,7 @@ impl HeadProcess {
     }
 }
 
-/// A clone is an equal value.
+/// A clone is an equal value, as `copy` makes it.
 impl Clone for HeadProcess {
     ghost is_clone = { λ process copy. copy ≡ process };
 

@@ -1,4 +1,4 @@
-//! What tables are made for: the head of a pack, and that for a graph.
+//! The head of a pack, which says what its tables are made for, and the head that is made for a graph.
 #![tactic(auto)]
 
 mod durations;

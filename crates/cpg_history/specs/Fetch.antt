@@ -1,9 +1,9 @@
--- What a shelf gave, fetch by fetch.
+-- What a shelf gave, fetch by fetch. A history has the newest fetch first.
 use Rattle.std.specs.Prelude.{ℕ, ◌++◌, ◌||◌, Bool, true, false, List, [], ◌∷◌}
 
--- a fetch: the name, the bytes that reads have given since, whether a read gave none, and whether the fetch or a read
--- failed
+-- a fetch, and what the reads after it gave
 pub record Fetch : Type 0 where
+  -- the name that was fetched
   pub name : List ℕ
   -- all bytes that the reads have given so far
   pub given : List ℕ
@@ -12,27 +12,27 @@ pub record Fetch : Type 0 where
   -- whether the fetch or a read failed
   pub failed : Bool
 
--- whether a read gave nothing
+-- whether a piece has no bytes
 abbrev pub is_none : List ℕ → Bool
 is_none [] = true
 is_none (x ∷ xs) = false
 
--- the history, newest fetch first, after a name is fetched
+-- the history after a name is fetched
 abbrev pub fetched : List ℕ → List Fetch → List Fetch
 fetched name past = record { name = name; given = []; ended = false; failed = false } ∷ past
 
--- The history after a read, which gives no bytes at the end of the file. Before the first fetch nothing is noted.
+-- the history after a read gave a piece, which is empty at the end of the file; before the first fetch nothing is noted
 abbrev pub gave : List ℕ → List Fetch → List Fetch
 gave piece [] = []
 gave piece (f ∷ past) =
     record { name = f.name; given = f.given ++ piece; ended = is_none piece || f.ended; failed = f.failed } ∷ past
 
--- the history after a call failed
+-- the history after a call failed, whose fetch is the newest; before the first fetch nothing is noted
 abbrev pub failed : List Fetch → List Fetch
 failed [] = []
 failed (f ∷ past) = record f { failed = true } ∷ past
 
--- the bytes that the newest fetch gave
+-- the bytes that the newest fetch gave, or none before the first fetch
 abbrev pub newest_given : List Fetch → List ℕ
 newest_given [] = []
 newest_given (f ∷ past) = f.given

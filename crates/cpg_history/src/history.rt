@@ -1,4 +1,4 @@
-//! What a shelf gave.
+//! What a shelf gave, as ghost data.
 ghost use Rattle.std.specs.Prelude.{◌≡◌, [], List};
 ghost use Rattle.cpg_history.specs.Event.{after};
 ghost use Rattle.cpg_history.specs.Fetch.{Fetch};
@@ -19,7 +19,9 @@ pub enum ShelfEvent<'a> {
 /// All fetches of a shelf, newest first, with the bytes that were given of each.
 #[derive(Drop)]
 pub struct History {
+    // a field without data; it is private, so that only this crate makes a history
     made: (),
+    // the fetches, newest first; only proofs see them
     ghost fetches: { List Fetch },
 }
 
@@ -36,14 +38,14 @@ impl Model for History {
 }
 
 impl History {
-    /// Nothing was fetched.
+    /// Returns the history in which nothing was fetched.
     pub fn new() -> History
         ensures { result ≡ [] }
     {
         History { made: () }
     }
 
-    /// The history after a call.
+    /// Returns the history after a call that did what the event says.
     #[inline(always)]
     pub fn after(&self, _event: &ShelfEvent<'_>) -> History
         ensures { result ≡ after _event.now self.now }

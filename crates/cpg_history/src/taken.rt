@@ -1,4 +1,4 @@
-//! What a sink took.
+//! What a sink took, as ghost data.
 ghost use Rattle.std.specs.Prelude.{◌≡◌, ◌++◌, [], List, ℕ};
 
 use std::marker::Model;
@@ -6,7 +6,9 @@ use std::marker::Model;
 /// All bytes that a sink took, in order.
 #[derive(Drop)]
 pub struct Taken {
+    // a field without data; it is private, so that only this crate makes the struct
     made: (),
+    // the bytes, the first taken first; only proofs see them
     ghost bytes: { List ℕ },
 }
 
@@ -22,14 +24,14 @@ impl Model for Taken {
 }
 
 impl Taken {
-    /// Nothing was taken.
+    /// Returns no bytes, as before anything was taken.
     pub fn new() -> Taken
         ensures { result ≡ [] }
     {
         Taken { made: () }
     }
 
-    /// The bytes after a piece that was taken.
+    /// Returns these bytes followed by those of a piece that was taken.
     #[inline(always)]
     pub fn then(&self, _piece: &[u8]) -> Taken
         ensures { result ≡ self.now ++ _piece.now }

@@ -11,7 +11,7 @@ use Rattle.cpg_hyper.specs.Refusals.{AddsShort, HasShortNames, FailsFirst, Holds
 use Rattle.cpg_hyper.proofs.Counted.{empty_pieces}
 use Rattle.cpg_hyper.proofs.Taken.{more}
 
--- the elements made so far, with one more
+-- if the list has what was made of the first i elements, it has with one more what is made of the first i + 1
 pub made_more : {X Y : Type 0} (xs : List X) (i : ℕ) (x : X) → i < length xs → x ≡ get_or xs i x →
     (f : X → Y) (old made new : List Y) → made ≡ old ++ map f (take i xs) →
     new ≡ made ++ f x ∷ [] →
@@ -45,7 +45,7 @@ nil_of : {X : Type 0} (xs : List X) → length xs ≡ 0 → xs ≡ []
 nil_of [] e = refl
 nil_of (x ∷ xs) e = absurd (omega (arith, e))
 
--- nothing is added of a part without processes
+-- a part without processes adds nothing, and none of its names is too long
 pub nothing_added : (out : List Process) (whole p : ℕ) (part : Part) → size_of part ≡ 0 →
     AddsShort true out out (processes_of whole p part) (HasShortNames whole p part)
 nothing_added out whole p part e =

@@ -38,7 +38,7 @@ use Rattle.cpg_hyper.proofs.Fuel.{enough_depth}
 
 -- ---- activations
 
--- a copied activation is active if the activation is
+-- a copied activation is active exactly if the activation is
 active_copy : (n : ℕ) (a : Activation) → is_active (copied_activation n a) ≡ is_active a
 active_copy n Inactive = refl
 active_copy n Plain = refl
@@ -57,6 +57,7 @@ plain_copy n false = refl
 -- if the copied inputs are live as the inputs are, the activation is the copied one
 copy_by : (n : ℕ) (join : Bool) (es : List ℕ) (f h : ℕ → Bool) → ((e : ℕ) → Contains es e → f (n + e) ≡ h e) →
     activation_by join (map (λ e. n + e) es) f ≡ copied_activation n (activation_by join es h)
+-- without inputs both are plain; a join takes the first live one, and any other process asks whether all are live
 copy_by n join [] f h s = refl
 copy_by n true (e ∷ es) f h s =
     ap by_first (filter-map f (λ e. n + e) (e ∷ es) ∙ ap (map (λ e. n + e)) (same_filter (λ e. f (n + e)) h (e ∷ es) s))
@@ -81,7 +82,7 @@ same_taken (Some wanted) v u h = ap (takes (Some wanted)) (h refl)
 
 -- ---- the instance
 
--- given an instance of a part
+-- given: an instance of a part
 -- `p`, `i`, `h`: the i-th instance of part p; `values`: a value for each condition of the whole graph
 module _ (whole : ℕ) (parts : List Part) (p i : ℕ) (values : List Bool) (within : AreWithinLimits parts)
     (h : IsInstance whole parts p i) where
@@ -155,6 +156,7 @@ module _ (whole : ℕ) (parts : List Part) (p i : ℕ) (values : List Bool) (wit
       && takes (edge_at g (first_edge + e)).when (value_of g values (source g (first_edge + e))))
       ≡ (is_active (activation_within depth part own (source part e))
       && takes (edge_at part e).when (value_of part own (source part e)))
+  -- its source is the copy of the part's source, and it is taken as the part's edge is
   live_by depth e l is = ap₂ ◌&&◌
       (ap (λ (d : Edge). is_active (activation_within depth g values d.from)) (copies e l) ∙ ap is_active is
       ∙ active_copy first_edge (activation_within depth part own (source part e)))
@@ -163,6 +165,7 @@ module _ (whole : ℕ) (parts : List Part) (p i : ℕ) (values : List Bool) (wit
   -- looking back along a number of edges, a process of an instance is activated as its part's process
   within_alike : (depth q : ℕ) → q < process_count part →
       activation_within depth g values (first + q) ≡ copied_activation first_edge (activation_within depth part own q)
+  -- by induction on `depth`
   within_alike zero q l = refl
   within_alike (suc depth) q l =
       let is_live : ℕ → Bool = λ e. is_active (activation_within depth g values (source g e))

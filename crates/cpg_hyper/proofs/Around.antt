@@ -31,6 +31,7 @@ pub record LiesBetween (low high : ℕ) (e : Edge) : Type 0 where
 of_instance : (first a b i size : ℕ) (e d : Edge) → a ≤ i → i < b → IsEdgeWithin size d →
     copied_edge (first + i * size) d ≡ e →
     LiesBetween (first + a * size) (first + b * size) e
+-- the ends of the copy are those of the edge moved by the instance's first process, which is a * size or more behind `first`
 of_instance first a b i size e d low high h is =
     let least : a * size ≤ i * size = product_le a i size low in
     let most : (i + 1) * size ≤ b * size = product_le (i + 1) b size (omega (arith, high)) in
@@ -60,6 +61,7 @@ lies_above : (whole first : ℕ) (parts : List Part) →
     Contains (edges_from whole first parts) e →
     (first ≤ e.from) ×
     (first ≤ e.to)
+-- by induction on the parts
 lies_above whole first [] h e c = absurd (Contains-nil e c)
 lies_above whole first (part ∷ parts) h e c = ⊎_elim
     (λ (d : Contains (edges_of whole first part) e).
@@ -71,7 +73,8 @@ lies_above whole first (part ∷ parts) h e c = ⊎_elim
     (omega (arith, l.0), omega (arith, l.1)))
     (Contains-append_cases (edges_of whole first part) (edges_from whole (after_part whole first part) parts) e c)
 
--- n edges before those of processes from a first one on, and others after them
+-- the edges `mine` stand in one piece from edge n on; those before them are on processes below `first`, and those after them on
+-- processes from `first + size` on
 pub record AreAround (n first size : ℕ) (all mine : List Edge) : Type 0 where
   pub front : List Edge
   pub back : List Edge
@@ -133,11 +136,12 @@ around_in whole first i part rest h l above =
           (Contains-append_cases (flat_map f (range_with_len (i + 1) k)) rest e c);
     }
 
--- what stands together among some edges does so with more edges before them
+-- edges that stand together in a list stand together in a list with more edges before them
 around_later : (n own first size : ℕ) (mine new rest : List Edge) → length mine ≡ own →
     ((e : Edge) → Contains mine e → (e.from < first) × (e.to < first)) →
     AreAround n first size rest new →
     AreAround (own + n) first size (mine ++ rest) new
+-- the new edges are added to those in front, since they are on processes below the first too
 around_later n own first size mine new rest long below a = record {
   front = mine ++ a.front;
   back = a.back;
@@ -147,7 +151,7 @@ around_later n own first size mine new rest long below a = record {
   later = a.later;
 }
 
--- 0 in front changes no number
+-- a number is the sum of 0 and itself
 same_edges : (a : ℕ) → a ≡ 0 + a
 same_edges a = omega arith
 

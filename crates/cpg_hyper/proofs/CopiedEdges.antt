@@ -15,7 +15,7 @@ use Rattle.cpg_hyper.proofs.Counted.{constant_pieces, edges_size}
 use Rattle.cpg_hyper.proofs.Copies.{within_pieces, take_count}
 use Rattle.cpg_hyper.proofs.Whole.{nothing_before}
 
--- what stands where there is no edge
+-- what an index past the end would show
 abbrev pub no_edge : Edge
 no_edge = record { from = 0; to = 0; size = 0; when = None; frozen = false }
 
@@ -23,6 +23,7 @@ no_edge = record { from = 0; to = 0; size = 0; when = None; frozen = false }
 in_part : (whole first i e : ℕ) (part : Part) → i < whole / part.period → e < length part.problem.edges →
     get_or (edges_of whole first part) (i * length part.problem.edges + e) no_edge
     ≡ copied_edge (first_in first part i) (get_or part.problem.edges e no_edge)
+-- the edges of the instances before i are i pieces of one length, so the edge is in piece i at place e
 in_part whole first i e part l h =
     let f = edges_in first part in
     let xs = instances whole part in
@@ -38,11 +39,11 @@ in_part whole first i e part l h =
     ∙ ap (λ j. get_or (f j) e no_edge) here
     ∙ get_or-map (copied_edge (first_in first part i)) part.problem.edges e no_edge no_edge h
 
--- 0 is left out of a sum
+-- 0 may be left out of a sum
 drop_zero : (a b : ℕ) → 0 + a + b ≡ a + b
 drop_zero a b = omega arith
 
--- no process comes before the first part
+-- a sum stays the same if 0 is put into it: no process comes before the first part
 pub same_first : (first a : ℕ) → first + a ≡ first + (0 + a)
 same_first first a = omega arith
 
@@ -59,6 +60,7 @@ pub edge_copy_at : (whole first : ℕ) (parts : List Part) (p i e : ℕ) → IsI
     e < length (part_at parts p).problem.edges
     → get_or (edges_from whole first parts) (first_edge_of whole parts p i + e) no_edge
     ≡ copied_edge (first + first_of whole parts p i) (get_or (part_at parts p).problem.edges e no_edge)
+-- by induction on the parts
 edge_copy_at whole first [] p i e h l = absurd (omega (arith, h.part))
 edge_copy_at whole first (part ∷ parts) zero i e h l =
     -- an edge of the first part's instances

@@ -53,11 +53,11 @@ within_range test n m b front back =
     (filter_none test (range_with_len (n + m) b) (λ e c. past e (from_range (n + m) b e c)))
     ∙ append-nil (map (λ e. n + e) (filter (λ e. test (n + e)) (numbers_below m))))
   where
-    -- 0 is left out of a sum
+    -- a 0 in front of a sum adds nothing
     nothing_before : (k : ℕ) → 0 + k ≡ k
     nothing_before k = omega arith
 
-    -- and so is one at its end
+    -- a 0 at the end of a sum adds nothing
     nothing_after : (k : ℕ) → k ≡ k + 0
     nothing_after k = omega arith
 
@@ -66,7 +66,7 @@ within_range test n m b front back =
     past e (l, h) = let k : ℕ = e - (n + m) in
         subst (λ x. test x ≡ false) (let is : n + m + k ≡ e = omega (arith, l) in is) (back k (omega (arith, l, h)))
 
--- given a graph in which the edges of a part are copied, with all other edges around them
+-- given: a graph in which the edges of a part are copied, with all other edges around them
 module _ (g part : Graph) (n first size : ℕ)
     (around : AreAround n first size g.edges (map (copied_edge first) part.edges))
     (copies : (e : ℕ) → e < edge_count part → edge_at g (n + e) ≡ copied_edge first (edge_at part e)) where
@@ -108,6 +108,8 @@ module _ (g part : Graph) (n first size : ℕ)
 
   -- the inputs of a copy are the copies of its process's inputs
   pub copied_inputs : (q : ℕ) → q < size → inputs g (first + q) ≡ map (λ e. n + e) (inputs part q)
+  -- of all edges, those before and after the copies lead to no process of the instance; a copy leads to q's copy exactly if
+  -- the edge leads to q
   copied_inputs q l =
       ap (λ m. filter (λ e. target g e == (first + q)) (numbers_below m)) edge_total
       ∙ within_range (λ e. target g e == (first + q)) n (edge_count part) (length around.back)
@@ -122,6 +124,7 @@ module _ (g part : Graph) (n first size : ℕ)
 
   -- the outputs of a copy are the copies of its process's outputs
   pub copied_outputs : (q : ℕ) → q < size → outputs g (first + q) ≡ map (λ e. n + e) (outputs part q)
+  -- as for inputs, with the sources of edges
   copied_outputs q l =
       ap (λ m. filter (λ e. source g e == (first + q)) (numbers_below m)) edge_total
       ∙ within_range (λ e. source g e == (first + q)) n (edge_count part) (length around.back)
@@ -134,7 +137,7 @@ module _ (g part : Graph) (n first size : ℕ)
       (λ e c. ap (λ (d : Edge). d.from == (first + q)) (copies e (numbers-Contains (edge_count part) e c))
       ∙ moved_test first (source part e) q))
 
-  -- a copy has a condition if its process has one
+  -- a copy has a condition exactly if its process has one
   pub copied_condition : (q : ℕ) → q < size → is_disjunction g (first + q) ≡ is_disjunction part q
   copied_condition q l =
       ap (list_any (λ e. is_some (edge_at g e).when)) (copied_outputs q l)

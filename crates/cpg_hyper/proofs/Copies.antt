@@ -23,7 +23,7 @@ within_pieces i n size q l h =
     let most : (i + 1) * size ≤ n * size = product_le (i + 1) n size (omega (arith, l)) in
     omega (arith, most, h)
 
--- what stands where there is no process
+-- what an index past the end would show
 abbrev pub none : Process
 none = record {
   name = [];
@@ -82,7 +82,7 @@ copy_at whole first (part ∷ parts) zero i q h l =
     ∙ in_part whole first i q part h.instance l
     ∙ ap (λ n. copied_process n i part (get_or part.problem.processes q none)) (same_sum first)
   where
-    -- and so it is before two numbers
+    -- a 0 in front of two numbers adds nothing
     drop_zero : (a b : ℕ) → 0 + a + b ≡ a + b
     drop_zero a b = omega arith
 
@@ -111,6 +111,7 @@ copy_at whole first (part ∷ parts) (suc p) i q h l =
 -- an instance lies within the whole
 pub within_whole : (whole first : ℕ) (parts : List Part) (p i : ℕ) → IsInstance whole parts p i →
     first_of whole parts p i + size_of (part_at parts p) ≤ length (processes_from whole first parts)
+-- by induction on the parts
 within_whole whole first [] p i h = absurd (omega (arith, h.part))
 -- an instance of the first part: its number is below the number of instances
 within_whole whole first (part ∷ parts) zero i h =

@@ -43,6 +43,7 @@ edges_size whole first part = constant_pieces (edges_in first part) (length part
 -- the number of edges does not depend on the number of their first process
 pub same_length : (whole a b : ℕ) (parts : List Part) →
     length (edges_from whole a parts) ≡ length (edges_from whole b parts)
+-- by induction on the parts
 same_length whole a b [] = refl
 same_length whole a b (part ∷ parts) = omega (
   arith,
@@ -57,13 +58,14 @@ same_length whole a b (part ∷ parts) = omega (
 product_le : (a b c d : ℕ) → a ≤ b → c ≤ d → a * c ≤ b * d
 product_le a b c d h k = grind (arith, common_steps)
 
--- all instances of a part have a bounded number of processes or edges
+-- if a part has at most `most` processes or edges, all its instances have at most 10^9 times as many, since there are at most
+-- 10^9 instances
 pub part_le : (whole period count most : ℕ) → whole ≤ 1000000000 → count ≤ most →
     whole / period * count ≤ 1000000000 * most
 part_le whole period count most h k =
     product_le (whole / period) 1000000000 count most (omega (arith, div-le_self whole period, h)) k
 
--- given the part at a place
+-- given: the part at a place of the list
 -- `i`, `part`, `l`, `is`: the part at place i; `whole`: the hyperperiod
 module _ (parts : List Part) (i : ℕ) (part : Part) (l : i < length parts) (is : part ≡ get_or parts i part)
     (whole : ℕ) where
@@ -122,7 +124,7 @@ nothing_added out whole first part h e =
     sym (ap (λ xs. out ++ xs) (empty_pieces (edges_in first part) (λ i. rw none refl) (instances whole part))
     ∙ append-nil out)
 
--- given the count of the numbers below n that pass
+-- given: the count of the numbers below n that pass a test
 module _ (p : ℕ → Bool) (n total new : ℕ) (h : total ≡ length (filter p (numbers_below n))) where
   -- a number that passes is counted
   pub counted : p n ≡ true → new ≡ total + 1 → new ≡ length (filter p (numbers_below (n + 1)))

@@ -11,12 +11,13 @@ use Rattle.cpg_base.proofs.Lists.{Contains-nil, Contains-cases, Contains-numbers
 use Rattle.cpg_base.proofs.Inputs.{inputs_parts, same_activation_by}
 use Rattle.cpg_base.proofs.Sums.{length-filter-le}
 
--- a test that passes more, and one element that the other doesn't, keeps more
+-- if q passes wherever p does, and also at some element at which p fails, a filter by q keeps more
 filter_fewer : (p q : ℕ → Bool) (xs : List ℕ) (x : ℕ) → ((y : ℕ) → p y ≡ true → q y ≡ true) → Contains xs x →
     p x ≡ false → q x ≡ true →
     length (filter p xs) < length (filter q xs)
 filter_fewer p q [] x more c off on = absurd (Contains-nil x c)
 filter_fewer p q (y ∷ ys) x more c off on = ⊎_elim
+    -- the element that only the second filter keeps is the first one, or one of the rest
     (λ (is : y ≡ x). here (p y) (q y) (ap p is ∙ off) (ap q is ∙ on) (length-filter-le p q ys more))
     (λ (d : Contains ys x). there (p y) (q y) (more y) (filter_fewer p q ys x more d off on))
     (Contains-cases y ys x c)
@@ -28,7 +29,7 @@ filter_fewer p q (y ∷ ys) x more c off on = ⊎_elim
     here true b e f l = cc
     here false false e f l = cc
 
-    -- with one more element fewer still pass p than q, if p implies q for it
+    -- with one more element still fewer pass p than q, if each that passes p passes q
     there : (a b : Bool) → (a ≡ true → b ≡ true) → length (filter p ys) < length (filter q ys) →
         length (cond a (y ∷ filter p ys) (filter p ys)) < length (cond b (y ∷ filter q ys) (filter q ys))
     there true true h l = omega (arith, l)
@@ -36,13 +37,13 @@ filter_fewer p q (y ∷ ys) x more c off on = ⊎_elim
     there false false h l = l
     there true false h l = absurd (true≢false (sym (h refl)))
 
--- a test that passes says which number is less
+-- if the test for it passes, the first number is less
 lower : (a b : ℕ) → nat_lt a b ≡ true → a < b
 lower a b t = ⊎_elim (λ (l : a < b). l) (λ (l : b ≤ a). absurd (true≢false (sym t ∙ le-ltb a b l))) (cases_lt a b)
 
--- given a height of each of some numbers
+-- given: a height for each number below `size`
 module _ (size : ℕ) (height : ℕ → ℕ) where
-  -- how many numbers are lower
+  -- the rank of a number: how many numbers have a lesser height
   abbrev pub rank : ℕ → ℕ
   rank q = length (filter (λ j. nat_lt (height j) (height q)) (numbers_below size))
 
@@ -65,7 +66,7 @@ module _ (size : ℕ) (height : ℕ → ℕ) where
       (Contains-numbers size q l) (le-ltb (height q) (height q) (omega arith)) refl in
       omega (arith, fewer, all_kept (numbers_below size), length-range_with_len 0 size)
 
--- given a height of each process that grows along each edge
+-- given: a height for each process, which grows along each edge
 -- `sources`: each edge has a process of the graph as its source; `up`: its target is higher than its source
 module _ (g : Graph) (values : List Bool) (height : ℕ → ℕ)
     (sources : (e : ℕ) → e < edge_count g → source g e < process_count g)
@@ -73,6 +74,7 @@ module _ (g : Graph) (values : List Bool) (height : ℕ → ℕ)
   -- looking back along one edge more than the rank of a process changes nothing
   more_depth : (depth q : ℕ) → rank (process_count g) height q < depth →
       activation_within depth g values q ≡ activation_within (suc depth) g values q
+  -- by induction on `depth`
   more_depth zero q h = absurd (omega (arith, h))
   more_depth (suc d) q h = same_activation_by (process_at g q).join (inputs g q) _ _
       (λ e c.
@@ -86,6 +88,7 @@ module _ (g : Graph) (values : List Bool) (height : ℕ → ℕ)
   -- looking back further than as many edges as there are processes changes no activation
   pub enough_depth : (more q : ℕ) → q < process_count g →
       activation_within (more + process_count g) g values q ≡ activation_within (process_count g) g values q
+  -- by induction on `more`
   enough_depth zero q l =
       ap (λ n. activation_within n g values q) (let is : 0 + process_count g ≡ process_count g = omega arith in is)
   enough_depth (suc more) q l =

@@ -32,6 +32,7 @@ sum_part xs n m = omega (arith, sum_by-take-le (λ x. x) (drop n xs) m, sum_by-t
 
 -- what a scenario says of an instance is a scenario of its part
 pub have_scenarios : InstancesHaveScenarios
+-- the values are as many as the part has conditions, the counts as many as it has processes, and these are some of all faults
 have_scenarios whole parts p i s over h is =
     let part = part_at parts p in
     let first = first_of whole parts p i in
@@ -76,7 +77,7 @@ both_false false b h e = cc
 at_least : (a b : ℕ) → nat_lt a b ≡ false → b ≤ a
 at_least a b h = ⊎_elim (λ (l : a < b). absurd (true≢false (sym (lt-ltb a b l) ∙ h))) (λ (m : b ≤ a). m) (cases_lt a b)
 
--- given a column of a process that matches in valid tables
+-- given: a column of a process that matches in valid tables
 -- `s`, `is`: a scenario; `valid`: the tables are valid; `x`, `l`: a process; `c`, `there`, `match`: a column of it
 -- that matches
 module _ (g : Graph) (tables : List NodeTable) (s : Scenario) (x : ℕ) (is : IsScenario g s) (valid : IsValid g tables)
@@ -88,6 +89,7 @@ module _ (g : Graph) (tables : List NodeTable) (s : Scenario) (x : ℕ) (is : Is
 
   -- by V5 the column isn't before the release
   released : (process_at g x).release ≤ c.time
+  -- rule V5 asked of this one column: it isn't broken, so its first part, a start before the release, is false
   released =
       let here : take 1 (drop there.0 (columns_of tables x)) ≡ c ∷ [] =
       rw (drop_more (columns_of tables x) there.0 c there.1, there.2) refl in
@@ -100,6 +102,7 @@ module _ (g : Graph) (tables : List NodeTable) (s : Scenario) (x : ℕ) (is : Is
 
   -- by V9 the execution ends by its due
   ended : c.time + duration g x (fault_of s x) ≤ due g x
+  -- rule V9 asked of this one column: it isn't broken, so the end isn't after the due
   ended =
       let here : take 1 (drop there.0 (columns_of tables x)) ≡ c ∷ [] =
       rw (drop_more (columns_of tables x) there.0 c there.1, there.2) refl in

@@ -18,11 +18,11 @@ measure_zero a b some e = record {
   most = λ d m p q. p;
 }
 
--- m times the rest of a division, as m times the number less the divisor's share
+-- m times the rest of a division is m times the number less q times m times the divisor
 by_parts : (m b q r a : ℕ) → b * q + r ≡ a → m * r ≡ m * a - q * (m * b)
 by_parts m b q r a e = rw (← e) (omega arith)
 
--- the same for the rest by its own sign
+-- m times `a % b` is m times a less `a / b` times m times b
 rest_of : (m a b : ℕ) → m * (a % b) ≡ m * a - a / b * (m * b)
 rest_of m a b = by_parts m b (a / b) (a % b) a (div-add-mod a b)
 
@@ -36,20 +36,22 @@ measure_step a b g h = record {
       h.most d m q (subst (λ n. d ∣ n) (sym (rest_of m a b)) (dvd-sub d p (dvd-mul_left_of_dvd d q (a / b))));
 }
 
--- factors in another order
+-- of three factors the first two may change places
 swap_inner : (x k g : ℕ) → x * (k * g) ≡ k * (x * g)
 swap_inner x k g = omega arith
 
--- factors in another order
+-- of three factors the second may come first
 swap_outer : (k g b : ℕ) → k * g * b ≡ g * (k * b)
 swap_outer k g b = omega arith
 
--- factors in another order
+-- two factors may change places
 swap : (m g : ℕ) → m * g ≡ g * m
 swap m g = omega arith
 
 -- the product of two numbers over their greatest common divisor is their least common multiple
 pub least_of : (a b g : ℕ) → IsMeasure a b g → IsLeastCommon a b (a / g * b)
+-- a / g * b is a multiple of b, and b / g times a. If m is a multiple of both, a * b divides m * b and m * a, so also m * g, from
+-- which g is taken out.
 least_of a b g h =
     let k = a / g in
     let own : k * g ≡ a = div-mul_cancel g h.first in
@@ -74,7 +76,7 @@ both_some (suc k) g b h l = omega (arith, l)
 pub least_some : (a b g : ℕ) → IsMeasure a b g → 1 ≤ a → 1 ≤ b → 1 ≤ a / g * b
 least_some a b g h l m = both_some (a / g) g b (subst (λ n. 1 ≤ n) (sym (div-mul_cancel g h.first)) l) m
 
--- the least common multiple of the parts so far
+-- `whole` is the least common multiple of the periods of the parts so far
 pub record IsSoFar (parts : List Part) (whole : ℕ) : Type 0 where
   pub common : IsCommon parts whole
   pub least : (m : ℕ) → IsCommon parts m → whole ∣ m
@@ -88,6 +90,7 @@ pub more_so_far : (parts : List Part) (i : ℕ) (part : Part) (whole new : ℕ) 
     part ≡ get_or parts i part → IsSoFar (take i parts) whole →
     IsLeastCommon whole part.period new →
     IsSoFar (take (i + 1) parts) new
+-- what divides the former multiple divides the new one; a multiple of all periods is one of the former and of the next
 more_so_far parts i part whole new l is so_far h = record {
   common =
       all_more parts i part l is (λ d. d.period ∣ new) (λ k d m. dvd_trans _ (so_far.common k d m) h.first) h.second;

@@ -43,6 +43,7 @@ count_is g es n total e k h =
 pub from_processes : (whole : ℕ) (parts : List Part) → AreOver parts whole → HasFewEnough (unrolled whole parts) →
     (f : HyperFault) → ShowsProcesses whole parts (Err f) →
     ShowsUnrolled parts (Err f)
+-- making the processes fails only for a long name or for memory
 from_processes whole parts over few (Range p) h = absurd h
 from_processes whole parts over few (Differ p) h = absurd h
 from_processes whole parts over few (Over p) h = absurd h

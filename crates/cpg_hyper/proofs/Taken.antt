@@ -24,7 +24,7 @@ All_parts P xs x a =
       subst P (at_last xs x x) (a (length xs) x (omega (arith, long))),
     )
 
--- given the element at a place of a list
+-- given: the element at a place of a list
 module _ {X : Type 0} (xs : List X) (i : ℕ) (x : X) (h : i < length xs) (is : x ≡ get_or xs i x) where
   -- the elements up to this one are those before it and this one
   pub more : take (i + 1) xs ≡ take i xs ++ x ∷ []

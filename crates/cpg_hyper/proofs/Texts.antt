@@ -14,11 +14,11 @@ use Rattle.cpg_hyper.specs.Unrolled.{name_in}
 abbrev IsDigit : ℕ → Type 0
 IsDigit b = (48 ≤ b) × (b ≤ 57)
 
--- a fact of all elements of no list
+-- every fact holds of all elements of the empty list
 all_nil : {X : Type 0} (P : X → Type 0) → All P []
 all_nil P k d l = absurd (omega arith)
 
--- and of the one element of another
+-- a fact of one element holds of all elements of the list of this one
 all_one : {X : Type 0} (P : X → Type 0) (x : X) → P x → All P (x ∷ [])
 all_one P x h zero d l = h
 all_one P x h (suc k) d l = absurd (omega (arith, l))
@@ -39,7 +39,7 @@ digit_in_name b h = search (le-leb 48 b h.0, le-leb b 57 h.1, rules)
 all_weaker : {X : Type 0} (P R : X → Type 0) (xs : List X) → ((x : X) → P x → R x) → All P xs → All R xs
 all_weaker P R xs f h k d l = f (get_or xs k d) (h k d l)
 
--- so may a point
+-- a point may stand in a name
 point : All (λ b. IsTrue (is_name_byte b)) (codes ".")
 point = all_one (λ b. IsTrue (is_name_byte b)) 46 refl
 
@@ -52,6 +52,7 @@ made_is p i name = append_assoc ((decimal p ++ codes ".") ++ decimal i) (codes "
 -- a made name has only bytes that names may have
 pub made_plain : (p i : ℕ) (name : List ℕ) → p < 2 ^ 64 → i < 2 ^ 64 → IsName name →
     All (λ b. IsTrue (is_name_byte b)) (name_in p i name)
+-- a made name is put together from the end: the name, a point, the instance's digits, a point and the part's digits
 made_plain p i name hp hi h =
     let plain : ℕ → Type 0 = λ b. IsTrue (is_name_byte b) in
     let last = All-append plain (codes ".") name point h.plain in
@@ -69,6 +70,7 @@ made_some p i name =
 -- a made name that isn't a name is too long
 pub long_name : (p i : ℕ) (name : List ℕ) → p < 2 ^ 64 → i < 2 ^ 64 → IsName name → (IsName (name_in p i name) → ⊥) →
     32 < length (name_in p i name)
+-- by whether 32 is below `length (name_in p i name)`
 long_name p i name hp hi h not_name = ⊎_elim
     (λ (long : 32 < length (name_in p i name)). long)
     (λ (short : length (name_in p i name) ≤ 32).
@@ -95,6 +97,7 @@ tail (c ∷ cs) = cs
 no_point : (xs ys us vs : List ℕ) → All IsDigit xs → All IsDigit ys → xs ++ 46 ∷ us ≡ ys ++ 46 ∷ vs →
     (xs ≡ ys) × (us ≡ vs)
 unfolding tail
+-- by induction on the numbers
 no_point [] [] us vs h k e = (refl, ap tail e)
 no_point [] (y ∷ ys) us vs h k e = absurd (omega (arith, (k 0 y (omega arith)).0, ap (λ cs. get_or cs 0 0) e))
 no_point (x ∷ xs) [] us vs h k e =

@@ -22,7 +22,7 @@ use Rattle.cpg_hyper.proofs.Counted.{processes_size}
 use Rattle.cpg_hyper.proofs.Copies.{product_le}
 use Rattle.cpg_hyper.proofs.Texts.{same_copy}
 
--- nothing is added
+-- a number is the sum of itself and 0
 same_sum : (p : ℕ) → p ≡ p + 0
 same_sum p = omega arith
 
@@ -34,7 +34,7 @@ next_sum p n = omega arith
 moved : (first own rest all : ℕ) → all ≡ own + rest → first + own + rest ≡ first + all
 moved first own rest all e = omega (arith, e)
 
--- nothing comes before the first
+-- 0 may be left out of a sum
 pub nothing_before : (n : ℕ) → 0 + n ≡ n
 nothing_before n = omega arith
 
@@ -68,6 +68,7 @@ pub of_parts : (whole p : ℕ) (parts : List Part) (x : Process) → Contains (p
     IsCopyAmong whole p parts x
 of_parts whole p [] x c = absurd (Contains-nil x c)
 of_parts whole p (part ∷ parts) x c = ⊎_elim
+    -- a copy of the first part's, or of one of the others'
     (λ (d : Contains (processes_of whole p part) x). first_of (of_part whole p part x d))
     (λ (d : Contains (processes_from whole (p + 1) parts) x). later_of (of_parts whole (p + 1) parts x d))
     (Contains-append_cases (processes_of whole p part) (processes_from whole (p + 1) parts) x c)
@@ -111,6 +112,7 @@ lesser_due_le d (Some own) = omega arith
 edge_of_instance : (first i q size : ℕ) (e d : Edge) → i < q → IsEdgeWithin size d →
     copied_edge (first + i * size) d ≡ e → (count : ℕ) → first + q * size ≤ count →
     IsEdgeWithin count e
+-- the ends of the copy are those of the edge moved by the instance's first process; the instance ends within the count
 edge_of_instance first i q size e d l h is count few =
     let most : (i + 1) * size ≤ q * size = product_le (i + 1) q size (omega (arith, l)) in
     let from : e.from ≡ first + i * size + d.from = ap (λ (x : Edge). x.from) (sym is) in
@@ -132,6 +134,7 @@ edges_within : (whole first p : ℕ) (parts : List Part) →
     ((part : Part) → Contains parts part → IsWithinLimits part.problem) → (e : Edge) →
     Contains (edges_from whole first parts) e
     → IsEdgeWithin (first + length (processes_from whole p parts)) e
+-- by induction on the parts
 edges_within whole first p [] h e c = absurd (Contains-nil e c)
 edges_within whole first p (part ∷ parts) h e c =
     let rest = processes_from whole (p + 1) parts in
@@ -166,6 +169,8 @@ small whole period i short l = omega (arith, short, l, div-le_self whole period)
 -- the names of the processes of one part's instances differ
 own_names : (whole p : ℕ) (part : Part) → whole ≤ 1000000000 → p < 10 → IsWithinLimits part.problem →
     AllPairs Differ (processes_of whole p part)
+-- two names of one instance differ as they do in the part (`h.process_names`); two of different instances differ by the
+-- instances' numbers
 own_names whole p part short few h =
     AllPairs-flat_map_in (λ (i : ℕ) (j : ℕ). i ≢ j) Differ (processes_in p part) (instances whole part)
     (λ i c. AllPairs-map Differ Differ (copied_process p i part) part.problem.processes
@@ -186,6 +191,8 @@ own_names whole p part short few h =
 names_differ : (whole p : ℕ) (parts : List Part) → whole ≤ 1000000000 → p + length parts ≤ 10 →
     ((part : Part) → Contains parts part → IsWithinLimits part.problem) →
     AllPairs Differ (processes_from whole p parts)
+-- By induction on the parts: the names of the first part differ among themselves, and so do those of the others. Those of the
+-- first differ from those of the others by the number of the part.
 names_differ whole p [] short few h = AllPairs-nil Differ
 names_differ whole p (part ∷ parts) short few h =
     AllPairs-append Differ (processes_of whole p part) (processes_from whole (p + 1) parts)
@@ -218,7 +225,7 @@ pub first_there : (parts : List Part) (d : Part) → 1 ≤ length parts → (get
 first_there [] d h = absurd (omega (arith, h))
 first_there (part ∷ parts) d h = refl
 
--- given one to four parts within the limits that fit together over a hyperperiod
+-- given: one to four parts within the limits that fit together over a hyperperiod
 -- `some`, `few`: there are one to four parts; `over`: they fit together over `whole`; `within`: each is within the
 -- limits
 module _ (whole : ℕ) (parts : List Part) (some : 1 ≤ length parts) (few : length parts ≤ 4) (over : AreOver parts whole)
@@ -227,7 +234,7 @@ module _ (whole : ℕ) (parts : List Part) (some : 1 ≤ length parts) (few : le
   first_within : IsWithinLimits (first_graph parts)
   first_within = subst IsWithinLimits (first_there parts none some) (within 0 none some)
     where
-      -- what stands where there is no part
+      -- what an index past the end would show
       none : Part
       none = record { period = 0; problem = first_graph [] }
 

@@ -1,4 +1,4 @@
--- The answer for parts, and why it is given.
+-- What is answered for a list of parts: the graph of all instances, or a refusal with the exact reason for it.
 use Rattle.std.specs.Prelude.{ℕ, ◌≡◌, ◌<◌, ◌≤◌, ◌/◌, Bool, true, false, List, ◌++◌, None, length, get_or, All, Result}
 use Rattle.std.specs.Prelude.{Ok, Err, Vec, ⊤}
 use Rattle.std.specs.declared.alloc.Global.{Global}
@@ -14,48 +14,49 @@ use Rattle.cpg_hyper.specs.declared.part.HyperFault.TheVariants.{OutOfMemory}
 use Rattle.cpg_hyper.specs.Hyperperiod.{IsHyperperiod}
 use Rattle.cpg_hyper.specs.Unrolled.{unrolled, first_graph, name_in, processes_from}
 
--- a period is in its range
+-- the period of a part is from 1 to the longest time
 pub record IsInRange (part : Part) : Type 0 where
   pub some : 1 ≤ part.period
   pub short : part.period ≤ LONGEST
 
--- a part has the faults, nodes and slots of a graph
+-- a part has the same faults, nodes and slots as the graph g
 pub record IsAlike (g : Graph) (part : Part) : Type 0 where
   pub faults : part.problem.faults ≡ g.faults
   pub nodes : part.problem.nodes ≡ g.nodes
   pub slots : part.problem.slots ≡ g.slots
 
--- the deadline and the releases are within the period
+-- the deadline and all releases of a part are within its period
 pub record FitsPeriod (part : Part) : Type 0 where
   pub deadline : part.problem.deadline ≤ part.period
   pub releases : All (λ q. q.release ≤ part.period) part.problem.processes
 
--- each name made for a part is short enough
+-- the name that each process of part p gets in each instance has at most 32 bytes, as names in a graph file do
 abbrev pub HasShortNames : ℕ → ℕ → Part → Type 0
 HasShortNames whole p part =
     (i : ℕ) → i < whole / part.period → All (λ q. length (name_in p i q.name) ≤ 32) part.problem.processes
 
--- a part gives no order to compile under
+-- the part's graph gives no order of its processes
 abbrev pub GivesNoOrder : Part → Type 0
 GivesNoOrder part = part.problem.order ≡ None
 
--- a fact about the parts, by number, holds of each part
+-- the fact P holds of each part and its number; d, what `get_or` answers behind the last part, plays no role
 abbrev pub HoldsOfEach : (ℕ → Part → Type 0) → List Part → Type 0
 HoldsOfEach P parts = (p : ℕ) (d : Part) → p < length parts → P p (get_or parts p d)
 
--- a fact about the parts, by number, holds of the first n parts
+-- the fact P holds of each of the first n parts and its number
 abbrev pub HoldsBefore : (ℕ → Part → Type 0) → List Part → ℕ → Type 0
 HoldsBefore P parts n = (p : ℕ) (d : Part) → p < n → P p (get_or parts p d)
 
--- the first part of which the fact doesn't hold
+-- p is the first part for which the fact P fails
 pub record FailsFirst (P : ℕ → Part → Type 0) (parts : List Part) (p : ℕ) : Type 0 where
-  -- the number is that of a part, for which the fact fails
+  -- p is the number of a part, and the fact fails for that part
   pub within : p < length parts
   pub fails : (d : Part) → P p (get_or parts p d) → ⊥
   -- it holds of each part before
   pub before : (q : ℕ) (d : Part) → q < p → P q (get_or parts q d)
 
--- there are too many of something, and few enough of whatever is counted before it
+-- There are more of one thing than a graph file may have, and not too many of what is counted before it: first processes, then
+-- edges, then conditions. Nothing else can be too many.
 abbrev pub Exceeds : What → Graph → Type 0
 Exceeds Processes g = MOST_PROCESSES < process_count g
 Exceeds Edges g = (process_count g ≤ MOST_PROCESSES) × (MOST_EDGES < edge_count g)
@@ -63,32 +64,33 @@ Exceeds Conditions g =
     (process_count g ≤ MOST_PROCESSES) × (edge_count g ≤ MOST_EDGES) × (MOST_CONDITIONS < condition_count g)
 Exceeds _ g = ⊥
 
--- a graph has few enough processes, edges and conditions
+-- a graph has no more processes, edges and conditions than a graph file may have
 pub record HasFewEnough (g : Graph) : Type 0 where
   pub processes : process_count g ≤ MOST_PROCESSES
   pub edges : edge_count g ≤ MOST_EDGES
   pub conditions : condition_count g ≤ MOST_CONDITIONS
 
--- the parts pass the checks of ranges and of differences
+-- all periods are in range, and all parts have the faults, nodes and slots of the first one
 pub record AreAlike (parts : List Part) : Type 0 where
   pub ranges : HoldsOfEach (λ p part. IsInRange part) parts
   pub alike : HoldsOfEach (λ p part. IsAlike (first_graph parts) part) parts
 
--- the parts pass also the check of what fits the period
+-- all periods are in range, all parts have the faults, nodes and slots of the first one, and each part fits its period
 pub record AreFitting (parts : List Part) : Type 0 where
   pub ranges : HoldsOfEach (λ p part. IsInRange part) parts
   pub alike : HoldsOfEach (λ p part. IsAlike (first_graph parts) part) parts
   pub fitting : HoldsOfEach (λ p part. FitsPeriod part) parts
 
--- the parts pass those checks, and their hyperperiod is short enough
+-- the parts pass the checks of `AreFitting`, and `whole` is their hyperperiod, which is at most the longest time
 pub record AreOver (parts : List Part) (whole : ℕ) : Type 0 where
-  -- each part is in range, like the first one and fits its period
+  -- each period is in range, and each part is like the first one and fits its period
   pub fitting : AreFitting parts
   -- the whole is the hyperperiod of the parts, and short enough
   pub hyperperiod : IsHyperperiod parts whole
   pub short : whole ≤ LONGEST
 
--- each answer, with the exact condition for it
+-- What each answer says. The checks are made in the order of the clauses, so each refusal says that all checks before it are
+-- passed. One with a number names the first part that fails its check. Nothing is said if memory runs out.
 abbrev pub ShowsUnrolled : List Part → Result Graph HyperFault → Type 0
 ShowsUnrolled parts (Err (Range p)) = FailsFirst (λ p part. IsInRange part) parts p
 ShowsUnrolled parts (Err (Differ p)) =
@@ -105,16 +107,17 @@ ShowsUnrolled parts (Ok g) = (whole : ℕ) × AreOver parts whole × HasFewEnoug
     HoldsOfEach (HasShortNames whole) parts × HoldsOfEach (λ p part. GivesNoOrder part) parts ×
     (g ≡ unrolled whole parts)
 
--- the names made for one instance are short enough
+-- the names that the processes of part p get in instance i have at most 32 bytes each
 abbrev pub AreShort : ℕ → Part → ℕ → Type 0
 AreShort p part i = All (λ q. length (name_in p i q.name) ≤ 32) part.problem.processes
 
--- processes are added if their names are short enough; if not, nothing is said of what was added
+-- True: the processes `more` are added, and the fact `short` about their names holds. False: it fails, and nothing is said
+-- of what was added.
 abbrev pub AddsShort : Bool → List Process → List Process → List Process → Type 0 → Type 0
 AddsShort true old new more short = (new ≡ old ++ more) × short
 AddsShort false old new more short = short → ⊥
 
--- the processes of all instances, or the first part that has too long a name
+-- what the list of all processes answers: these processes, or the first part that has too long a name
 abbrev pub ShowsProcesses : ℕ → List Part → Result (Vec Process Global) HyperFault → Type 0
 ShowsProcesses whole parts (Ok processes) =
     (processes.items ≡ processes_from whole 0 parts) × HoldsOfEach (HasShortNames whole) parts

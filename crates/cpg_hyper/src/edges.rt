@@ -1,4 +1,4 @@
-//! The edges of all instances, and how many of each there are.
+//! The edges of all instances of all parts, and how many processes, edges and conditions there are.
 ghost use Rattle.std.specs.Prelude.{◌≡◌, ◌<◌, ◌≤◌, ◌+◌, ◌*◌, ◌/◌, ◌++◌, ◌↔◌, IsTrue, IfOk, OnOk, length, map, filter};
 ghost use Rattle.cpg_base.specs.Numbers.{numbers_below};
 ghost use Rattle.cpg_base.specs.Conditions.{has_conditional_output};
@@ -9,7 +9,8 @@ use crate::Part;
 use cpg_base::{Edge, LONGEST, MOST_PROCESSES, OutOfMemory};
 use std::alloc::Global;
 
-/// How many processes there are in all instances.
+/// Returns how many processes there are in all instances. The counts can't overflow: there are at most 4 parts, and the whole is
+/// at most 10^9.
 pub fn process_total(whole: u64, parts: &[Part]) -> u64
     requires ranges { HoldsOfEach (λ p part. IsInRange part) parts.now }
     requires few { length parts.now ≤ 4 }
@@ -23,7 +24,8 @@ pub fn process_total(whole: u64, parts: &[Part]) -> u64
     total
 }
 
-/// How many edges there are in all instances.
+/// Returns how many edges there are in all instances. The counts can't overflow: there are at most 4 parts, and the whole is at
+/// most 10^9.
 pub fn edge_total(whole: u64, parts: &[Part]) -> u64
     requires ranges { HoldsOfEach (λ p part. IsInRange part) parts.now }
     requires few { length parts.now ≤ 4 }
@@ -37,7 +39,7 @@ pub fn edge_total(whole: u64, parts: &[Part]) -> u64
     total
 }
 
-/// Adds the edges of an instance, whose first process is `first`.
+/// Adds the edges of an instance whose first process has the number `first`.
 fn add_instance(out: &mut Vec<Edge>, part: &Part, first: u32) -> Result<(), OutOfMemory>
     requires { first + size_of part.now ≤ MOST_PROCESSES }
     ensures { OnOk result (out.new.items ≡ out.old.items ++ map (copied_edge first) part.now.problem.edges) }
@@ -54,7 +56,7 @@ fn add_instance(out: &mut Vec<Edge>, part: &Part, first: u32) -> Result<(), OutO
     Ok(())
 }
 
-/// Adds the edges of all instances of a part, whose first process is `first`.
+/// Adds the edges of all instances of a part whose first process has the number `first`.
 fn add_part(out: &mut Vec<Edge>, whole: u64, part: &Part, first: u32) -> Result<(), OutOfMemory>
     requires range { IsInRange part.now }
     requires short { whole ≤ LONGEST }
@@ -62,7 +64,7 @@ fn add_part(out: &mut Vec<Edge>, whole: u64, part: &Part, first: u32) -> Result<
     ensures { OnOk result (out.new.items ≡ out.old.items ++ edges_of whole first part.now) }
 {
     let size = part.problem.processes().len() as u32;
-    // without processes the part has no edges, and its instances would take no numbers
+    // without processes the part has no edges, and its instances may be too many to count in a `u32`
     if size == 0 {
         return Ok(());
     }
@@ -73,7 +75,7 @@ fn add_part(out: &mut Vec<Edge>, whole: u64, part: &Part, first: u32) -> Result<
     Ok(())
 }
 
-/// The edges of all instances of all parts.
+/// Returns the edges of all instances of all parts. The one error is `OutOfMemory`.
 pub fn unrolled_edges(alloc: Global, whole: u64, parts: &[Part]) -> Result<Vec<Edge>, OutOfMemory>
     requires ranges { HoldsOfEach (λ p part. IsInRange part) parts.now }
     requires short { whole ≤ LONGEST }
@@ -90,7 +92,7 @@ pub fn unrolled_edges(alloc: Global, whole: u64, parts: &[Part]) -> Result<Vec<E
     Ok(edges)
 }
 
-/// Whether a process has a conditional output.
+/// Whether some edge from a process has a `when`, so that the process has a condition.
 fn is_conditional(edges: &[Edge], process: u32) -> bool
     ensures { result ≡ has_conditional_output edges.now process }
 {
@@ -99,7 +101,7 @@ fn is_conditional(edges: &[Edge], process: u32) -> bool
         .any(|edge| edge.from == process && edge.when.is_some())
 }
 
-/// How many of the first `processes` processes have a condition.
+/// Returns how many of the first `processes` processes have a condition.
 pub fn condition_total(edges: &[Edge], processes: u32) -> u32
     ensures { result ≡ length (filter (has_conditional_output edges.now) (numbers_below processes)) }
 {

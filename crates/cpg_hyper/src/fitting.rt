@@ -1,4 +1,5 @@
-//! Checks that parts agree with the first one, and fit their periods.
+//! Checks of parts: that their periods are in range, that they agree with the first one and fit their periods, and that they
+//! give no order. Each returns the number of the first part that fails.
 ghost use Rattle.std.specs.Prelude.{◌≡◌, ◌≤◌, ◌<◌, ◌↔◌, IsTrue, IfSome, IfNone, All, length};
 ghost use Rattle.cpg_base.specs.Limits.{IsWithinLimits};
 ghost use Rattle.cpg_hyper.specs.Refusals.{IsInRange, IsAlike, FitsPeriod, GivesNoOrder, HoldsOfEach, FailsFirst};
@@ -6,14 +7,14 @@ ghost use Rattle.cpg_hyper.specs.Refusals.{IsInRange, IsAlike, FitsPeriod, Gives
 use crate::Part;
 use cpg_base::{LONGEST, Problem, Process, Slot, are_same_names};
 
-/// Whether a period is in its range.
+/// Whether the period of a part is from 1 to the longest time.
 fn is_in_range(part: &Part) -> bool
     ensures { IsTrue result ↔ IsInRange part.now }
 {
     1 <= part.period && part.period <= LONGEST
 }
 
-/// The first part whose period isn't in range.
+/// Returns the first part whose period isn't in range; `None` exactly if all are.
 pub fn first_out_of_range(parts: &[Part]) -> Option<u32>
     requires { length parts.now ≤ 4 }
     ensures first { IfSome result (FailsFirst (λ p part. IsInRange part) parts.now) }
@@ -49,7 +50,7 @@ fn are_same_slots(slots: &[Slot], others: &[Slot]) -> bool
     true
 }
 
-/// Whether a part has the faults, nodes and slots of a graph.
+/// Whether a part has the same faults, nodes and slots as the graph of the first part.
 fn is_alike(first: &Problem, part: &Part) -> bool
     ensures { IsTrue result ↔ IsAlike first.now part.now }
 {
@@ -62,7 +63,7 @@ fn is_alike(first: &Problem, part: &Part) -> bool
     are_same_slots(part.problem.slots(), first.slots())
 }
 
-/// The first part with other faults, nodes or slots than a graph.
+/// Returns the first part with other faults, nodes or slots than a graph; `None` exactly if no part has others.
 pub fn first_different(first: &Problem, parts: &[Part]) -> Option<u32>
     requires { length parts.now ≤ 4 }
     ensures first { IfSome result (FailsFirst (λ p part. IsAlike first.now part) parts.now) }
@@ -76,14 +77,14 @@ pub fn first_different(first: &Problem, parts: &[Part]) -> Option<u32>
     None
 }
 
-/// Whether all processes are released by a time.
+/// Whether the release of each process is at most `time`.
 fn are_released_by(processes: &[Process], time: u64) -> bool
     ensures { IsTrue result ↔ All (λ q. q.release ≤ time) processes.now }
 {
     processes.iter().all(|process| process.release <= time)
 }
 
-/// Whether the deadline and the releases of a part are within its period.
+/// Whether the deadline and all releases of a part are within its period.
 fn fits_period(part: &Part) -> bool
     ensures fits { IsTrue result ↔ FitsPeriod part.now }
     ensures within { IsWithinLimits part.now.problem }
@@ -94,7 +95,7 @@ fn fits_period(part: &Part) -> bool
     are_released_by(part.problem.processes(), part.period)
 }
 
-/// The first part whose deadline, or one of whose releases, is above its period.
+/// Returns the first part whose deadline, or one of whose releases, is above its period; `None` exactly if there is none.
 pub fn first_over(parts: &[Part]) -> Option<u32>
     requires { length parts.now ≤ 4 }
     ensures first { IfSome result (FailsFirst (λ p part. FitsPeriod part) parts.now) }
@@ -109,14 +110,14 @@ pub fn first_over(parts: &[Part]) -> Option<u32>
     None
 }
 
-/// Whether a part gives no order to compile under.
+/// Whether a part's graph gives no order to compile under.
 fn gives_no_order(part: &Part) -> bool
     ensures { IsTrue result ↔ GivesNoOrder part.now }
 {
     part.problem.given_order().is_none()
 }
 
-/// The first part that gives an order to compile under.
+/// Returns the first part whose graph gives an order to compile under; `None` exactly if there is none.
 pub fn first_with_order(parts: &[Part]) -> Option<u32>
     requires { length parts.now ≤ 4 }
     ensures first { IfSome result (FailsFirst (λ p part. GivesNoOrder part) parts.now) }

@@ -1,4 +1,4 @@
-//! Graphs of several periods, as one graph over their hyperperiod.
+//! Several graphs with a period each, made into one graph over their hyperperiod.
 #![tactic(auto)]
 
 mod edges;

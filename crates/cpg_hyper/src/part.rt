@@ -1,31 +1,33 @@
-//! The parts of a graph of several periods, and why they may make no graph.
+//! Parts, each a graph with a period, and why they may make no common graph.
 
 use cpg_base::{OutOfMemory, Problem};
 use cpg_reader::What;
 
-/// A graph that begins again after each period, in the time units of the graph file.
+/// A graph whose work is done once in each period.
 #[derive(Drop)]
 pub struct Part {
+    /// The period, in the time units of the graph file.
     pub period: u64,
+    /// The graph.
     pub problem: Problem,
 }
 
-/// Why parts have no common graph. A number is that of a part.
+/// Why parts make no common graph. The number, if there is one, is that of a part.
 #[derive(Clone, Copy, Debug, PartialEq, Eq)]
 pub enum HyperFault {
-    /// Its period isn't from 1 to 10^9.
+    /// The part's period isn't from 1 to 10^9.
     Range(u32),
-    /// It has other faults, nodes or slots than the first.
+    /// The part has other faults, nodes or slots than the first one.
     Differ(u32),
-    /// Its deadline or a release is above its period.
+    /// The part's deadline or a release in it is above its period.
     Over(u32),
-    /// The hyperperiod is above 10^9.
+    /// The hyperperiod of all parts is above 10^9.
     Period,
-    /// There are too many of these.
+    /// The common graph has too many of these.
     Count(What),
-    /// A made name of it has more than 32 bytes.
+    /// A name made for the part has more than 32 bytes.
     LongName(u32),
-    /// It gives an order to compile under.
+    /// The part gives an order to compile under.
     Order(u32),
     /// Out of memory.
     OutOfMemory,

@@ -1,4 +1,4 @@
-//! The hyperperiod of parts.
+//! The hyperperiod of parts: the least common multiple of their periods.
 ghost use Rattle.std.specs.Prelude.{◌≡◌, ◌<◌, ◌≤◌, ◌^◌, ◌*◌, length, ℕ, IfSome, IfNone};
 ghost use Rattle.cpg_hyper.specs.Hyperperiod.{IsMeasure, IsLeastCommon, IsHyperperiod};
 ghost use Rattle.cpg_hyper.specs.Refusals.{IsInRange, HoldsOfEach};
@@ -6,7 +6,7 @@ ghost use Rattle.cpg_hyper.specs.Refusals.{IsInRange, HoldsOfEach};
 use crate::Part;
 use cpg_base::LONGEST;
 
-/// The greatest common divisor.
+/// Returns the greatest common divisor of two numbers, by Euclid's algorithm.
 #[tactic(auto, using(crate::proofs::Multiples::measure_zero, crate::proofs::Multiples::measure_step))]
 fn greatest_common(a: u64, b: u64) -> u64
     requires { 1 ≤ a }
@@ -20,7 +20,7 @@ fn greatest_common(a: u64, b: u64) -> u64
     greatest_common(b, rest)
 }
 
-/// The least common multiple.
+/// Returns the least common multiple of two numbers.
 #[tactic(auto, using(crate::proofs::Multiples::least_of, crate::proofs::Multiples::least_some))]
 fn least_common(a: u64, b: u64) -> u64
     requires first { 1 ≤ a }
@@ -31,10 +31,11 @@ fn least_common(a: u64, b: u64) -> u64
     ensures least { IsLeastCommon a b result }
 {
     let common = greatest_common(a, b);
+    // divided first, so that the product of two times fits a `u64`
     a / common * b
 }
 
-/// The least common multiple of the periods, if it isn't above the longest time.
+/// Returns the hyperperiod of parts; `None` exactly if it is above the longest time.
 pub fn hyperperiod(parts: &[Part]) -> Option<u64>
     requires { HoldsOfEach (λ p part. IsInRange part) parts.now }
     ensures whole { IfSome result (IsHyperperiod parts.now) }
@@ -44,7 +45,7 @@ pub fn hyperperiod(parts: &[Part]) -> Option<u64>
     let mut whole = 1;
     for part in parts {
         whole = least_common(whole, part.period);
-        // above the longest time there is no hyperperiod, and the next product could overflow
+        // the hyperperiod is a multiple of this, and the next product could overflow
         if whole > LONGEST {
             return None;
         }

@@ -1,4 +1,4 @@
-//! The processes of all instances.
+//! The processes of all instances of all parts.
 ghost use Rattle.std.specs.Prelude.{◌≡◌, ◌<◌, ◌≤◌, ◌+◌, ◌*◌, ◌/◌, IfOk, IfSome, IfNone, OnOk, string_bytes, length, All, Contains};
 ghost use Rattle.cpg_base.specs.Duration.{lesser_due};
 ghost use Rattle.cpg_base.specs.Name.{IsName};
@@ -10,7 +10,7 @@ use crate::{HyperFault, Part};
 use cpg_base::{LONGEST, Name, OutOfMemory, Process};
 use std::alloc::Global;
 
-/// The made name of a copy, as a text of any length.
+/// Returns the name that a process gets in an instance, as a text of any length.
 fn made_text(alloc: Global, number: u32, instance: u64, name: &Name) -> Result<String, OutOfMemory>
     ensures text { IfOk result (λ text. string_bytes text ≡ name_in number instance name.now) }
     ensures name { IfOk result (λ text. IsName name.now) }
@@ -21,7 +21,7 @@ fn made_text(alloc: Global, number: u32, instance: u64, name: &Name) -> Result<S
     Ok(text)
 }
 
-/// The name of a copy, or `None` exactly if it is too long.
+/// Returns the name that a process gets in an instance; `None` exactly if it is too long. The one error is `OutOfMemory`.
 fn copied_name(
     alloc: Global,
     number: u32,
@@ -37,7 +37,7 @@ fn copied_name(
     Name::new(alloc, text.as_str())
 }
 
-/// When a process of a graph with a deadline is due.
+/// Returns when a process is due in a graph with this deadline.
 fn due_of(process: &Process, deadline: u64) -> u64
     ensures { result ≡ lesser_due deadline process.now.deadline }
 {
@@ -48,7 +48,7 @@ fn due_of(process: &Process, deadline: u64) -> u64
     }
 }
 
-/// The copy of a process, or `None` exactly if its name is too long.
+/// Returns the copy of a process in an instance; `None` exactly if its name is too long. The one error is `OutOfMemory`.
 fn copied_process(
     alloc: Global,
     number: u32,
@@ -83,7 +83,8 @@ fn copied_process(
     }))
 }
 
-/// Adds the processes of an instance, if their names are short enough.
+/// Adds the processes of an instance, and returns true; false exactly if some name is too long, and then nothing is said of
+/// what was added.
 fn add_instance(
     alloc: Global,
     out: &mut Vec<Process>,
@@ -105,7 +106,8 @@ fn add_instance(
     Ok(true)
 }
 
-/// Adds the processes of all instances of a part, if their names are short enough.
+/// Adds the processes of all instances of a part, and returns true; false exactly if some name is too long, and then nothing
+/// is said of what was added.
 fn add_part(
     alloc: Global,
     out: &mut Vec<Process>,
@@ -130,7 +132,8 @@ fn add_part(
     Ok(true)
 }
 
-/// The processes of all instances of all parts, if their names are short enough.
+/// Returns the processes of all instances of all parts. It fails with `LongName` exactly if some name is too long, and shows the
+/// first part that has one; `OutOfMemory` may come in place of either.
 pub fn unrolled_processes(
     alloc: Global,
     whole: u64,

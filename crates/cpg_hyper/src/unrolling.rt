@@ -1,4 +1,4 @@
-//! The graph of several parts over their hyperperiod.
+//! Makes the graph of all instances of several parts over their hyperperiod, or refuses it.
 ghost use Rattle.std.specs.Prelude.{◌≡◌, ◌≤◌, IfOk, length};
 ghost use Rattle.cpg_base.specs.Limits.{IsWithinLimits};
 ghost use Rattle.cpg_hyper.specs.Refusals.{HoldsOfEach, HasFewEnough, HasShortNames, AreOver, ShowsUnrolled};
@@ -13,16 +13,16 @@ use cpg_base::{Edge, OutOfMemory, Problem, Process};
 use cpg_reader::What;
 use std::alloc::Global;
 
-/// How many processes there are at most.
+/// How many processes a graph may have.
 const MOST_PROCESSES: u64 = cpg_base::MOST_PROCESSES as u64;
 
-/// How many edges there are at most.
+/// How many edges a graph may have.
 const MOST_EDGES: u64 = cpg_base::MOST_EDGES as u64;
 
-/// How many conditions there are at most.
+/// How many conditions a graph may have.
 const MOST_CONDITIONS: u32 = cpg_base::MOST_CONDITIONS as u32;
 
-/// The graph of the processes and edges of all instances.
+/// Returns the graph of the processes and edges of all instances. The one error is `OutOfMemory`.
 fn built(
     alloc: Global,
     whole: u64,
@@ -40,14 +40,15 @@ fn built(
     requires edges { edges.items ≡ edges_from whole 0 parts.now }
     ensures { IfOk result (λ g. g ≡ unrolled whole parts.now) }
 {
-    // the parts fit together, so the first has the faults, nodes and slots of all
+    // all parts have the faults, nodes and slots of the first
     let first = &parts[0].problem;
     let nodes = Vec::from_clones(alloc, first.nodes())?;
     let slots = Vec::from_slice(alloc, first.slots())?;
     Ok(Problem::of(first.faults(), whole, nodes, slots, processes, edges))
 }
 
-/// The graph over a hyperperiod, if there are few enough of each, the made names are short and no part gives an order.
+/// Returns the graph over a hyperperiod. It fails if the graph has too many processes, edges or conditions, if a name made for it
+/// is too long, or if a part gives an order.
 fn over(alloc: Global, whole: u64, parts: &[Part]) -> Result<Problem, HyperFault>
     requires some { 1 ≤ length parts.now }
     requires few { length parts.now ≤ 4 }
@@ -64,7 +65,7 @@ fn over(alloc: Global, whole: u64, parts: &[Part]) -> Result<Problem, HyperFault
         return Err(HyperFault::Count(What::Edges));
     }
     let edges = unrolled_edges(alloc, whole, parts)?;
-    // conditions are counted on the edges that are made
+    // conditions are counted on the edges that are made; the processes are few enough for a `u32`
     if condition_total(edges.as_slice(), process_count as u32) > MOST_CONDITIONS {
         return Err(HyperFault::Count(What::Conditions));
     }
@@ -80,20 +81,20 @@ fn over(alloc: Global, whole: u64, parts: &[Part]) -> Result<Problem, HyperFault
     }
 }
 
-/// One graph of one to four parts: each part with as many copies as it has periods in the hyperperiod, which is the
-/// deadline. A copy is named by the numbers of its part and its instance and its name in the part, with points between,
-/// and its release and own deadline are later by the begin of its instance.
+/// Returns one graph of one to four parts: each part has one instance for each of its periods in the hyperperiod, which is the
+/// graph's deadline. A process is named by the numbers of its part and its instance and its name in the part, with points
+/// between. Its release and its own deadline are later by the beginning of its instance.
 ///
 /// The refusals come in this order: a period out of its range; other faults, nodes or slots than the first part's; a
 /// deadline or a release above its period; a hyperperiod above 10^9; too many processes, edges or conditions; too long a
-/// made name; an order to compile under, for it names no copies. One of a range, a difference, a time, a name or an order
-/// shows the first part that it is true of. Out of memory may come in place of any.
+/// made name; an order to compile under, since it names no copies. A refusal with a number shows the first part of which it is
+/// true. `OutOfMemory` may come in place of any answer.
 pub fn unroll(alloc: Global, parts: &[Part]) -> Result<Problem, HyperFault>
     requires some { 1 ≤ length parts.now }
     requires few { length parts.now ≤ 4 }
     ensures { ShowsUnrolled parts.now result }
 {
-    // from here on each refusal rests on those before: the periods are in range, so they can divide
+    // each check relies on those before it: the hyperperiod, for one, is that of periods above 0
     if let Some(part) = first_out_of_range(parts) {
         return Err(HyperFault::Range(part));
     }

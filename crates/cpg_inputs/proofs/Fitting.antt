@@ -18,17 +18,17 @@ use Rattle.cpg_inputs.specs.Says.{Value, graph_value, log_value, played_value, t
 use Rattle.cpg_inputs.specs.Reading.{Reads}
 use Rattle.cpg_inputs.proofs.OneReading.{IsAlike}
 
--- a log by its value
+-- if the value is a log, it is this one
 abbrev IsValueOf : Log → Value → Type 0
 IsValueOf l (log_value m) = m ≡ l
 IsValueOf l v = Unit {0}
 
--- a scenario that was read after a graph is of that graph
+-- the scenario that a file says for a graph is one of that graph
 played_fits : (g : Graph) (bytes : Text) (p : Played) → Says (Some g) ScenarioFile bytes (played_value p) → IsPlayed g p
 played_fits g bytes p (q, e, are) =
     let same : q ≡ p = subst (IsAlike (played_value p)) e refl in subst (IsPlayed g) same are.lawful
 
--- a log that was read after a graph is of that graph
+-- the log that a file says for a graph is one of that graph
 log_fits : (g : Graph) (bytes : Text) (l : Log) → Says (Some g) LogFile bytes (log_value l) → IsLog g l
 log_fits g bytes l (m, e, are) =
     let same : m ≡ l = subst (IsValueOf l) e refl in subst (IsLog g) same are.lawful
@@ -46,7 +46,8 @@ audit_fits : (a : Admission) (t : Tables) (l : Log) (graph pack log : Text) (pas
     IsLog a.graph l
 audit_fits a t l graph pack log past now reads = let last = reads.2.2 in log_fits a.graph last.0.given l last.1.says
 
--- the scenario or the log among the inputs is of the graph that was read before it
+-- The scenario or the log among the inputs is of the graph that was read before it. By the inputs: only those of `play`
+-- and `audit` have one.
 pub inputs_fit : (c : Command) (past now : List Fetch) (inputs : Inputs) → HasInputs c past now inputs → AreFit inputs
 inputs_fit c past now (Inputs.Graph a purpose) has = tt
 inputs_fit c past now (Inputs.Check a t) has = tt

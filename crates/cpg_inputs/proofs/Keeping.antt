@@ -7,6 +7,7 @@ use Rattle.cpg_io.specs.Shelf.{KeepsShelf, SameAccess}
 use Rattle.cpg_io.specs.State.{ShelfState}
 use Rattle.cpg_io.proofs.Agreeing.{fetched_on, fetched_same}
 
+-- given a shelf that is kept from one state to a second, and from there to a third
 module _ (old mid new : ShelfState) (a : KeepsShelf old mid) (b : KeepsShelf mid new) where
   -- a failed fetch that is new since `old` has raised the count of faults
   counted_rose : (fetch : Fetch) (past : List Fetch) → new.history ≡ fetch ∷ past → fetch.failed ≡ true →

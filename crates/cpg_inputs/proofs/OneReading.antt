@@ -26,14 +26,14 @@ use Rattle.cpg_inputs.specs.Says.{Value, graph_value, part_value, tables_value, 
 use Rattle.cpg_inputs.specs.Says.{AreAdmitted, Refuses, Says}
 use Rattle.cpg_inputs.specs.Reading.{IsRead, Reads, StopsAt, StopsReading}
 
--- ---- results are one thing
+-- ---- a result is one value or one error
 
--- the value of a result, or another one if there is none
+-- the value of a result, or d if it is an error
 abbrev value_or : {T E : Type 0} → T → Result T E → T
 value_or d (Ok x) = x
 value_or d (Err e) = d
 
--- a result has one value
+-- values of one result are equal
 pub same_value : {T E : Type 0} (r : Result T E) (x y : T) → r ≡ Ok x → r ≡ Ok y → x ≡ y
 same_value r x y a b = ap (value_or x) (sym a ∙ b)
 
@@ -63,7 +63,7 @@ admitted_alike bytes a b x y =
           (subst (λ g. IsUrgencyOrder g b.order) same y.admitted.urgency) x.admitted.urgency;
     }
 
--- a fact of one of two alike admissions is one of the other
+-- what holds of the graph and the order of one of two alike admissions holds of those of the other
 pub moved : (a b : Admission) → AreAlike a b → (P : Graph → List ℕ → Type 0) → P b.graph b.order → P a.graph a.order
 moved a b same P p = subst (P a.graph) same.order (subst (λ g. P g b.order) same.graph p)
 
@@ -86,11 +86,12 @@ AllAlike [] (w ∷ ws) = ⊥
 AllAlike (v ∷ vs) [] = ⊥
 AllAlike (v ∷ vs) (w ∷ ws) = IsAlike v w × AllAlike vs ws
 
--- two values are alike if the known values that they are, are alike
+-- values are alike if they equal values that are alike
 as_known : (v w x y : Value) → v ≡ x → w ≡ y → IsAlike x y → IsAlike v w
 as_known v w x y e f k = subst (λ u. IsAlike u w) (sym e) (subst (IsAlike x) (sym f) k)
 
--- the values that the same bytes say are alike
+-- The values that the same bytes say as a file of one kind are alike. By the kind: bytes say one graph, one scenario,
+-- and spell one list of tables.
 pub says_alike : (g : Option Graph) (k : FileKind) (bytes : Text) (v w : Value) → Says g k bytes v → Says g k bytes w →
     IsAlike v w
 says_alike g GraphFile bytes v w (a, e, x) (b, f, y) =
@@ -105,7 +106,7 @@ says_alike (Some g) LogFile bytes v w (l, e, x) (m, f, y) = as_known v w (log_va
 says_alike None ScenarioFile bytes v w x y = absurd x
 says_alike None LogFile bytes v w x y = absurd x
 
--- the same graph comes after two values that the same bytes say
+-- after two values that the same bytes say, later files are read for the same graph
 pub says_after : (g : Option Graph) (k : FileKind) (bytes : Text) (v w : Value) → Says g k bytes v → Says g k bytes w →
     graph_after g w ≡ graph_after g v
 says_after g GraphFile bytes v w (a, e, x) (b, f, y) =
@@ -121,7 +122,8 @@ says_after None LogFile bytes v w x y = absurd x
 
 -- ---- no file that is read stops a run
 
--- bytes that say a value aren't rejected, unless memory runs out
+-- Bytes that say a value aren't rejected, unless memory runs out. By the kind: they would both give a value and an
+-- error, or an admitted graph would break a rule.
 pub not_refused : (g : Option Graph) (k : FileKind) (bytes : Text) (v : Value) (h : Halt) → Says g k bytes v →
     Refuses g k bytes h → h ≡ Memory
 not_refused g GraphFile bytes v h (a, e, x) (inl faulty) =
@@ -154,12 +156,12 @@ pub record HasGrown (past now : List Fetch) : Type 0 where
   pub fetches : List Fetch
   pub is : now ≡ fetches ++ past
 
--- a history that has grown after a fetch has grown after those before it
+-- a history that has grown from one with a fetch at its front has grown from the one without it
 grown_on : (fetch : Fetch) (past now : List Fetch) → HasGrown (fetch ∷ past) now → HasGrown past now
 grown_on fetch past now g =
     record { fetches = g.fetches ++ fetch ∷ []; is = g.is ∙ sym (append_assoc g.fetches (fetch ∷ []) past) }
 
--- after files were read, the history has the fetches before and some more
+-- reading files makes a history grow
 pub reads_grown : (g : Option Graph) (files : List File) (past now : List Fetch) (vs : List Value) →
     Reads g files past now vs →
     HasGrown past now
@@ -169,7 +171,7 @@ reads_grown g (f ∷ fs) past now [] r = absurd r
 reads_grown g (f ∷ fs) past now (v ∷ vs) r =
     grown_on r.0 past now (reads_grown (graph_after g v) fs (r.0 ∷ past) now vs r.2)
 
--- so it has after a file stopped the run
+-- reading that one of the files stops makes a history grow
 pub stops_grown : (g : Option Graph) (files : List File) (past now : List Fetch) (h : Halt) →
     StopsReading g files past now h →
     HasGrown past now
@@ -188,24 +190,25 @@ abbrev tail_of : List Fetch → List Fetch
 tail_of [] = []
 tail_of (f ∷ fs) = fs
 
--- a history isn't longer than itself
+-- a history with one more fetch isn't the same history with at least two more
 too_long : (x y z : Fetch) (past xs : List Fetch) → x ∷ past ≡ y ∷ (xs ++ z ∷ past) → ⊥
 too_long x y z past xs e = let l = ap length e in let k = length-append xs (z ∷ past) in omega (arith, l, k)
 
--- two histories that end alike had the same fetch there
+-- if two equal histories have the same past, the fetches right after it are equal
 same_fetch : (xs ys : List Fetch) (f e : Fetch) (past : List Fetch) → xs ++ f ∷ past ≡ ys ++ e ∷ past → f ≡ e
 same_fetch [] [] f e past is = ap (head_or f) is
 same_fetch [] (y ∷ ys) f e past is = absurd (too_long f y e past ys is)
 same_fetch (x ∷ xs) [] f e past is = absurd (too_long e x f past xs (sym is))
 same_fetch (x ∷ xs) (y ∷ ys) f e past is = same_fetch xs ys f e past (ap tail_of is)
 
--- after one history there is one next fetch
+-- if a history has grown from a past with one fetch more, and from it with another, the two are equal
 one_fetch : (past now : List Fetch) (f e : Fetch) → HasGrown (f ∷ past) now → HasGrown (e ∷ past) now → f ≡ e
 one_fetch past now f e x y = same_fetch x.fetches y.fetches f e past (sym x.is ∙ y.is)
 
 -- ---- one reading
 
--- files that are read twice between the same histories say values that are alike
+-- Two readings of files between the same histories say values that are alike. By induction on the files: for the first,
+-- both have the same fetch, so its bytes say values that are alike, and the later files are read for the same graph.
 pub reads_alike : (g : Option Graph) (files : List File) (past now : List Fetch) (vs ws : List Value) →
     Reads g files past now vs → Reads g files past now ws → AllAlike vs ws
 reads_alike g [] past now [] [] r s = tt
@@ -223,7 +226,8 @@ reads_alike g (f ∷ fs) past now (v ∷ vs) (w ∷ ws) r s =
           (subst (λ e. Reads (graph_after g w) fs (e ∷ past) now ws) same s.2)),
     )
 
--- if all files were read, memory alone is left to stop a run
+-- If all files were read between two histories, what stops a reading of them between the same is that memory ran out.
+-- By induction on the files: the file that stops it was read in the same fetch, so it isn't rejected.
 pub stops_memory : (g : Option Graph) (files : List File) (past now : List Fetch) (vs : List Value) (h : Halt) →
     Reads g files past now vs → StopsReading g files past now h → h ≡ Memory
 stops_memory g [] past now vs h r s = absurd s
@@ -250,12 +254,12 @@ IsLawfulValue (part_value g) = Unit {0}
 IsLawfulValue (played_value p) = Unit {0}
 IsLawfulValue (log_value l) = Unit {0}
 
--- all of some values are
+-- all of these values are lawful
 abbrev pub AllLawful : List Value → Type 0
 AllLawful [] = Unit {0}
 AllLawful (v ∷ vs) = IsLawfulValue v × AllLawful vs
 
--- what bytes say as a value of some kind is lawful
+-- what bytes say as a file of some kind is lawful
 value_lawful : (g : Option Graph) (k : FileKind) (bytes : Text) (v : Value) → Says g k bytes v → IsLawfulValue v
 value_lawful g GraphFile bytes v (a, e, x) = subst IsLawfulValue (sym e) x.admitted
 value_lawful g PartFile bytes v (a, e, x) = subst IsLawfulValue (sym e) tt

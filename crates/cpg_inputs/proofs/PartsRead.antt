@@ -20,17 +20,17 @@ use Rattle.cpg_inputs.proofs.Readings.{graph_behind, reads_more, reads_one, stop
 
 -- ---- lists of parts
 
--- the files of two lists of pairs, one after the other
+-- the files of two lists of pairs together are those of the first and then those of the second
 files_more : (ps qs : List Pair) → part_files (ps ++ qs) ≡ part_files ps ++ part_files qs
 files_more [] qs = refl
 files_more (p ∷ ps) qs = ap (λ fs. file PartFile p.graph ∷ fs) (files_more ps qs)
 
--- the values of two lists of parts, one after the other
+-- the values of two lists of parts together are those of the first and then those of the second
 values_more : (ps qs : List Part) → part_values (ps ++ qs) ≡ part_values ps ++ part_values qs
 values_more [] qs = refl
 values_more (p ∷ ps) qs = ap (λ vs. part_value p.problem ∷ vs) (values_more ps qs)
 
--- one more part with its pair's period
+-- parts with their pairs' periods stay so if a pair and a part with its period are added
 periods_more : (ps : List Pair) (ds : List Part) (p : Pair) (d : Part) → HavePeriods ps ds → d.period ≡ p.period →
     HavePeriods (ps ++ p ∷ []) (ds ++ d ∷ [])
 periods_more [] [] p d have e = (e, tt)
@@ -38,7 +38,7 @@ periods_more [] (x ∷ ds) p d have e = absurd have
 periods_more (q ∷ ps) [] p d have e = absurd have
 periods_more (q ∷ ps) (x ∷ ds) p d have e = (have.0, periods_more ps ds p d have.1 e)
 
--- no graph is admitted among them
+-- parts' graphs aren't admitted, so after them later files are still read for no graph
 behind_parts : (ds : List Part) → graph_behind None (part_values ds) ≡ None
 behind_parts [] = refl
 behind_parts (d ∷ ds) = behind_parts ds
@@ -75,7 +75,8 @@ module _ (pairs : List Pair) (i : ℕ) (pair : Pair) (l : i < length pairs) (is 
       ap part_files (sym (take-append-drop (i + 1) pairs)) ∙ (files_more (take (i + 1) pairs) (drop (i + 1) pairs)
       ∙ ap (λ fs. fs ++ part_files (drop (i + 1) pairs)) files_next)
 
-  -- if the file of the next pair says a graph, the files of one pair more were read
+  -- If the file of the next pair says a graph, the files of one pair more were read: those before, and then this one.
+  -- No graph is admitted among those before.
   pub read_next : (g : Graph) (new : List Part) → ReadsNext None (file PartFile pair.graph) mid now (part_value g) →
       new ≡ parts ++ part_of pair.period g ∷ [] →
       Reads None (part_files (take (i + 1) pairs)) past now (part_values new)
@@ -96,7 +97,8 @@ module _ (pairs : List Pair) (i : ℕ) (pair : Pair) (l : i < length pairs) (is 
       (subst (HavePeriods (take i pairs ++ pair ∷ [])) (sym e)
       (periods_more (take i pairs) parts pair (part_of pair.period g) have refl))
 
-  -- if the file of the next pair stops the run, it stops the reading of all
+  -- If the file of the next pair stops the run, it stops the reading of all files: those before it were read, and those
+  -- after it aren't fetched.
   pub stops_next : (h : Halt) → StopsNext None (file PartFile pair.graph) mid now h →
       StopsReading None (part_files pairs) past now h
   stops_next h s =
@@ -107,7 +109,8 @@ module _ (pairs : List Pair) (i : ℕ) (pair : Pair) (l : i < length pairs) (is 
       subst (λ fs. StopsReading None fs past now h) (sym files_all) (stops_more None (part_files (take i pairs)
       ++ file PartFile pair.graph ∷ []) (part_files (drop (i + 1) pairs)) past now h here)
 
-  -- that was read, if memory runs out then
+  -- if that file was read, and memory runs out then, this stops the reading of all too, as if the file had taken the
+  -- memory
   pub wants_next : (g : Graph) (h : Halt) → ReadsNext None (file PartFile pair.graph) mid now (part_value g) →
       h ≡ Memory →
       StopsReading None (part_files pairs) past now h
@@ -133,7 +136,7 @@ pub periods_all : (pairs : List Pair) (i : ℕ) (parts : List Part) → length p
     HavePeriods pairs parts
 periods_all pairs i parts l have = subst (λ ps. HavePeriods ps parts) (take_all i pairs l) have
 
--- the file of each pair may be fetched if all may
+-- if the files of all pairs may be fetched, so may the file of each
 pub may_at : (may : Text → Type 0) (pairs : List Pair) (i : ℕ) (pair : Pair) → i < length pairs →
     pair ≡ get_or pairs i pair → All may (map (λ (p : Pair). p.graph) pairs) → may pair.graph
 may_at may pairs i pair l is all =

@@ -19,7 +19,7 @@ IsSound fetch = fetch.failed ≡ false
 pub sound_none : (past now : List Fetch) → now ≡ past → AreSound past now
 sound_none past now same = record { fetches = []; history = same; sound = All-nil IsSound }
 
--- with a fetch before that didn't fail, none of all fetches failed
+-- if a fetch didn't fail, and none after it did, none of all of them failed
 pub sound_on : (fetch : Fetch) (past now : List Fetch) → IsSound fetch → AreSound (fetch ∷ past) now → AreSound past now
 sound_on fetch past now one s = record {
   fetches = s.fetches ++ fetch ∷ [];

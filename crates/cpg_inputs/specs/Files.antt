@@ -21,7 +21,7 @@ pub record File : Type 0 where
 abbrev pub file : FileKind → Text → File
 file kind name = record { kind = kind; name = name }
 
--- the graph files of parts
+-- the graph files of parts, in the order of the words
 abbrev pub part_files : List Pair → List File
 part_files [] = []
 part_files (pair ∷ pairs) = file PartFile pair.graph ∷ part_files pairs
@@ -47,7 +47,7 @@ limit_of PackFile = PACK_LIMIT
 limit_of ScenarioFile = SCENARIO_LIMIT
 limit_of LogFile = LOG_LIMIT
 
--- the refusal of a file that gives more
+-- the refusal of a file that has more bytes
 abbrev pub long_of : FileKind → Refusal
 long_of GraphFile = LongGraph
 long_of PartFile = LongGraph

@@ -4,7 +4,7 @@ use Rattle.cpg_refusal.specs.declared.halt.Refusal.TheVariants.{BadLog}
 use Rattle.cpg_refusal.specs.declared.halt.Halt.{Halt}
 use Rattle.cpg_refusal.specs.declared.halt.Halt.TheVariants.{Refused, Memory}
 
--- the first bad line, or lack of memory
+-- the halt says what the log's fault says: the first bad line, or that memory ran out
 abbrev pub halt_of_log : LogFault → Halt
 halt_of_log (LogFault.Bad line) = Refused (BadLog line)
 halt_of_log LogFault.OutOfMemory = Memory

@@ -17,13 +17,13 @@ use Rattle.cpg_inputs.specs.Says.{Value, graph_value, tables_value, played_value
 use Rattle.cpg_inputs.specs.Reading.{Reads, StopsReading}
 use Rattle.cpg_inputs.specs.Shapes.{HavePeriods, part_values}
 
--- the command that reads a graph alone, by what it makes of it
+-- the command that makes this of a graph file, and reads nothing else
 abbrev pub command_with : Purpose → Text → Command
 command_with Purpose.Show graph = Show graph
 command_with Purpose.Compile graph = Compile graph
 command_with Purpose.Tune graph = Tune graph
 
--- inputs are those of a command whose files say the values
+-- these are the inputs of a command whose files say these values; they keep the words that name no file read before
 abbrev pub AreInputs : Command → List Value → Inputs → Type 0
 AreInputs command values (Inputs.Graph a purpose) =
     (graph : Text) × (command ≡ command_with purpose graph) × (values ≡ graph_value a ∷ [])
@@ -42,20 +42,21 @@ AreInputs command values (Inputs.Hyper parts) =
     (pairs : List Pair) × (command ≡ Hyper pairs) × (values ≡ part_values parts) × HavePeriods pairs parts
 AreInputs command values (Inputs.Trial number) = (command ≡ Trial number) × (values ≡ [])
 
--- the files of a command were read, and the inputs are what they say
+-- the files of a command were read from one history to a later one, and the inputs are what they say
 pub record HasInputs (command : Command) (past now : List Fetch) (inputs : Inputs) : Type 0 where
   -- what the files say, in the order in which the command reads them
   pub values : List Value
+  -- the fetches from the one history to the other are those of its files, in order, and give the values
   pub reads : Reads None (files_of command) past now values
   -- the inputs are made of these
   pub are : AreInputs command values inputs
 
--- the answer when a command's files are read
+-- the result of reading a command's files: inputs if all were read, or the halt by the file that stopped the run
 abbrev pub ReadsInputs : Command → ShelfState → ShelfState → Result Inputs Halt → Type 0
 ReadsInputs command old new (Ok inputs) = HasInputs command old.history new.history inputs
 ReadsInputs command old new (Err halt) = StopsReading None (files_of command) old.history new.history halt
 
--- the scenario that is played, or the log that is audited, fits the graph
+-- the scenario that is to be played, or the log that is to be audited, fits the graph; other inputs have neither
 abbrev pub AreFit : Inputs → Type 0
 AreFit (Inputs.Play a t p turns) = IsPlayed a.graph p
 AreFit (Inputs.Audit a t l) = IsLog a.graph l

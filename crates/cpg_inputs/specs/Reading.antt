@@ -1,6 +1,5 @@
--- What a run has read: its files one after another, each fetched once, in the order of the words. A history is that of
--- a shelf:
--- its fetches, the newest first.
+-- What a run has read: its files one after another, each fetched once, in the order of the words. A shelf's history is
+-- all its fetches, the newest first.
 use Rattle.std.specs.Prelude.{◌≡◌, ◌≤◌, ◌+◌, ◌⊎◌, true, false, All, List, [], ◌∷◌, ◌++◌, Option, length}
 use Rattle.cpg_base.specs.Graph.{Graph}
 use Rattle.cpg_history.specs.Fetch.{Fetch}
@@ -16,18 +15,22 @@ pub record IsFetchOf (file : File) (fetch : Fetch) : Type 0 where
 -- the fetch gave the whole file, within its limit
 pub record IsWhole (file : File) (fetch : Fetch) : Type 0 where
   pub named : fetch.name ≡ file.name
+  -- it came to the end of the file
   pub ended : fetch.ended ≡ true
+  -- the shelf met no fault in it
   pub sound : fetch.failed ≡ false
+  -- it has no more bytes than a file of its kind may have
   pub short : length fetch.given ≤ limit_of file.kind
 
--- the fetch gave the whole file, and its bytes say the value
+-- the fetch gave the whole file, and its bytes say the value; `g` is the graph that was read before, if any
 pub record IsRead (g : Option Graph) (file : File) (fetch : Fetch) (value : Value) : Type 0 where
   pub whole : IsWhole file fetch
   pub says : Says g file.kind fetch.given value
 
--- the shelf failed while the file was fetched or read, before it gave more than the limit
+-- the shelf failed in fetching or reading the file, before it gave more than the limit
 pub record IsUnread (file : File) (fetch : Fetch) (halt : Halt) : Type 0 where
   pub of : IsFetchOf file fetch
+  -- it gave no more bytes than the limit
   pub few : length fetch.given ≤ limit_of file.kind
   pub failed : fetch.failed ≡ true
   pub halt_is : halt ≡ Read
@@ -36,27 +39,30 @@ pub record IsUnread (file : File) (fetch : Fetch) (halt : Halt) : Type 0 where
 pub record IsLong (file : File) (fetch : Fetch) (halt : Halt) : Type 0 where
   pub of : IsFetchOf file fetch
   pub sound : fetch.failed ≡ false
+  -- one byte more than the limit shows that the file is too long
   pub over : length fetch.given ≡ limit_of file.kind + 1
   pub halt_is : halt ≡ Refused (long_of file.kind)
 
--- the file was read whole, and its bytes are rejected
+-- the file was read whole, and its bytes are rejected for this halt
 pub record IsRefused (g : Option Graph) (file : File) (fetch : Fetch) (halt : Halt) : Type 0 where
   pub whole : IsWhole file fetch
+  -- read as a file of its kind, the bytes give this halt
   pub refuses : Refuses g file.kind fetch.given halt
 
--- memory ran out: the shelf met no fault, and gave at most a byte more than the limit
+-- memory ran out in reading the file; the shelf met no fault, and gave at most a byte more than the limit
 pub record IsWanting (file : File) (fetch : Fetch) (halt : Halt) : Type 0 where
   pub of : IsFetchOf file fetch
   pub sound : fetch.failed ≡ false
   pub few : length fetch.given ≤ limit_of file.kind + 1
   pub halt_is : halt ≡ Memory
 
--- a file stops a run
+-- a file stops a run with this halt: the shelf failed, it is too long or rejected, or memory ran out
 abbrev pub StopsAt : Option Graph → File → Fetch → Halt → Type 0
 StopsAt g file fetch halt =
     IsUnread file fetch halt ⊎ (IsLong file fetch halt ⊎ (IsRefused g file fetch halt ⊎ IsWanting file fetch halt))
 
--- all files were read, in order, and say these values; nothing else was fetched
+-- all files were read, in order, and say these values; nothing else was fetched. `past` and `now` are the histories
+-- before and after, and `g` is the graph that was read before, if any.
 abbrev pub Reads : Option Graph → List File → List Fetch → List Fetch → List Value → Type 0
 Reads g [] past now [] = now ≡ past
 Reads g [] past now (value ∷ values) = ⊥
@@ -64,7 +70,7 @@ Reads g (file ∷ files) past now [] = ⊥
 Reads g (file ∷ files) past now (value ∷ values) =
     (fetch : Fetch) × IsRead g file fetch value × Reads (graph_after g value) files (fetch ∷ past) now values
 
--- a file stops the run: every earlier file was read, and none was fetched after it
+-- one of the files stops the run with this halt: every earlier file was read, and none was fetched after it
 abbrev pub StopsReading : Option Graph → List File → List Fetch → List Fetch → Halt → Type 0
 StopsReading g [] past now halt = ⊥
 StopsReading g (file ∷ files) past now halt = (fetch : Fetch)
@@ -73,6 +79,7 @@ StopsReading g (file ∷ files) past now halt = (fetch : Fetch)
 
 -- from one history to a later one none of the fetches failed
 pub record AreSound (past now : List Fetch) : Type 0 where
+  -- the fetches between the two histories, the newest first
   pub fetches : List Fetch
   pub history : now ≡ fetches ++ past
   pub sound : All (λ fetch. fetch.failed ≡ false) fetches

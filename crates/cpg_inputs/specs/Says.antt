@@ -23,7 +23,7 @@ use Rattle.cpg_refusal.specs.Halts.{halt_of_reading, halt_of_rules, halt_of_scen
 use Rattle.cpg_inputs.specs.declared.kind.FileKind.{FileKind}
 use Rattle.cpg_inputs.specs.declared.kind.FileKind.TheVariants.{GraphFile, PartFile, PackFile, ScenarioFile, LogFile}
 
--- what a file says
+-- what a file says: an admitted graph, a part's graph, the tables of a pack, a scenario with lengths, or a log
 pub data Value : Type 0 where
   graph_value : Admission → Value
   part_value : Graph → Value
@@ -31,7 +31,7 @@ pub data Value : Type 0 where
   played_value : Played → Value
   log_value : Log → Value
 
--- the graph that the next files belong to
+-- the graph that later files are read for: an admitted one once it is read; nothing else changes it
 abbrev pub graph_after : Option Graph → Value → Option Graph
 graph_after g (graph_value a) = Some a.graph
 graph_after g (part_value h) = g
@@ -41,25 +41,32 @@ graph_after g (log_value l) = g
 
 -- the bytes say a graph that keeps all rules, with its urgency order and its guards
 pub record AreAdmitted (bytes : Text) (a : Admission) : Type 0 where
+  -- the bytes say its graph
   pub says : problem_of bytes ≡ Ok a.graph
+  -- which keeps all rules, with this order and these guards
   pub admitted : IsAdmitted a.graph a.order a.guards
 
 -- the bytes spell tables
 pub record AreSpelled (bytes : Text) (t : Tables) : Type 0 where
   pub spelled : bytes ≡ spelling t
+  -- their head allows each row
   pub lawful : AreLawful t
 
--- the bytes say a scenario of the graph, and lengths of executions
+-- the bytes say a scenario of the graph, with lengths of its executions
 pub record ArePlayed (bytes : Text) (g : Graph) (p : Played) : Type 0 where
   pub says : file_of g bytes ≡ Ok p
+  -- the scenario is one of the graph, and the lengths are possible in it
   pub lawful : IsPlayed g p
 
 -- the bytes are a log of the graph
 pub record AreLogged (bytes : Text) (g : Graph) (log : Log) : Type 0 where
+  -- its lines spell this log
   pub says : IsLogOf g bytes log
+  -- and the graph allows the log
   pub lawful : IsLog g log
 
--- the bytes of a file of this kind say a value; `g` is the graph that was read before, if any
+-- The bytes of a file of this kind say a value; `g` is the graph that was read before, if any. Without it a scenario
+-- file or a log says nothing.
 abbrev pub Says : Option Graph → FileKind → Text → Value → Type 0
 Says g GraphFile bytes value = (a : Admission) × (value ≡ graph_value a) × AreAdmitted bytes a
 Says g PartFile bytes value = (h : Graph) × (value ≡ part_value h) × (problem_of bytes ≡ Ok h)
@@ -75,13 +82,14 @@ pub record AreFaulty (bytes : Text) (halt : Halt) : Type 0 where
   pub first : problem_of bytes ≡ Err fault
   pub halt_is : halt ≡ halt_of_reading fault
 
--- the graph breaks a rule, and this is the first that it breaks
+-- the graph breaks a rule of graphs, and the halt says the first; or memory ran out
 pub record BreaksRule (g : Graph) (halt : Halt) : Type 0 where
   pub fault : RuleFault
+  -- the graph has this fault and keeps the rules before it, or memory ran out
   pub shows : ShowsFault g fault
   pub halt_is : halt ≡ halt_of_rules g fault
 
--- the bytes say a graph that isn't admitted
+-- the bytes say a graph that isn't admitted, for a broken rule or since memory ran out
 pub record AreOfNone (bytes : Text) (halt : Halt) : Type 0 where
   pub graph : Graph
   pub says : problem_of bytes ≡ Ok graph
@@ -89,6 +97,7 @@ pub record AreOfNone (bytes : Text) (halt : Halt) : Type 0 where
 
 -- the bytes are no pack from this place on
 pub record AreNoPack (bytes : Text) (halt : Halt) : Type 0 where
+  -- how many of the bytes, at most, some pack begins with
   pub length : ℕ
   pub bad : IsBadPack bytes length
   pub halt_is : halt ≡ Refused (BadPack length)
@@ -101,11 +110,13 @@ pub record AreNoScenario (bytes : Text) (g : Graph) (halt : Halt) : Type 0 where
 
 -- the bytes are no log of the graph, and this is the first line to blame
 pub record AreNoLog (bytes : Text) (g : Graph) (halt : Halt) : Type 0 where
+  -- the first line to blame
   pub line : ℕ
   pub bad : IsBadLine g (lines bytes) line
   pub halt_is : halt ≡ Refused (BadLog line)
 
--- a file of this kind is rejected because of its bytes
+-- A file of this kind is rejected for its bytes, with this halt, or memory ran out as a graph was admitted; `g` is the
+-- graph that was read before, if any. Without it a scenario file or a log isn't read.
 abbrev pub Refuses : Option Graph → FileKind → Text → Halt → Type 0
 Refuses g GraphFile bytes halt = AreFaulty bytes halt ⊎ AreOfNone bytes halt
 Refuses g PartFile bytes halt = AreFaulty bytes halt

@@ -1,5 +1,4 @@
--- What the files of a command say, by their shape. A fact holds of the graph, of the tables, of both, or also of the
--- third file.
+-- Facts about what the files of a command say, by which files these are.
 use Rattle.std.specs.Prelude.{◌≡◌, List, [], ◌∷◌, ⊤}
 use Rattle.cpg_words.specs.declared.command.Pair.{Pair}
 use Rattle.cpg_rules.specs.Admission.{Admission}
@@ -31,12 +30,12 @@ abbrev pub OnLogged : List Value → (Admission → Tables → Log → Type 0) �
 OnLogged values Fact = (a : Admission) × (t : Tables) × (l : Log) ×
     (values ≡ graph_value a ∷ tables_value t ∷ log_value l ∷ []) × Fact a t l
 
--- the values of parts
+-- the values that the files of these parts say
 abbrev pub part_values : List Part → List Value
 part_values [] = []
 part_values (part ∷ parts) = part_value part.problem ∷ part_values parts
 
--- the parts have the periods that the words give
+-- there are as many parts as pairs of words, and they have the pairs' periods
 abbrev pub HavePeriods : List Pair → List Part → Type 0
 HavePeriods [] [] = ⊤
 HavePeriods [] (part ∷ parts) = ⊥

@@ -20,7 +20,8 @@ use cpg_scenario::{Played, read_scenario};
 use cpg_table::Tables;
 use std::alloc::Global;
 
-/// Reads a file whole.
+/// Returns the bytes of a whole file. A halt says that the shelf failed, that the file is too long for its kind, or
+/// that memory ran out.
 fn read_file<S: Shelf>(
     alloc: Global,
     shelf: &mut S,
@@ -41,7 +42,7 @@ fn read_file<S: Shelf>(
     }
 }
 
-/// Reads a part's graph, which isn't admitted.
+/// Returns the graph of a part's file, which isn't admitted. A halt says why the file can't be read or is rejected.
 pub fn read_part<S: Shelf>(alloc: Global, shelf: &mut S, name: &str) -> Result<Problem, Halt>
     requires { S.may_fetch shelf.old name.now }
     ensures keeps { KeepsShelf (S.state shelf.old) (S.state shelf.new) }
@@ -56,7 +57,8 @@ pub fn read_part<S: Shelf>(alloc: Global, shelf: &mut S, name: &str) -> Result<P
     }
 }
 
-/// The admitted graph that the bytes say.
+/// Returns the graph that the bytes say, as it is admitted. A halt says why they say none, which rule it breaks first,
+/// or that memory ran out.
 fn admitted_graph(alloc: Global, bytes: &[u8]) -> Result<Admitted, Halt>
     ensures graph { IfOk result (AreAdmitted bytes.now) }
     ensures halt { IfErr result (RefusesGraph bytes.now) }
@@ -71,7 +73,7 @@ fn admitted_graph(alloc: Global, bytes: &[u8]) -> Result<Admitted, Halt>
     }
 }
 
-/// Reads a graph and admits it.
+/// Returns the graph of a file, as it is admitted. A halt says why the file can't be read or is rejected.
 pub fn read_graph<S: Shelf>(alloc: Global, shelf: &mut S, name: &str) -> Result<Admitted, Halt>
     requires { S.may_fetch shelf.old name.now }
     ensures keeps { KeepsShelf (S.state shelf.old) (S.state shelf.new) }
@@ -85,7 +87,7 @@ pub fn read_graph<S: Shelf>(alloc: Global, shelf: &mut S, name: &str) -> Result<
     Ok(admitted)
 }
 
-/// Reads the tables of a pack.
+/// Returns the tables of a pack. A halt says why the file can't be read or is rejected.
 pub fn read_tables<S: Shelf>(alloc: Global, shelf: &mut S, name: &str) -> Result<Tables, Halt>
     requires { S.may_fetch shelf.old name.now }
     ensures keeps { KeepsShelf (S.state shelf.old) (S.state shelf.new) }
@@ -101,7 +103,8 @@ pub fn read_tables<S: Shelf>(alloc: Global, shelf: &mut S, name: &str) -> Result
     }
 }
 
-/// Reads a scenario file of a graph.
+/// Returns the scenario and the lengths that a file says for a graph. A halt says why the file can't be read or is
+/// rejected.
 pub fn read_played<S: Shelf>(
     alloc: Global,
     shelf: &mut S,
@@ -122,7 +125,7 @@ pub fn read_played<S: Shelf>(
     }
 }
 
-/// Reads a log of a graph.
+/// Returns the log that a file says for a graph. A halt says why the file can't be read or is rejected.
 pub fn read_acts<S: Shelf>(
     alloc: Global,
     shelf: &mut S,

@@ -7,7 +7,7 @@ use cpg_scenario::Played;
 use cpg_table::Tables;
 use cpg_words::Word;
 
-/// What a command makes of a graph if it reads nothing else.
+/// What a command makes of a graph, if it reads a graph alone.
 #[derive(Clone, Copy, Debug, PartialEq, Eq)]
 pub enum Purpose {
     /// The text of its tables.
@@ -21,32 +21,32 @@ pub enum Purpose {
 /// What a command asks for, with what its files say in place of their names.
 #[derive(Drop)]
 pub enum Inputs {
-    /// What is made of a graph alone.
+    /// For `show`, `compile` and `tune`: a graph alone.
     Graph {
         /// The graph.
         graph: Admitted,
         /// What is made of it.
         purpose: Purpose,
     },
-    /// The check of tables for a graph.
+    /// For `check`: tables to be judged for a graph.
     Check {
         /// The graph.
         graph: Admitted,
         /// Tables, of this graph or another.
         tables: Tables,
     },
-    /// The play of tables of a graph.
+    /// For `play`: tables to be judged for a graph and played.
     Play {
         /// The graph.
         graph: Admitted,
         /// Tables, of this graph or another.
         tables: Tables,
-        /// What happens in the play.
+        /// The scenario and the lengths of the play's executions.
         played: Played,
         /// The number that fixes the order of the nodes' turns.
         turns: u64,
     },
-    /// The audit of a log by tables of a graph.
+    /// For `audit`: tables to be judged for a graph, and a log to be audited by them.
     Audit {
         /// The graph.
         graph: Admitted,
@@ -55,24 +55,24 @@ pub enum Inputs {
         /// What the nodes of the graph did.
         log: Log,
     },
-    /// The table of a node.
+    /// For `node`: the table of a node.
     Node {
         /// The tables of all nodes.
         tables: Tables,
         /// A node's name.
         name: Word,
     },
-    /// What a node does as it follows a stream.
+    /// For `live`: a node that is to follow a stream.
     Live {
         /// The tables of all nodes.
         tables: Tables,
         /// A node's name.
         name: Word,
-        /// The file of the node's records.
+        /// The name of the file with the node's records.
         stream: Word,
     },
-    /// The graph of several periods.
+    /// For `hyper`: the parts of a graph of several periods.
     Hyper(Parts),
-    /// The trial of a number.
+    /// For `trial`: its number.
     Trial(u64),
 }

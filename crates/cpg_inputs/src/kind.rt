@@ -1,19 +1,19 @@
-//! Kinds of files.
+//! The kinds of files that a command reads, and their limits.
 ghost use Rattle.std.specs.Prelude.{◌≡◌};
 ghost use Rattle.cpg_inputs.specs.Files.{limit_of, long_of};
 
 use cpg_refusal::Refusal;
 
-/// The most bytes of a graph file.
+/// The most bytes of a graph file: 2^24.
 const GRAPH_LIMIT: usize = 16_777_216;
 
-/// The most bytes of a scenario file.
+/// The most bytes of a scenario file: 2^24.
 const SCENARIO_LIMIT: usize = 16_777_216;
 
-/// The most bytes of a log.
+/// The most bytes of a log: 2^24.
 const LOG_LIMIT: usize = 16_777_216;
 
-/// The most bytes of a pack.
+/// The most bytes of a pack: 2^28.
 const PACK_LIMIT: usize = 268_435_456;
 
 /// What a file is read as.
@@ -32,7 +32,7 @@ pub enum FileKind {
 }
 
 impl FileKind {
-    /// The most bytes of such a file.
+    /// Returns the most bytes that a file of this kind may have.
     pub(crate) fn limit(self) -> usize
         ensures { result ≡ limit_of self }
     {
@@ -45,7 +45,7 @@ impl FileKind {
         }
     }
 
-    /// The refusal of a file that is longer.
+    /// Returns the refusal of a file of this kind that has more bytes than its limit.
     pub fn long(self) -> Refusal
         ensures { result ≡ long_of self }
     {
@@ -59,7 +59,7 @@ impl FileKind {
     }
 }
 
-/// The limits of files, in bytes.
+/// States the limits of files, in bytes, in its contract.
 pub fn limits_are_these()
     ensures graph { GRAPH_LIMIT ≡ 16777216 }
     ensures scenario { SCENARIO_LIMIT ≡ 16777216 }

@@ -4,9 +4,10 @@ ghost use Rattle.std.specs.Prelude.{◌≡◌, ◌<◌, ◌≤◌, length};
 use cpg_hyper::Part;
 use std::marker::Model;
 
-/// One to four parts, in the order of the words. Their graphs aren't admitted.
+/// One to four parts, in the order of the words, each a graph with a period. Their graphs aren't admitted.
 #[derive(Drop)]
 pub struct Parts {
+    // between one and four of them
     parts: Vec<Part>,
 }
 
@@ -22,7 +23,7 @@ impl Model for Parts {
 }
 
 impl Parts {
-    /// Takes one to four parts.
+    /// Makes one to four parts of a list.
     pub(crate) fn new(parts: Vec<Part>) -> Parts
         requires some { 0 < length parts.items }
         requires few { length parts.items ≤ 4 }
@@ -31,7 +32,7 @@ impl Parts {
         Parts { parts }
     }
 
-    /// The parts.
+    /// Returns the list of the parts.
     pub fn as_slice(&self) -> &[Part]
         ensures parts { result.now ≡ self.now }
         ensures some { 0 < length self.now }

@@ -1,4 +1,4 @@
--- What calls of a shelf gave agrees with what stands under the fetched names.
+-- What calls of a shelf gave agrees with what stands under the fetched names, if the shelf reports that.
 use Rattle.std.proofs.Common.{get_or, ℕ, zero, suc, ◌≡◌, ◌<◌, ◌∙◌, ◌||◌, Bool, true, false, true≢false, List, [], ◌∷◌}
 use Rattle.std.proofs.Common.{◌++◌, All, Option, Some, None, IfSome, append_assoc, arith, ap, length, refl}
 use Rattle.std.proofs.Common.{subst, sym, take}
@@ -11,7 +11,7 @@ use Rattle.cpg_io.specs.Agreement.{Agrees, AreFetched, IsFrontOf, IsLeft, IsRest
 use Rattle.cpg_io.specs.Shelf.{HasGiven, SameNames, StartsAt, opened}
 use Rattle.cpg_io.specs.State.{ShelfState}
 
--- a fact of the bytes that stand under a name, if any do, gives another one
+-- if one fact of the bytes gives another, it does so under "if the shelf reports the bytes"
 on_some : (told : Option (List ℕ)) (P Q : List ℕ → Type 0) → ((whole : List ℕ) → P whole → Q whole) → IfSome told P →
     IfSome told Q
 on_some None P Q f p = tt
@@ -19,23 +19,23 @@ on_some (Some whole) P Q f p = f whole p
 
 -- ---- a read
 
--- if nothing is left, nothing was left after a piece, either
+-- if nothing is left before a piece is given, nothing is left after it
 none_left : (piece rest : List ℕ) → [] ≡ piece ++ rest → rest ≡ []
 none_left [] rest e = sym e
 none_left (x ∷ xs) rest e = absurd (cc e)
 
--- a read into a buffer of some size that gives no byte read none
+-- if the first n bytes of a buffer that isn't empty are none, n is 0
 none_read : (n : ℕ) (buf : List ℕ) → 0 < length buf → is_none (take n buf) ≡ true → n ≡ 0
 none_read zero buf some e = refl
 none_read (suc n) [] some e = absurd (omega (arith, some))
 none_read (suc n) (b ∷ bs) some e = absurd (true≢false (sym e))
 
--- what follows from each of two tests follows from either
+-- what follows from each of two tests follows if one of them passes
 either_end : (a b : Bool) (P : Type 0) → (a ≡ true → P) → (b ≡ true → P) → (a || b) ≡ true → P
 either_end true b P f g e = f refl
 either_end false b P f g e = g e
 
--- after one more piece the file is still at its end
+-- if a file is at its end, it is so after one more piece, which can only be empty
 end_on : (whole given piece : List ℕ) (left rest : Option (List ℕ)) → Consumes (Some whole) left given →
     Consumes left rest piece → IsAtEnd left → IsAtEnd rest
 end_on whole given piece None rest came more end = absurd came
@@ -50,7 +50,8 @@ end_kept whole given (Some ys) None came kept end = absurd kept
 end_kept whole given (Some ys) (Some zs) came kept end = kept ∙ end
 
 module _ (old new : ShelfState) (names : SameNames old new) where
-  -- once a piece is given, the rest that is left belongs to the newest fetch
+  -- A piece is given: what is left is the rest of the newest fetch again. The bytes that it has given and the piece are a
+  -- longer prefix, and it is at its end if the piece is empty or it was so before.
   gave_rest : (past : List Fetch) (piece : List ℕ) → Consumes old.left new.left piece →
       (is_none piece ≡ true → IsAtEnd new.left) → IsRestLeft old past →
       IsRestLeft new (gave piece past)
@@ -66,7 +67,7 @@ module _ (old new : ShelfState) (names : SameNames old new) where
             (λ e. end_on whole f.given piece old.left new.left l.came more (l.end e));
       }) r)
 
-  -- if a read failed, the rest that was left is still left
+  -- A read failed: the newest fetch is only marked, nothing was taken of what is left, so that is still its rest.
   failed_rest : (past : List Fetch) → Keeps old.left new.left → IsRestLeft old past → IsRestLeft new (failed past)
   failed_rest [] kept r = tt
   failed_rest (f ∷ past) kept r =
@@ -78,7 +79,7 @@ module _ (old new : ShelfState) (names : SameNames old new) where
         end = λ e. end_kept whole f.given old.left new.left l.came kept (l.end e);
       }) r)
 
-  -- if the rest of the fetched bytes was left before a read, it is left after it
+  -- if what is left is the rest of the newest fetch before a read, it is so after it, whether it gave a piece or failed
   pub read_rest : {E : Type 0} (result : Result ℕ E) (buf : List ℕ) → 0 < length buf →
       HasGiven old.history new.history result buf → ReadConsumes old.left new.left result buf →
       LeavesRest old →
@@ -98,7 +99,7 @@ module _ (old new : ShelfState) (names : SameNames old new) where
     end = λ e. absurd (true≢false (sym e ∙ unended));
   }
 
-  -- after a fetch, all bytes of the name are left
+  -- after a fetch that didn't fail what is left is the rest of it, as it has given nothing yet
   pub fetch_rest : (name : List ℕ) → new.history ≡ opened name false old.history → StartsAt (old.stands name) new.left →
       LeavesRest new
   fetch_rest name is s =
@@ -108,12 +109,12 @@ module _ (old new : ShelfState) (names : SameNames old new) where
 
   -- ---- what was fetched
 
-  -- what a fetch gave and what is left of it are the bytes of the name
+  -- if what is left is the rest of a fetch, it gave a prefix of the bytes, and all of them if it came to the end
   front_of : (whole : List ℕ) (left : Option (List ℕ)) (f : Fetch) → IsLeft whole left f → IsFrontOf whole f
   front_of whole None f l = absurd l.came
   front_of whole (Some rest) f l = record { rest = rest; front = l.came; all = l.end }
 
-  -- a fetch of which the rest is left gave the first bytes of its name
+  -- one new fetch whose rest is left agrees with what stands under its name
   pub fetched_one : (f : Fetch) → new.history ≡ f ∷ old.history → LeavesRest new → AreFetched old new
   fetched_one f is r =
       let told : IfSome (new.stands f.name) (λ whole. IsLeft whole new.left f) = subst (IsRestLeft new) is r in
@@ -125,7 +126,7 @@ module _ (old new : ShelfState) (names : SameNames old new) where
         agree = All-cons (Agrees old.stands) f [] agrees (All-nil (Agrees old.stands));
       }
 
-  -- what was fetched in two steps was fetched in both together
+  -- if all new fetches agree in each of two steps, they do in both together
   pub fetched_on : (last : ShelfState) → AreFetched old new → AreFetched new last → AreFetched old last
   fetched_on last x y = record {
     fetches = y.fetches ++ x.fetches;
@@ -135,7 +136,7 @@ module _ (old new : ShelfState) (names : SameNames old new) where
         (names (get_or y.fetches i d).name) (y.agree i d lt)) x.agree;
   }
 
--- a fetch that has given nothing gave the front of any bytes
+-- a fetch that has given nothing and hasn't come to the end gave a prefix of any bytes
 unfetched : (told : Option (List ℕ)) (f : Fetch) → f.given ≡ [] → f.ended ≡ false →
     IfSome told (λ whole. IsFrontOf whole f)
 unfetched None f none unended = tt
@@ -145,7 +146,7 @@ unfetched (Some whole) f none unended = record {
   all = λ e. absurd (true≢false (sym e ∙ unended));
 }
 
--- a fetch that failed gave nothing
+-- one new fetch that failed agrees with whatever stands under its name, as it gave nothing
 pub fetched_none : (old new : ShelfState) (name : List ℕ) → new.history ≡ opened name true old.history →
     AreFetched old new
 fetched_none old new name is =

@@ -10,7 +10,7 @@ use Rattle.cpg_io.specs.Reading.{GivesPiece, ReadsOn}
 use Rattle.cpg_io.specs.declared.reading.ReadAll.{ReadAll}
 use Rattle.cpg_io.specs.declared.reading.ReadAll.TheVariants.{Failed, TooLong, OutOfMemory}
 
--- a piece that is given belongs to the newest fetch, so there is still one fetch before the past
+-- if the history `mid` has one fetch before the past, so has the history after a piece, as the piece belongs to that fetch
 gave_more : (piece : List ℕ) (past now mid : List Fetch) (f : Fetch) → mid ≡ f ∷ past → now ≡ gave piece mid →
     (one : Fetch) × (now ≡ one ∷ past)
 gave_more piece past now mid f is more = (
@@ -18,7 +18,8 @@ gave_more piece past now mid f is more = (
   more ∙ ap (gave piece) is,
 )
 
--- after a piece is read, the history still has one fetch more than before the reading
+-- after a call of `read_piece` the history has the same one fetch more: by the result of the call, a piece was given in each
+-- case but `Failed`, which marks the fetch
 pub one_fetch : (limit : ℕ) (past now mid : List Fetch) (f : Fetch) → mid ≡ f ∷ past →
     (old new : List ℕ) (result : Result ℕ ReadAll) → GivesPiece limit mid now old new result → (one : Fetch) ×
     (now ≡ one ∷ past)

@@ -1,4 +1,4 @@
--- What stands under a name, by the place of the first file with the name.
+-- What stands under a name in a list of files: the bytes of the first file with the name.
 use Rattle.std.proofs.Common.{◌≡◌, ◌≢◌, ℕ, suc, zero, ◌+◌, ◌<◌, Bool, true, false, cond, List, [], ◌∷◌, ◌++◌, Option}
 use Rattle.std.proofs.Common.{Some, None, length, get_or, arith, refl, sym, ap, ◌∙◌}
 use Rattle.std.specs.Prelude.{position, slice_set, is_some, MatchBool}
@@ -11,13 +11,13 @@ use Rattle.cpg_io.specs.MemoryShelf.{File, stands_in, bytes_at, is_named, PutsUn
 
 -- ---- a place where the first file with the name stands
 
--- the file at the place has the name, and none before it
+-- the file at the place has the name, and no file before it does; d is the default of `get_or`, which isn't used
 pub record IsFirst (name : List ℕ) (files : List File) (place : ℕ) (d : File) : Type 0 where
   pub within : place < length files
   pub named : is_named name (get_or files place d) ≡ true
   pub before : (k : ℕ) → k < place → is_named name (get_or files k d) ≡ false
 
--- a first place that isn't the first file's is one of the other files
+-- if the first file with the name isn't the first of all, it is the first with the name of the files behind
 IsFirst-rest : (name : List ℕ) (file : File) (files : List File) (place : ℕ) (d : File) →
     IsFirst name (file ∷ files) (suc place) d →
     IsFirst name files place d
@@ -45,7 +45,7 @@ stands_in-named : (name : List ℕ) (file : File) (files : List File) → is_nam
     stands_in (file ∷ files) name ≡ Some file.bytes
 stands_in-named name file files on = rw on refl
 
--- the bytes of the first file with the name stand under the name
+-- the bytes of the first file with the name stand under the name: by induction on the files, those before are passed over
 pub stands_in-first : (name : List ℕ) (files : List File) (place : ℕ) (d : File) → IsFirst name files place d →
     stands_in files name ≡ Some (get_or files place d).bytes
 stands_in-first name [] place d h = absurd (omega (arith, h.within))
@@ -54,7 +54,7 @@ stands_in-first name (file ∷ files) (suc place) d h =
     stands_in-passed name file files (h.before 0 (omega arith))
     ∙ stands_in-first name files place d (IsFirst-rest name file files place d h)
 
--- new bytes for the first file with the name stand under it
+-- if the first file with the name is replaced by one with the name, that one's bytes stand under it: by induction on the files
 stands_in-set : (name : List ℕ) (files : List File) (place : ℕ) (d file : File) → IsFirst name files place d →
     is_named name file ≡ true →
     stands_in (slice_set files place file) name ≡ Some file.bytes
@@ -64,7 +64,7 @@ stands_in-set name (old ∷ files) (suc place) d file h on =
     stands_in-passed name old (slice_set files place file) (h.before 0 (omega arith))
     ∙ stands_in-set name files place d file (IsFirst-rest name old files place d h) on
 
--- what stands under other names stays
+-- if a file is replaced, what stands under a name stays that neither the old nor the new file has: by induction on the files
 stands_in-set_other : (other : List ℕ) (files : List File) (place : ℕ) (d file : File) →
     is_named other (get_or files place d) ≡ false →
     is_named other file ≡ false →
@@ -77,12 +77,12 @@ stands_in-set_other other (x ∷ files) (suc place) d file old new =
 
 -- ---- no place
 
--- nothing is found if the first element doesn't pass and nothing is found in the rest
+-- if nothing is found in a list, its first element doesn't pass, and nothing is found in the rest
 none_rest : (b : Bool) (i : ℕ) (rest : Option ℕ) → cond b (Some i) rest ≡ None → (b ≡ false) × (rest ≡ None)
 none_rest true i rest h = absurd (cc h)
 none_rest false i rest h = (refl, h)
 
--- if no file has the name, nothing stands under it
+-- a search that counts from i on and finds no place meets no file with the name: by induction on the files
 none_from : (name : List ℕ) (files : List File) (i : ℕ) → position_from (is_named name) i files ≡ None →
     stands_in files name ≡ None
 none_from name [] i h = refl
@@ -95,20 +95,21 @@ pub stands_in-no_place : (name : List ℕ) (files : List File) → position (is_
     stands_in files name ≡ None
 stands_in-no_place name files h = none_from name files 0 (sym (position_from-zero (is_named name) files) ∙ h)
 
--- a file that is passed over changes nothing
+-- a step of the next lemma: the first file doesn't have the name, so what holds of the rest holds of all
 none_passed : (b : Bool) (bytes : List ℕ) (rest longer goal : Option (List ℕ)) → (rest ≡ None → longer ≡ goal) →
     cond b (Some bytes) rest ≡ None →
     cond b (Some bytes) longer ≡ goal
 none_passed true bytes rest longer goal f h = absurd (cc h)
 none_passed false bytes rest longer goal f h = f h
 
--- a file that is added at the end is found if no other one has its name
+-- if nothing stands under a name, what stands there after a file is added is what that file puts there: by induction on the
+-- files
 stands_in-push : (name : List ℕ) (files : List File) (file : File) → stands_in files name ≡ None →
     stands_in (files ++ file ∷ []) name ≡ stands_in (file ∷ []) name
 stands_in-push name [] file h = refl
 stands_in-push name (x ∷ files) file h = none_passed (is_named name x) x.bytes _ _ _ (stands_in-push name files file) h
 
--- a file that is added leaves what stands under other names
+-- a file that is added at the end leaves what stands under a name that it doesn't have: by induction on the files
 stands_in-push_other : (other : List ℕ) (files : List File) (file : File) → is_named other file ≡ false →
     stands_in (files ++ file ∷ []) other ≡ stands_in files other
 stands_in-push_other other [] file off = stands_in-passed other file [] off
@@ -121,12 +122,13 @@ stands_in-push_other other (x ∷ files) file off =
 is_named-own : (file : File) (name : List ℕ) → file.name ≡ name → is_named name file ≡ true
 is_named-own file name same = (bytes_eq-Decides file.name name).1 same
 
--- and by no other one
+-- a file isn't named by any other name than its own
 is_named-other : (file : File) (name other : List ℕ) → file.name ≡ name → other ≢ name → is_named other file ≡ false
 is_named-other file name other same differs =
     false_from_ne_true _ (λ on. differs (sym ((bytes_eq-Decides file.name other).0 on) ∙ same))
 
--- setting the bytes of the first file with the name puts them under the name
+-- Setting the bytes of the first file with the name puts them under the name. The file keeps its name, so it changes nothing
+-- under other names.
 pub PutsUnder-set : (name : List ℕ) (files : List File) (place : ℕ) (d old : File) (bytes : List ℕ) →
     position (is_named name) files ≡ Some place →
     old ≡ get_or files place d

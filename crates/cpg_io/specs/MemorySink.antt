@@ -1,13 +1,16 @@
--- A sink in memory: the bytes that it took, how many it takes altogether, and its count of faults.
+-- What contracts see of a sink in memory.
 use Rattle.std.specs.Prelude.{ℕ, List}
 use Rattle.cpg_io.specs.State.{SinkState}
 
--- the bytes that were taken, how many there is room for, and the faults
+-- a sink in memory
 pub record MemorySinkState : Type 0 where
+  -- the bytes that it took
   pub taken : List ℕ
+  -- how many bytes it takes altogether
   pub room : ℕ
+  -- the count of faults
   pub faults : ℕ
 
--- the sink's state, without its room
+-- what the sink reports as a `Sink`
 abbrev pub sink_of : MemorySinkState → SinkState
 sink_of s = record { taken = s.taken; faults = s.faults }

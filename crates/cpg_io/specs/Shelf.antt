@@ -6,7 +6,7 @@ use Rattle.cpg_io.specs.Agreement.{AreFetched}
 use Rattle.cpg_io.specs.Causes.{Rose}
 use Rattle.cpg_io.specs.State.{ShelfState}
 
--- after a fetch, all bytes that the shelf reports for the name are left to read
+-- after a fetch all bytes that stand under the name are left to read, if the shelf reports them
 abbrev pub StartsAt : Option (List ℕ) → Option (List ℕ) → Type 0
 StartsAt None left = ⊤
 StartsAt (Some bytes) left = left ≡ Some bytes
@@ -19,19 +19,22 @@ SameNames old new = (name : List ℕ) → new.stands name ≡ old.stands name
 abbrev pub SameAccess : (List ℕ → Type 0) → (List ℕ → Type 0) → Type 0
 SameAccess old new = (name : List ℕ) → old name ↔ new name
 
--- the history after a name was fetched, before any bytes were given
+-- the history after a fetch, which failed or not, before any bytes were given
 abbrev pub opened : List ℕ → Bool → List Fetch → List Fetch
 opened name fails past = record { name = name; given = []; ended = false; failed = fails } ∷ past
 
--- a read gave the first bytes of the buffer, or it failed
+-- the history after a read: it gave the first n bytes of the buffer, or it failed
 abbrev pub HasGiven : {E : Type 0} → List Fetch → List Fetch → Result ℕ E → List ℕ → Type 0
 HasGiven old new result buf = MatchResult result (λ n. new ≡ gave (take n buf) old) (λ _. new ≡ failed old)
 
--- What names stand for is unchanged, and the count of faults didn't fall. Each fetch gave the bytes of its name, if the
--- shelf reports them. If files were fetched and the last one failed, the count rose.
+-- what a run does to a shelf
 pub record KeepsShelf (old new : ShelfState) : Type 0 where
+  -- what stands under names is unchanged
   pub names : SameNames old new
+  -- each fetch gave a prefix of what stands under its name, if the shelf reports that
   pub fetched : AreFetched old new
+  -- the count of faults didn't fall
   pub later : old.faults ≤ new.faults
+  -- if something was fetched and the newest fetch failed, the count rose
   pub rose : (fetch : Fetch) (past : List Fetch) → new.history ≡ fetch ∷ past → fetch.failed ≡ true →
       (new.history ≡ old.history) ⊎ Rose old.faults new.faults

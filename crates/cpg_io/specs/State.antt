@@ -2,19 +2,22 @@
 use Rattle.std.specs.Prelude.{ℕ, List, Option, length}
 use Rattle.cpg_history.specs.Fetch.{Fetch, newest_given}
 
--- The bytes of each name and those that are left of the fetched one, if the shelf reports them; the number of faults;
--- and all fetches, newest first, with what they gave.
+-- what a shelf reports
 pub record ShelfState : Type 0 where
+  -- the bytes that stand under a name; None if the shelf doesn't report them or there is no such name
   pub stands : List ℕ → Option (List ℕ)
+  -- the bytes that are left of the fetched name, if the shelf reports them
   pub left : Option (List ℕ)
+  -- the count of faults
   pub faults : ℕ
+  -- all fetches, newest first, with what each gave
   pub history : List Fetch
 
--- how many bytes were given since the last fetch
+-- how many bytes the newest fetch gave
 abbrev pub given_count : ShelfState → ℕ
 given_count s = length (newest_given s.history)
 
--- the bytes that were taken, and the number of faults
+-- what a sink reports: the bytes that it took, and the count of faults
 pub record SinkState : Type 0 where
   pub taken : List ℕ
   pub faults : ℕ

@@ -1,8 +1,8 @@
-//! A fault of a shelf or a sink.
+//! The error of a shelf or a sink.
 
 use thiserror::Error;
 
-/// A call of a shelf or a sink met a fault, and the count of faults rose.
+/// A call of a shelf or a sink met a fault, and its count of faults rose.
 #[derive(Clone, Copy, Debug, PartialEq, Eq, Error)]
 #[error("a read or a write failed")]
 pub struct Failed;

@@ -15,14 +15,19 @@ use std::io::Read;
 use std::marker::Model;
 use std::rt::Files;
 
-/// A shelf over the runtime's files, whose names are paths. Every name may be fetched. The shelf always reports what its reads
-/// gave, and never what stands under a name. If a file is open, it reports what is left if the file does, which a file of the
-/// machine doesn't; if no file is open, it reports that nothing is left.
+/// A shelf over the runtime's files, whose names are paths. Every name may be fetched.
+///
+/// The shelf always reports what its reads gave, and never what stands under a name. With a file open it reports what is
+/// left only if the file does, which a file of the machine doesn't. With no file open it reports that nothing is left.
 #[derive(Drop)]
 pub struct FileShelf<R: Files> {
+    // the runtime that opens files
     rt: R,
+    // the fetched file; `None` before the first fetch and after one that failed
     file: Option<R::File>,
+    // all fetches with what they gave, for proofs alone
     history: History,
+    // how many calls have failed; the count stops at its greatest number
     faults: u64,
 }
 
@@ -36,7 +41,7 @@ impl<R: Files> Model for FileShelf<R> {
 }
 
 impl<R: Files> FileShelf<R> {
-    /// A shelf over the files of `rt`, with no file open.
+    /// Returns a shelf over the files of `rt`, with no file open.
     pub fn new(rt: R) -> FileShelf<R>
         ensures { result ≡ record { is_open = false; left = Some []; faults = 0; history = [] } }
     {
@@ -48,14 +53,14 @@ impl<R: Files> FileShelf<R> {
         }
     }
 
-    /// Notes what a call did.
+    /// Notes in the history what a call did.
     fn note(&mut self, event: &ShelfEvent<'_>)
         ensures { self.new ≡ record self.old { history = after event.now self.old.history } }
     {
         self.history = self.history.after(event);
     }
 
-    /// Counts a fault, and notes it.
+    /// Counts a fault and notes it in the history. Returns the error of the call.
     fn count_fault(&mut self) -> Failed
         ensures same { self.new ≡ record self.old { faults = counted self.old.faults 1; history = failed self.old.history } }
         ensures later { self.old.faults ≤ self.new.faults }
@@ -71,7 +76,7 @@ impl<R: Files> Shelf for FileShelf<R> {
 
     ghost may_fetch = { λ _ _. ⊤ };
 
-    /// Opens the file. An error is a fault, and leaves no file open.
+    /// Opens the file, in place of the one that was open. Any error of the machine is a fault, and leaves no file open.
     fn fetch(&mut self, name: &str) -> Result<(), Failed>
         ensures names { SameNames (shelf_of self.old) (shelf_of self.new) }
         ensures access { SameAccess (λ _. ⊤) (λ _. ⊤) }
@@ -90,12 +95,12 @@ impl<R: Files> Shelf for FileShelf<R> {
                 self.file = Some(file);
                 Ok(())
             }
-            // what the machine says of the error is not kept
+            // callers tell no errors apart, so what the machine says of this one isn't kept
             Err(_) => Err(self.count_fault()),
         }
     }
 
-    /// Reads once, so that a large buffer is one large block. An error is a fault; with no file open this is the end.
+    /// Reads once, so that a large buffer is one large block. Any error of the machine is a fault.
     fn read(&mut self, buf: &mut [u8]) -> Result<usize, Failed>
         requires { 0 < length buf.old }
         ensures names { SameNames (shelf_of self.old) (shelf_of self.new) }
@@ -110,7 +115,7 @@ impl<R: Files> Shelf for FileShelf<R> {
     {
         let read = match &mut self.file {
             Some(file) => file.read(buf),
-            // no file is open, which is the end
+            // nothing is left of no file
             None => Ok(0),
         };
         match read {

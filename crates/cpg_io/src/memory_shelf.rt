@@ -1,4 +1,4 @@
-//! A shelf in memory.
+//! A shelf in memory, with which runs are tested.
 ghost use Rattle.std.specs.Prelude.{◌≡◌, ◌+◌, ◌^◌, ◌<◌, ◌≤◌, ◌↔◌, ◌⊎◌, [], ◌∷◌, ◌++◌, Some, None, ⊤, Contains, IsTrue, IsErr, MatchBool, is_err, IfOk, OnOk, OnErr, MatchResult, drop, take, length, min, position};
 ghost use Rattle.std.specs.Bool.{OnFalse};
 ghost use Rattle.std.specs.Io.{ReadsAtMost};
@@ -15,10 +15,12 @@ use cpg_history::{History, ShelfEvent};
 use std::alloc::Global;
 use std::marker::Model;
 
-/// Bytes and the name that they stand under.
+/// A name, and the bytes that stand under it.
 #[derive(Drop)]
 struct MemoryFile {
+    // no other file of the shelf has this name
     name: String,
+    // what a fetch of the name gives
     bytes: Vec<u8>,
 }
 
@@ -32,14 +34,14 @@ impl Model for MemoryFile {
 }
 
 impl MemoryFile {
-    /// Whether the file has a name.
+    /// Whether the file has this name.
     fn is_named(&self, name: &str) -> bool
         ensures { result ≡ is_named name.now self.now }
     {
         self.name.as_str() == name
     }
 
-    /// The bytes of the file.
+    /// Returns the bytes of the file.
     fn bytes(&self) -> &[u8]
         ensures { result.now ≡ self.now.bytes }
     {
@@ -54,22 +56,23 @@ impl MemoryFile {
     }
 }
 
-/// The place of the first file with the name.
+/// Returns the place of the first file with the name, and `None` exactly if there is none.
 fn file_index(files: &[MemoryFile], name: &str) -> Option<usize>
     ensures { result ≡ position (is_named name.now) files.now }
 {
     files.iter().position(|file| file.is_named(name))
 }
 
-/// Replaces the bytes of the file with the name, or adds such a file.
+/// Replaces the bytes of the file with the name, or adds such a file. If memory runs out, nothing is changed.
 fn store(files: &mut Vec<MemoryFile>, name: &str, bytes: &[u8]) -> Result<(), OutOfMemory>
     ensures put { OnOk result (PutsUnder files.old.items files.new.items name.now bytes.now) }
     ensures err { OnErr result (files.new.items ≡ files.old.items) }
 {
     let alloc = *files.allocator();
+    // copied before anything is changed, as memory may run out
     let bytes = Vec::from_slice(alloc, bytes)?;
     match file_index(files.as_slice(), name) {
-        // a name stands for one file: its bytes are replaced
+        // no two files have one name
         Some(place) => files[place].set_bytes(bytes),
         None => {
             let name = String::from_str(alloc, name)?;
@@ -86,12 +89,19 @@ fn store(files: &mut Vec<MemoryFile>, name: &str, bytes: &[u8]) -> Result<(), Ou
 /// fetched.
 #[derive(Drop)]
 pub struct MemoryShelf {
+    // each name once, with its bytes
     files: Vec<MemoryFile>,
+    // the place in `files` of the file that is read, if one is
     fetched: Option<usize>,
+    // how many of its bytes were read
     at: usize,
+    // how many calls have failed; the count stops at its greatest number
     faults: u64,
+    // the number of the next call
     calls: u64,
+    // the numbers of the calls that fail
     failing: Vec<u64>,
+    // all fetches with what they gave, for proofs alone
     history: History,
 }
 
@@ -115,7 +125,7 @@ impl Model for MemoryShelf {
 }
 
 impl MemoryShelf {
-    /// A shelf with no files. No call of it fails by its number.
+    /// Returns a shelf with no files, no call of which fails by its number.
     pub fn new(alloc: Global) -> Result<MemoryShelf, OutOfMemory>
         ensures { IfOk result (λ s. s ≡ record { files = []; left = []; at = 0; faults = 0; calls = 0; failing = []; history = [] }) }
     {
@@ -130,20 +140,20 @@ impl MemoryShelf {
         })
     }
 
-    /// Makes the bytes stand under the name, in place of what stood there. Nothing is then left to read before the
-    /// next fetch. Out of memory changes nothing.
+    /// Makes the bytes stand under the name, in place of what stood there. Nothing is left to read before the next fetch
+    /// then. If memory runs out, nothing is changed.
     pub fn put(&mut self, name: &str, bytes: &[u8]) -> Result<(), OutOfMemory>
         ensures put { OnOk result (PutsUnder self.old.files self.new.files name.now bytes.now) }
         ensures same { OnOk result (self.new ≡ record self.old { files = self.new.files; left = [] }) }
         ensures err { OnErr result (self.new ≡ self.old) }
     {
         store(&mut self.files, name, bytes)?;
-        // nothing is open to be read
+        // what was fetched may have been replaced, so nothing is left of it
         self.fetched = None;
         Ok(())
     }
 
-    /// Lists a number, from 0, of a call that fails. Out of memory changes nothing.
+    /// Lists the number of a call, counted from 0, that will fail. If memory runs out, nothing is changed.
     pub fn fail_call(&mut self, call: u64) -> Result<(), OutOfMemory>
         ensures listed { OnOk result (self.new ≡ record self.old { failing = self.old.failing ++ call ∷ [] }) }
         ensures err { OnErr result (self.new ≡ self.old) }
@@ -152,7 +162,7 @@ impl MemoryShelf {
         Ok(())
     }
 
-    /// Counts a call, and says whether it fails by its number.
+    /// Counts a call. Returns whether its number is listed to fail.
     fn count_call(&mut self) -> bool
         ensures listed { IsTrue result ↔ Contains self.old.failing self.old.calls }
         ensures same { self.new ≡ record self.old { calls = counted self.old.calls 1 } }
@@ -162,14 +172,14 @@ impl MemoryShelf {
         is_listed
     }
 
-    /// Notes what a call did.
+    /// Notes in the history what a call did.
     fn note(&mut self, event: &ShelfEvent<'_>)
         ensures { self.new ≡ record self.old { history = after event.now self.old.history } }
     {
         self.history = self.history.after(event);
     }
 
-    /// Counts a fault, and notes it.
+    /// Counts a fault and notes it in the history. Returns the error of the call.
     fn count_fault(&mut self) -> Failed
         ensures same { self.new ≡ record self.old { faults = counted self.old.faults 1; history = failed self.old.history } }
         ensures later { self.old.faults ≤ self.new.faults }
@@ -179,7 +189,7 @@ impl MemoryShelf {
         Failed
     }
 
-    /// Leaves nothing to read.
+    /// Leaves nothing to read before the next fetch.
     fn close(&mut self)
         ensures { self.new ≡ record self.old { left = []; at = 0 } }
     {
@@ -187,7 +197,8 @@ impl MemoryShelf {
         self.at = 0;
     }
 
-    /// Makes the file with the name the one that is read, from its start, and says whether there is one.
+    /// Makes the file with the name the one that is read, from its start. Returns whether there is such a file; if not,
+    /// nothing is left to read.
     fn open(&mut self, name: &str) -> bool
         ensures found { MatchBool result (stands_in self.old.files name.now ≡ Some self.new.left) (stands_in self.old.files name.now ≡ None) }
         ensures none { OnFalse result (self.new.left ≡ []) }
@@ -198,7 +209,7 @@ impl MemoryShelf {
         self.fetched.is_some()
     }
 
-    /// What is left of the fetched file.
+    /// Returns what is left of the fetched file, which is nothing if none is fetched.
     fn left(&self) -> &[u8]
         ensures left { result.now ≡ self.now.left }
         ensures fits { self.now.at + length self.now.left < 2 ^ 64 }
@@ -206,12 +217,11 @@ impl MemoryShelf {
         let at = self.at;
         match self.fetched {
             Some(place) => &self.files[place].bytes()[at..],
-            // nothing is fetched, so nothing is left
             None => &[],
         }
     }
 
-    /// Gives the next bytes, as many as there are and fit, and says how many.
+    /// Writes the next bytes to the front of `buf`, as many as are left and fit. Returns how many.
     fn give(&mut self, buf: &mut [u8]) -> usize
         ensures fits { result ≡ min (length self.old.left) (length buf.old) }
         ensures given { take result buf.new ≡ take result self.old.left }
@@ -220,6 +230,7 @@ impl MemoryShelf {
         let left = self.left();
         let count = left.len().min(buf.len());
         buf[..count].copy_from_slice(&left[..count]);
+        // no more is read than the file has, so the sum doesn't overflow
         self.at += count;
         count
     }
@@ -230,7 +241,7 @@ impl Shelf for MemoryShelf {
 
     ghost may_fetch = { λ _ _. ⊤ };
 
-    /// `Failed` exactly if the call's number is listed, or the name isn't there.
+    /// Makes the name the one that is read. `Failed` exactly if the call's number is listed, or no file has the name.
     fn fetch(&mut self, name: &str) -> Result<(), Failed>
         ensures names { SameNames (shelf_of self.old) (shelf_of self.new) }
         ensures access { SameAccess (λ _. ⊤) (λ _. ⊤) }
@@ -248,20 +259,20 @@ impl Shelf for MemoryShelf {
         } }
         ensures faults { MatchResult result (λ _. self.new.faults ≡ self.old.faults) (λ _. self.new.faults ≡ counted self.old.faults 1) }
     {
+        // a fetch that fails leaves nothing to read either
         self.close();
         self.note(&ShelfEvent::Fetched(name));
-        // this call is listed to fail
         if self.count_call() {
             return Err(self.count_fault());
         }
-        // no file has the name
         if !self.open(name) {
             return Err(self.count_fault());
         }
         Ok(())
     }
 
-    /// `Failed` exactly if the call's number is listed.
+    /// Gives the next bytes, as many as are left and fit in `buf`, which isn't empty. `Failed` exactly if the call's number is
+    /// listed.
     fn read(&mut self, buf: &mut [u8]) -> Result<usize, Failed>
         requires { 0 < length buf.old }
         ensures names { SameNames (shelf_of self.old) (shelf_of self.new) }
@@ -281,7 +292,7 @@ impl Shelf for MemoryShelf {
         } }
         ensures faults { MatchResult result (λ _. self.new.faults ≡ self.old.faults) (λ _. self.new.faults ≡ counted self.old.faults 1) }
     {
-        // this call is listed to fail
+        // a call that fails gives nothing, and leaves what it would have given
         if self.count_call() {
             return Err(self.count_fault());
         }

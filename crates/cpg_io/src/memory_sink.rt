@@ -1,4 +1,4 @@
-//! A sink in memory.
+//! A sink in memory, with which runs are tested.
 ghost use Rattle.std.specs.Prelude.{◌≡◌, ◌-◌, ◌<◌, ◌≤◌, ◌↔◌, [], min, IfOk, IsErr, MatchResult, length};
 ghost use Rattle.cpg_io.specs.Causes.{HasCause, counted};
 ghost use Rattle.cpg_io.specs.MemorySink.{sink_of};
@@ -12,8 +12,11 @@ use std::marker::Model;
 /// A sink that takes up to `room` bytes altogether and keeps them.
 #[derive(Drop)]
 pub struct MemorySink {
+    // what it took; all of the room is reserved
     bytes: Vec<u8>,
+    // how many bytes it takes altogether
     room: usize,
+    // how many writes have failed; the count stops at its greatest number
     faults: u64,
 }
 
@@ -29,7 +32,7 @@ impl Model for MemorySink {
 }
 
 impl MemorySink {
-    /// An empty sink, which reserves all of its room, in bytes.
+    /// Returns an empty sink with room for `room` bytes, all of which it reserves.
     pub fn new(alloc: Global, room: usize) -> Result<MemorySink, OutOfMemory>
         ensures { IfOk result (λ s. s ≡ record { taken = []; room = room; faults = 0 }) }
     {
@@ -41,7 +44,7 @@ impl MemorySink {
         })
     }
 
-    /// The bytes taken so far.
+    /// Returns the bytes taken so far.
     pub fn taken(&self) -> &[u8]
         ensures { result.now ≡ self.now.taken }
     {
@@ -52,7 +55,7 @@ impl MemorySink {
 impl Sink for MemorySink {
     ghost state = { sink_of };
 
-    /// Takes what there is room for, and no memory. `Failed` exactly if no room is left.
+    /// Takes as many bytes as there is room for. `Failed` exactly if no room is left.
     fn write(&mut self, piece: &[u8]) -> Result<usize, Failed>
         requires { 0 < length piece.now }
         ensures some { IfOk result (λ n. 0 < n) }
@@ -64,6 +67,7 @@ impl Sink for MemorySink {
         ensures room { self.new.room ≡ self.old.room }
         ensures faults { MatchResult result (λ _. self.new.faults ≡ self.old.faults) (λ _. self.new.faults ≡ counted self.old.faults 1) }
     {
+        // the room is reserved, so extending within it takes no memory and doesn't fail
         let free = self.room - self.bytes.len();
         let count = free.min(piece.len());
         if count == 0 || self.bytes.extend_from_slice(&piece[..count]).is_err() {

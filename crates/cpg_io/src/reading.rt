@@ -1,4 +1,4 @@
-//! Reading all of a name's bytes.
+//! Reads all bytes that stand under a name.
 ghost use Rattle.std.specs.Prelude.{◌≡◌, ◌+◌, ◌<◌, ◌≤◌, ◌↔◌, Err, IfErr, IfOk, IfSome, length, vec_len};
 ghost use Rattle.cpg_io.specs.Agreement.{AreFetched, LeavesRest};
 ghost use Rattle.cpg_io.specs.Causes.{Rose};
@@ -19,7 +19,7 @@ pub enum ReadAll {
     /// There are more bytes than the limit.
     #[error("there are more bytes than the limit")]
     TooLong,
-    /// Out of memory.
+    /// Memory ran out.
     #[error("out of memory")]
     OutOfMemory,
 }
@@ -46,10 +46,12 @@ impl From<AllocError> for ReadAll {
     }
 }
 
-/// How many bytes are asked of the shelf at once.
+/// The most bytes that are asked of the shelf at once: the length of the buffer.
 const PIECE: usize = 65_536;
 
-/// Reads one piece to the end of `bytes`, into `buffer` first, and says how many bytes came; 0 means the end.
+/// Reads one piece by way of `buffer` and adds it to `bytes`. Returns how many bytes came; 0 means the end. At an error
+/// nothing is added: `Failed` only if the shelf's count of faults rose, `TooLong` if the piece goes past the limit, and
+/// `OutOfMemory` if there is no memory for it.
 fn read_piece<S: Shelf>(
     shelf: &mut S,
     buffer: &mut [u8],
@@ -70,11 +72,11 @@ fn read_piece<S: Shelf>(
     ensures later { (S.state shelf.old).faults ≤ (S.state shelf.new).faults }
 {
     let room = limit - bytes.len();
-    // one byte more than there is room for, so that a text which is too long shows
+    // one byte more than there is room for is asked for, so that bytes past the limit show
     let most = buffer.len().min(room.saturating_add(1));
     let piece = &mut buffer[..most];
     let count = shelf.read(piece)?;
-    // the byte beyond the limit came
+    // the byte past the limit came
     if count > room {
         return Err(ReadAll::TooLong);
     }
@@ -82,11 +84,11 @@ fn read_piece<S: Shelf>(
     Ok(count)
 }
 
-/// Reads all bytes that stand under a name, if there are at most `limit` of them, in large pieces.
+/// Returns all bytes that stand under a name, if there are at most `limit` of them. They are read in large pieces.
 ///
-/// `Failed` only if the shelf's count of faults rose. `TooLong` exactly if the shelf has then given more than
-/// `limit` bytes since the fetch; it is asked for no more than `limit` plus one. What is read at `Ok` is the whole of what
-/// the shelf gave, to the end of the name; and what it gave is a front of what stands under the name, if the shelf reports that.
+/// `Failed` only if the shelf's count of faults rose. `TooLong` exactly if the shelf has given more than `limit` bytes since
+/// the fetch; it is asked for no more than `limit` plus one. At `Ok` these are all bytes that the shelf gave, to the end of
+/// the name. If the shelf reports what stands under the name, they are just that.
 pub fn read_all<S: Shelf>(
     alloc: Global,
     shelf: &mut S,
@@ -110,7 +112,7 @@ pub fn read_all<S: Shelf>(
     shelf.fetch(name)?;
     let mut buffer = [0; PIECE];
     let mut bytes = Vec::new(alloc);
-    // piece by piece until one comes empty: that is the end
+    // piece by piece, until one comes empty
     while read_piece(shelf, &mut buffer, &mut bytes, limit)? > 0 {}
     Ok(bytes)
 }

@@ -11,11 +11,11 @@ use crate::Failed;
 /// Named bytes. One name at a time is fetched, and its bytes are then read in pieces.
 ///
 /// No call changes what stands under a name, or which names may be fetched. The count of faults has 64 bits and stops at its
-/// greatest number. A shelf always reports what calls gave. It reports what stands under a name only if it knows it. In that
-/// case what reads have given since the fetch is a prefix of that, since each read takes what it gives from what is left.
+/// greatest number. A shelf always reports what calls gave. It reports what stands under a name only if it knows that; then
+/// reads since the fetch have given a prefix of it, since each read takes what it gives from what is left.
 pub trait Shelf {
-    /// The bytes that stand under each name and those that are left of the fetched one, if the shelf reports them; the number
-    /// of faults; and all fetches, with the bytes that each gave.
+    /// What the shelf reports: the bytes that stand under each name and those that are left of the fetched one, if it knows
+    /// them; the count of faults; and all fetches, with the bytes that each gave.
     ghost state: { Self → ShelfState };
 
     /// Whether a name may be fetched.
@@ -23,7 +23,7 @@ pub trait Shelf {
 
     /// Makes the name the one that is read, from its start.
     ///
-    /// `Failed` only if the count of faults rose, as for a name that isn't there. Nothing is left then.
+    /// `Failed` only if the count of faults rose, as for a name that isn't there. Nothing is left to read then.
     fn fetch(&mut self, name: &str) -> Result<(), Failed>
         requires { may_fetch self.old name.now }
         ensures names { SameNames (state self.old) (state self.new) }
@@ -33,7 +33,7 @@ pub trait Shelf {
         ensures history { (state self.new).history ≡ opened name.now (is_err result) (state self.old).history }
         ensures cause { HasCause (state self.old).faults (state self.new).faults result };
 
-    /// Writes the next bytes to the front of `buf` and answers how many; 0 means the end.
+    /// Writes the next bytes to the front of `buf`, which isn't empty. Returns how many; 0 means the end.
     ///
     /// `Failed` only if the count of faults rose. Nothing is given then.
     fn read(&mut self, buf: &mut [u8]) -> Result<usize, Failed>

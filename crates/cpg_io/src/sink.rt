@@ -8,10 +8,10 @@ use crate::Failed;
 
 /// Takes bytes, and counts its faults in 64 bits; the count stops at its greatest number.
 pub trait Sink {
-    /// The bytes that were taken, and the number of faults.
+    /// What the sink reports: the bytes that it took, and the count of faults.
     ghost state: { Self → SinkState };
 
-    /// Takes at least one byte from the front of `piece`, and answers how many.
+    /// Takes at least one byte from the front of `piece`. Returns how many.
     ///
     /// `Failed` only if the count of faults rose. Nothing is taken then.
     fn write(&mut self, piece: &[u8]) -> Result<usize, Failed>

@@ -15,8 +15,11 @@ use std::marker::Model;
 /// those bytes.
 #[derive(Drop)]
 pub struct StreamSink<W: Write> {
+    // where the bytes go
     writer: W,
+    // the bytes that it reports, for proofs alone
     taken: Taken,
+    // how many writes have failed; the count stops at its greatest number
     faults: u64,
 }
 
@@ -29,7 +32,7 @@ impl<W: Write> Model for StreamSink<W> {
 }
 
 impl<W: Write> StreamSink<W> {
-    /// A sink over the writer, which met no fault so far.
+    /// Returns a sink over the writer, which has taken nothing and met no fault so far.
     pub fn new(writer: W) -> StreamSink<W>
         ensures { result ≡ record { contents = W.contents writer; taken = []; faults = 0 } }
     {
@@ -54,6 +57,7 @@ impl<W: Write> Sink for StreamSink<W> {
         ensures cause { HasCause self.old.faults self.new.faults result }
         ensures faults { MatchResult result (λ _. self.new.faults ≡ self.old.faults) (λ _. self.new.faults ≡ counted self.old.faults 1) }
     {
+        // an error counts like a write of nothing, which would never come to the end of a piece
         let count = self.writer.write(piece).unwrap_or(0);
         if count == 0 || self.writer.flush().is_err() {
             self.faults = self.faults.saturating_add(1);

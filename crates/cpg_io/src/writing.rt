@@ -1,11 +1,11 @@
-//! Writing a whole piece.
+//! Writes all bytes of a piece.
 ghost use Rattle.std.specs.Prelude.{OnOk, OnErr};
 ghost use Rattle.cpg_io.specs.Causes.{HasCause};
 ghost use Rattle.cpg_io.specs.Sink.{Took, TookPrefix};
 
 use crate::{Failed, Sink};
 
-/// Writes all of the bytes, in as many pieces as the sink takes them in.
+/// Writes all of the bytes, in as many writes as the sink needs.
 ///
 /// `Failed` only if the sink's count of faults rose. The sink has taken a proper prefix of the bytes then.
 pub fn write_all<O: Sink>(sink: &mut O, bytes: &[u8]) -> Result<(), Failed>
@@ -13,6 +13,7 @@ pub fn write_all<O: Sink>(sink: &mut O, bytes: &[u8]) -> Result<(), Failed>
     ensures part { OnErr result (TookPrefix (O.state sink.old).taken (O.state sink.new).taken bytes.now) }
     ensures cause { HasCause (O.state sink.old).faults (O.state sink.new).faults result }
 {
+    // how many of the bytes the sink has taken
     let mut at = 0;
     while at < bytes.len() {
         at += sink.write(&bytes[at..])?;

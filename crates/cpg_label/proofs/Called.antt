@@ -1,4 +1,4 @@
--- What a graph's processes are called, by their numbers.
+-- The names of a graph's processes and conditions, by the labels of the graph.
 use Rattle.std.proofs.Common.{ℕ, ◌≡◌, ◌<◌, []}
 use Rattle.std.proofs.Math.ListN.{get_or-map as get_or-mapped}
 use Rattle.std.proofs.lemmas.List.{get_or-map}

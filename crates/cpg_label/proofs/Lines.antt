@@ -1,4 +1,4 @@
--- Lines with a literal more, and with fewer.
+-- Lines of a column's literals with a literal more (`line_added`) and with fewer (`line_kept`), and lists that are alike.
 use Rattle.std.proofs.Common.{◌≡◌, ◌==◌, false, ℕ, ◌+◌, ◌-◌, ◌*◌, suc, ◌<◌, ◌≤◌, List, [], ◌∷◌, ◌++◌, inl, inr, refl}
 use Rattle.std.proofs.Common.{zero}
 use Rattle.std.proofs.Common.{append-nil, arith, drop, get_or, length, replicate, set, sym, take, ap, ap₂, ◌∙◌}
@@ -22,13 +22,13 @@ front-append labels [] ys = refl
 front-append labels (x ∷ xs) ys = ap (λ t. literal_text labels x ++ t) (flat_map-append (piece_text labels) xs ys)
     ∙ sym (append_assoc (literal_text labels x) (flat_map (piece_text labels) xs) (flat_map (piece_text labels) ys))
 
--- one literal behind others is written as what it adds to their text
+-- what a list of one literal adds to the text of others is what this literal adds
 rest_of_one : (labels : Labels) (xs : List Literal) (l : Literal) →
     rest_text labels xs (l ∷ []) ≡ added_text labels xs l
 rest_of_one labels [] l = append-nil (literal_text labels l)
 rest_of_one labels (x ∷ xs) l = append-nil (piece_text labels l)
 
--- what a literal adds to the text of a list, by how many it has
+-- what a literal adds to the text of n others, as code knows it by n, is what it adds to their text
 after_is : (labels : Labels) (xs : List Literal) (n : ℕ) (l : Literal) → length xs ≡ n →
     text_after labels n l ≡ added_text labels xs l
 after_is labels [] n l e = rw (← e) refl
@@ -48,7 +48,7 @@ front_parted : (labels : Labels) (ls : List Literal) (n : ℕ) →
 front_parted labels ls n =
     ap (front_text labels) (sym (take-append-drop n ls)) ∙ front-append labels (take n ls) (drop n ls)
 
--- some more literals that are the same
+-- lists that are alike up to n, and whose next k literals are the same, are alike up to n + k
 pub alike_more : (first second : List Literal) (n k : ℕ) → AreAlike first second n → k ≤ length first - n →
     k ≤ length second - n →
     take k (drop n first) ≡ take k (drop n second) →
@@ -59,7 +59,8 @@ alike_more first second n k h a b e = record {
   inside = omega (arith, b, h.inside);
 }
 
--- if the next blocks of two lists are the same, the lists are alike up to the end of these
+-- the same if the next k literals are equal blocks; `left` and `right` are the lists from n on, `rest` and `behind` what is
+-- left after the blocks
 pub block_more : (first second left right block rest other behind : List Literal) (n k : ℕ) → AreAlike first second n →
     left ≡ drop n first → right ≡ drop n second →
     block ≡ take k left →
@@ -75,10 +76,11 @@ block_more first second left right block rest other behind n k h l r is some als
 pub rest_of : (n : ℕ) (ls : List Literal) → take (length ls - n) (drop n ls) ≡ drop n ls
 rest_of n ls = take_all (length ls - n) (drop n ls) (omega (arith, length-drop n ls))
 
--- the line of no literals has no text
+-- without literals the line has no text, and its one end is 0
 pub line_none : (labels : Labels) → AreLine labels [] [] (0 ∷ [])
 line_none labels = record { text = refl; count = refl; ends = λ n le. none n le; short = λ n le. few n le }
   where
+    -- the one end is no further than 84 bytes for each of no literals
     few : (n : ℕ) → n ≤ 0 → get_or (0 ∷ []) n 0 ≤ 84 * n
     few zero le = omega arith
     few (suc n) le = absurd (omega (arith, le))
@@ -97,7 +99,8 @@ line_short labels ls text ends h =
     let few = h.short (length ls) (omega arith) in
     omega (arith, all, few)
 
--- with the text of one literal more, which is short, it is the line of one literal more
+-- a line with the text that one literal adds, at most 84 bytes, and its end is the line of one literal more. The ends
+-- up to the last are those of the line before; the last is the length of the whole text
 pub line_more : (labels : Labels) (ls : List Literal) (text ends : List ℕ) (l : Literal) (now : List ℕ) →
     AreLine labels ls text ends →
     now ≡ text ++ added_text labels ls l →
@@ -113,6 +116,7 @@ line_more labels ls text ends l now h is few =
       ];
     }
   where
+    -- there is one literal more
     long : length (ls ++ l ∷ []) ≡ length ls + 1
     long = length-append ls (l ∷ [])
 
@@ -143,7 +147,8 @@ line_more labels ls text ends l now h is few =
         ∙ ap (λ xs. length (front_text labels xs))
         (sym (ap (λ i. take i (ls ++ l ∷ [])) (omega (arith, long)) ∙ take-length (ls ++ l ∷ [])))
 
--- the first literals of a line, with their text and ends, are a line
+-- the first `count` literals of a line, with their text up to where it ends and their ends, are a line; each part is
+-- that of the line, cut at `count`
 pub line_less : (labels : Labels) (ls : List Literal) (text ends : List ℕ) (count : ℕ) → AreLine labels ls text ends →
     count ≤ length ls →
     AreLine labels (take count ls) (take (get_or ends count 0) text) (take (count + 1) ends)
@@ -156,6 +161,7 @@ line_less labels ls text ends count h le =
           (h.short n (omega (arith, length-take-le count ls le)));
     }
   where
+    -- the text up to the end of literal `count` is that of the first `count` literals
     text_is : take (get_or ends count 0) text ≡ front_text labels (take count ls)
     text_is = ap (λ n. take n text) (h.ends count le)
         ∙ ap (take (length (front_text labels (take count ls)))) (h.text ∙ front_parted labels ls count)
@@ -169,7 +175,7 @@ line_less labels ls text ends count h le =
         ∙ ap (λ xs. length (front_text labels xs))
         (ap (take n) (sym (take-append-drop count ls)) ∙ take-append-le n (take count ls) (drop count ls) few)
 
--- the text of the first ones is no longer
+-- the text of the first n literals is no longer than that of all
 front_no_longer : (labels : Labels) (ls : List Literal) (n : ℕ) →
     length (front_text labels (take n ls)) ≤ length (front_text labels ls)
 front_no_longer labels ls n =
@@ -179,35 +185,36 @@ front_no_longer labels ls n =
     ∙ length-append (front_text labels (take n ls)) (rest_text labels (take n ls) (drop n ls)) in
     omega (arith, e)
 
--- ---- lists that have more behind a line
+-- ---- lists that have more after a line
 
--- with ends that are all 0, no literals are a line
+-- a room whose ends are all 0 begins with the line of no literals
 pub line_new : (labels : Labels) (ls : List Literal) (text ends : List ℕ) → ends ≡ replicate 257 0 →
     AreLine labels (take 0 ls) (take (get_or ends 0 0) text) (take (0 + 1) ends)
 line_new labels ls text ends e = rw e (line_none labels)
 
--- a line of some literals, with their texts and ends
+-- given lists that begin with the line of `count` literals, and have more after it
 module _ (labels : Labels) (ls : List Literal) (text ends : List ℕ) (count : ℕ)
     (h : AreLine labels (take count ls) (take (get_or ends count 0) text) (take (count + 1) ends))
     (room : count ≤ length ls) where
-  -- as many literals are kept as are counted
+  -- the first `count` literals are as many
   long : length (take count ls) ≡ count
   long = length-take-le count ls room
 
-  -- where the text ends
+  -- the end at `count` is where the text of the line ends
   end_is : get_or ends count 0 ≡ length (front_text labels (take count ls))
   end_is = sym (get_or-take (count + 1) ends count 0 (omega arith)) ∙ h.ends count (omega (arith, long))
       ∙ ap (λ xs. length (front_text labels xs)) (take-take count count ls (omega arith))
 
-  -- the text that is kept is as long as the end of its last literal says
+  -- the text up to that end is as long as it says
   text_long : length (take (get_or ends count 0) text) ≡ get_or ends count 0
   text_long = ap length h.text ∙ sym end_is
 
-  -- the text of the first literals is at most 84 bytes long for each
+  -- the text of the line has at most 84 bytes for each literal
   pub end_short : get_or ends count 0 ≤ 84 * count
   end_short = rw (← get_or-take (count + 1) ends count 0 (omega arith)) (h.short count (omega (arith, long)))
 
-  -- keeping fewer literals leaves the line of these
+  -- the lists also begin with the line of any fewer literals: take those of the line (`line_less`), and taking fewer of
+  -- more is taking fewer
   pub line_kept : (new : ℕ) → new ≤ count →
       AreLine labels (take new ls) (take (get_or ends new 0) text) (take (new + 1) ends)
   line_kept new le =
@@ -222,7 +229,8 @@ module _ (labels : Labels) (ls : List Literal) (text ends : List ℕ) (count : �
       (rw (← at) (line_less labels (take count ls) (take (get_or ends count 0) text) (take (count + 1) ends) new h
       (omega (arith, le, long))))))
 
-  -- setting the next literal, its text and its end gives the line of one literal more
+  -- with the next literal, its text and its end in their places, the lists begin with the line of one literal more: each is
+  -- what the line had and the new part after it (`front`, `now`, `all`), as in `line_more`
   pub line_added : (new_literals : List Literal) (new_text new_ends : List ℕ) (l : Literal) (end : ℕ) →
       new_literals ≡ set ls count l →
       new_ends ≡ set ends (count + 1) end →
@@ -248,12 +256,12 @@ module _ (labels : Labels) (ls : List Literal) (text ends : List ℕ) (count : �
       ∙ ap (λ e. take (count + 1) ends ++ e ∷ []) (sym now_long) in
       rw front (rw all (rw last made))
 
--- bytes that were all written over are the new ones
+-- if `put` is as long as the room, the room with `put` written over it is `put`
 pub refilled : (len : ℕ) (put old : List ℕ) → length put ≡ len → take len (put ++ drop (length put) old) ≡ put
 refilled len put old e =
     ap (λ n. take n (put ++ drop (length put) old)) (sym e) ∙ take-append_seam put (drop (length put) old)
 
--- the variables of a rising list are at least their places
+-- in a list of rising variables, the one at place i is at least i; by induction on i
 rising_place : (ls : List Literal) (i : ℕ) (d : Literal) → IsRising ls → i < length ls → i ≤ (get_or ls i d).variable
 rising_place ls zero d r h = omega arith
 rising_place ls (suc i) d r h =
@@ -261,7 +269,7 @@ rising_place ls (suc i) d r h =
     let b = r i (suc i) d (omega arith) h in
     omega arith
 
--- a rising list is as long as the variable of its last literal allows
+-- a list of rising variables is at most one longer than its last variable
 pub rising_short : (ls : List Literal) (last : Literal) → IsRising ls → 0 < length ls →
     last ≡ get_or ls (length ls - 1) last →
     length ls ≤ last.variable + 1

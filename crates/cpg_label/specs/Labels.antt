@@ -7,23 +7,24 @@ use Rattle.cpg_head.specs.Head.{Head}
 use Rattle.cpg_head.specs.declared.head_parts.HeadProcess.{HeadProcess}
 use Rattle.cpg_table.specs.Items.{conditioned}
 
--- the names of the processes, the name of the process of each condition, and the ends of the edges
+-- the names of the processes, the names of the processes that compute the conditions, and the ends of the edges; all by
+-- number
 pub record Labels : Type 0 where
   -- names are lists of bytes
   pub processes : List (List ℕ)
   pub conditions : List (List ℕ)
-  -- the numbers of the two processes of each edge
+  -- the processes that each edge leads from and to
   pub edges : List (ℕ × ℕ)
 
--- the name of a process
+-- the name of process p; empty if there is none
 abbrev pub process_name : Labels → ℕ → List ℕ
 process_name labels p = get_or labels.processes p []
 
--- the name of a condition's process
+-- the name of the process of condition c; empty if there is none
 abbrev pub condition_name : Labels → ℕ → List ℕ
 condition_name labels c = get_or labels.conditions c []
 
--- the processes that an edge runs between
+-- the processes that edge e leads from and to; process 0 twice if there is no such edge
 abbrev pub edge_ends : Labels → ℕ → ℕ × ℕ
 edge_ends labels e = get_or labels.edges e (0, 0)
 
@@ -35,7 +36,7 @@ labels_of g = record {
   edges = map (λ (e : Edge). (e.from, e.to)) g.edges;
 }
 
--- the labels that a head gives
+-- the labels of a head
 abbrev pub head_labels : Head → Labels
 head_labels h = record {
   processes = map (λ (p : HeadProcess). p.name) h.processes;

@@ -1,4 +1,4 @@
-//! What is done with an item, and where.
+//! The texts of items. Each function that writes fails only if memory runs out.
 ghost use Rattle.std.specs.Prelude.{◌≡◌, ◌<◌, ◌++◌, OnErr, OnOk, codes, string_bytes};
 ghost use Rattle.cpg_base.specs.Graph.{condition_count, item_at, item_count};
 ghost use Rattle.cpg_base.specs.Called.{name_of, node_name};
@@ -11,12 +11,13 @@ use crate::text::{write_both, write_number};
 use cpg_base::{Item, Problem};
 use std::alloc::AllocError;
 
-/// The item with this number in a graph with `processes` processes and `edges` edges.
+/// Returns the item with this number in a graph with `processes` processes and `edges` edges. A number beyond those of
+/// the graph gives a broadcast.
 pub fn item_among(processes: usize, edges: usize, number: u32) -> Item
     ensures { result ≡ item_among processes edges number }
 {
     let place = number as usize;
-    // the first numbers are the processes, the next ones the edges, and the last ones the conditions
+    // the first numbers are those of starts, the next ones those of messages, and the last ones those of broadcasts
     if place < processes {
         return Item::Start(number);
     }
@@ -27,7 +28,7 @@ pub fn item_among(processes: usize, edges: usize, number: u32) -> Item
     Item::Broadcast((edge - edges) as u32)
 }
 
-/// The ends of an edge.
+/// Writes the names of an edge's source and target.
 fn write_ends(out: &mut String, from: &str, to: &str) -> Result<(), AllocError>
     ensures text { OnOk result (string_bytes out.new ≡ string_bytes out.old ++ from.now ++ codes ">" ++ to.now) }
     ensures front { OnErr result (IsFrontOf (string_bytes out.old) (string_bytes out.new)) }
@@ -36,7 +37,7 @@ fn write_ends(out: &mut String, from: &str, to: &str) -> Result<(), AllocError>
     write_both(out, ">", to)
 }
 
-/// An edge, with its ends.
+/// Writes an edge: its number, and the names of its source and target.
 fn write_edge(out: &mut String, labels: &Labels<'_>, edge: u32) -> Result<(), AllocError>
     ensures text { OnOk result (string_bytes out.new ≡ string_bytes out.old ++ edge_text labels.now edge) }
     ensures front { OnErr result (IsFrontOf (string_bytes out.old) (string_bytes out.new)) }
@@ -48,7 +49,7 @@ fn write_edge(out: &mut String, labels: &Labels<'_>, edge: u32) -> Result<(), Al
     write_ends(out, labels.process(from), labels.process(to))
 }
 
-/// What a node does with an item.
+/// Writes what the node of an item does with it: `start` a process, `send` a message, or `tell` a condition.
 pub fn write_act(out: &mut String, labels: &Labels<'_>, item: Item) -> Result<(), AllocError>
     ensures text { OnOk result (string_bytes out.new ≡ string_bytes out.old ++ act_text labels.now item) }
     ensures front { OnErr result (IsFrontOf (string_bytes out.old) (string_bytes out.new)) }
@@ -63,20 +64,21 @@ pub fn write_act(out: &mut String, labels: &Labels<'_>, item: Item) -> Result<()
     }
 }
 
-/// What a node hears of an item.
+/// Writes what another node hears of an item.
 pub fn write_heard(out: &mut String, labels: &Labels<'_>, item: Item) -> Result<(), AllocError>
     ensures text { OnOk result (string_bytes out.new ≡ string_bytes out.old ++ hear_text labels.now item) }
     ensures front { OnErr result (IsFrontOf (string_bytes out.old) (string_bytes out.new)) }
 {
     out.push_str("hear ")?;
     match item {
+        // no node hears a start, but a text is defined for it
         Item::Start(process) => out.push_str(labels.process(process)),
         Item::Message(edge) => write_edge(out, labels, edge),
         Item::Broadcast(condition) => out.push_str(labels.condition(condition)),
     }
 }
 
-/// What a process is called, and nothing if there is no such process.
+/// Returns the name of a process; empty if there is no such process.
 pub fn name_of(problem: &Problem, process: u32) -> &str
     ensures name { result.now ≡ name_of problem.now process }
     ensures label { result.now ≡ process_name (labels_of problem.now) process }
@@ -87,7 +89,7 @@ pub fn name_of(problem: &Problem, process: u32) -> &str
     }
 }
 
-/// What a node is called, and nothing if there is no such node.
+/// Returns the name of a node; empty if there is no such node.
 pub fn node_name(problem: &Problem, node: u32) -> &str
     ensures { result.now ≡ node_name problem.now node }
 {
@@ -97,7 +99,7 @@ pub fn node_name(problem: &Problem, node: u32) -> &str
     }
 }
 
-/// What the process of a condition is called.
+/// Returns the name of the process of a condition.
 fn condition_name(problem: &Problem, condition: u32) -> &str
     requires { condition < condition_count problem.now }
     ensures { result.now ≡ condition_name (labels_of problem.now) condition }
@@ -105,7 +107,7 @@ fn condition_name(problem: &Problem, condition: u32) -> &str
     name_of(problem, problem.process_of(condition))
 }
 
-/// What is done with an item of a graph, as a trace says it.
+/// Writes what is done with an item of a graph, as a trace says it: a message has only the number of its edge there.
 pub fn write_item(out: &mut String, problem: &Problem, item: u32) -> Result<(), AllocError>
     requires { item < item_count problem.now }
     ensures text { OnOk result (string_bytes out.new ≡ string_bytes out.old ++ done_text (labels_of problem.now) (item_at problem.now item)) }

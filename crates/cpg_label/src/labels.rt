@@ -1,4 +1,4 @@
-//! What texts call processes, conditions and edges.
+//! The names of processes, conditions and edges in texts. Here every error is `OutOfMemory`.
 ghost use Rattle.std.specs.Prelude.{◌≡◌, ◌≤◌, IfOk, filter, length, map};
 ghost use Rattle.cpg_base.specs.Graph.{disjunctions, process_at};
 ghost use Rattle.cpg_label.specs.ItemText.{item_of};
@@ -10,11 +10,15 @@ use cpg_head::{Head, HeadProcess};
 use std::alloc::Global;
 use std::marker::Model;
 
-/// The names of the processes, the name of the process of each condition, and the ends of the edges, by number.
+/// The names of the processes, the names of the processes that compute the conditions, and the ends of the edges; all by
+/// number.
 #[derive(Drop)]
 pub struct Labels<'a> {
+    /// The names of the processes.
     processes: Vec<&'a Name>,
+    /// The names of the processes that compute the conditions.
     conditions: Vec<&'a Name>,
+    /// The processes that each edge leads from and to.
     edges: Vec<(u32, u32)>,
 }
 
@@ -27,7 +31,7 @@ impl<'a> Model for Labels<'a> {
     ghost view = { λ l. record { processes = map (λ n. n.now) l.processes.items; conditions = map (λ n. n.now) l.conditions.items; edges = l.edges.items } };
 }
 
-/// The names of processes.
+/// Returns the names of processes.
 fn process_names<'a>(alloc: Global, processes: &'a [Process]) -> Result<Vec<&'a Name>, OutOfMemory>
     ensures { IfOk result (λ names. map (λ n. n.now) names.items ≡ map (λ p. p.name) processes.entry.now) }
 {
@@ -39,7 +43,7 @@ fn process_names<'a>(alloc: Global, processes: &'a [Process]) -> Result<Vec<&'a 
     Ok(names)
 }
 
-/// The name of the process of each condition.
+/// Returns the name of the process of each condition.
 fn condition_names<'a>(alloc: Global, problem: &'a Problem) -> Result<Vec<&'a Name>, OutOfMemory>
     ensures { IfOk result (λ names. map (λ n. n.now) names.items ≡ map (λ p. (process_at problem.entry.now p).name) (disjunctions problem.entry.now)) }
 {
@@ -52,7 +56,7 @@ fn condition_names<'a>(alloc: Global, problem: &'a Problem) -> Result<Vec<&'a Na
     Ok(names)
 }
 
-/// The ends of edges.
+/// Returns the source and target of each edge.
 fn edge_ends(alloc: Global, edges: &[Edge]) -> Result<Vec<(u32, u32)>, OutOfMemory>
     ensures { IfOk result (λ ends. ends.items ≡ map (λ e. (e.from, e.to)) edges.now) }
 {
@@ -64,7 +68,7 @@ fn edge_ends(alloc: Global, edges: &[Edge]) -> Result<Vec<(u32, u32)>, OutOfMemo
     Ok(ends)
 }
 
-/// The names of the processes of a head.
+/// Returns the names of the processes of a head.
 fn head_process_names<'a>(
     alloc: Global,
     processes: &'a [HeadProcess],
@@ -79,7 +83,7 @@ fn head_process_names<'a>(
     Ok(names)
 }
 
-/// The names of those processes of a head that have conditions.
+/// Returns the names of those processes of a head that have conditions.
 fn head_condition_names<'a>(
     alloc: Global,
     processes: &'a [HeadProcess],
@@ -95,7 +99,7 @@ fn head_condition_names<'a>(
     Ok(names)
 }
 
-/// A copy of the ends of a head's edges.
+/// Returns a copy of the ends of a head's edges.
 fn head_edges(alloc: Global, edges: &[(u32, u32)]) -> Result<Vec<(u32, u32)>, OutOfMemory>
     ensures { IfOk result (λ ends. ends.items ≡ edges.now) }
 {
@@ -105,7 +109,7 @@ fn head_edges(alloc: Global, edges: &[(u32, u32)]) -> Result<Vec<(u32, u32)>, Ou
 }
 
 impl<'a> Labels<'a> {
-    /// What the head of a pack calls the parts of its graph.
+    /// Returns the labels of the head of a pack.
     pub fn of_head(alloc: Global, head: &'a Head) -> Result<Labels<'a>, OutOfMemory>
         ensures { IfOk result (λ labels. labels ≡ head_labels head.entry.now) }
     {
@@ -116,7 +120,7 @@ impl<'a> Labels<'a> {
         })
     }
 
-    /// What a graph calls its parts.
+    /// Returns the labels of a graph.
     pub fn of(alloc: Global, problem: &'a Problem) -> Result<Labels<'a>, OutOfMemory>
         ensures { IfOk result (λ labels. labels ≡ labels_of problem.entry.now) }
     {
@@ -127,7 +131,7 @@ impl<'a> Labels<'a> {
         })
     }
 
-    /// What a process is called, and nothing if there is no such process.
+    /// Returns the name of a process; empty if there is no such process.
     pub fn process(&self, process: u32) -> &str
         ensures name { result.now ≡ process_name self.now process }
         ensures few { length result.now ≤ 32 }
@@ -138,7 +142,7 @@ impl<'a> Labels<'a> {
         }
     }
 
-    /// What the process of a condition is called, and nothing if there is no such condition.
+    /// Returns the name of the process of a condition; empty if there is no such condition.
     pub fn condition(&self, condition: u32) -> &str
         ensures name { result.now ≡ condition_name self.now condition }
         ensures few { length result.now ≤ 32 }
@@ -149,14 +153,14 @@ impl<'a> Labels<'a> {
         }
     }
 
-    /// The numbers of the processes that an edge runs between, 0 if there is no such edge.
+    /// Returns the processes that an edge leads from and to; 0 and 0 if there is no such edge.
     pub fn ends(&self, edge: u32) -> (u32, u32)
         ensures { result ≡ edge_ends self.now edge }
     {
         self.edges.get(edge as usize).copied().unwrap_or((0, 0))
     }
 
-    /// The item of a number, for the texts of a pack, which comes without its graph.
+    /// Returns the item with this number. It serves the texts of a pack, which comes without its graph.
     pub fn item(&self, number: u32) -> Item
         ensures { result ≡ item_of self.now number }
     {

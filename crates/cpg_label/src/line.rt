@@ -1,5 +1,5 @@
-//! The text of a column's literals, made of that of the column before if both begin alike. It has room for all that a
-//! column may have, so that writing needs no memory.
+//! The text of a column's literals. What it has in common with that of the column before is kept. There is room for all
+//! literals that a column may have, so that writing asks for no memory.
 ghost use Rattle.std.specs.Prelude.{◌≡◌, ◌+◌, ◌*◌, ◌<◌, ◌≤◌, ◌++◌, ◌∷◌, [], IfOk, get_or, length, take};
 ghost use Rattle.std.specs.Bool.{OnTrue};
 ghost use Rattle.cpg_cube.specs.Cube.{IsRising};
@@ -11,31 +11,32 @@ use crate::labels::Labels;
 use cpg_cube::Literal;
 use std::alloc::{AllocError, Global};
 
-/// How many literals a column may have: their variables are numbers of a byte, and rise.
+/// The most literals that a column may have: their variables are bytes, and rise.
 const MOST_LITERALS: usize = 256;
 
-/// `count` literals with their text, and how long the text of the first ones is, for each number of these. What stands behind
-/// them is left of earlier ones.
+/// The text of `count` literals. Each list has room for 256 literals, and after its part for these `count` what is left
+/// of earlier ones.
 #[derive(Drop)]
 pub struct Line {
-    /// How many literals it has.
+    /// How many literals the line has.
     count: usize,
-    /// Its literals, and behind them what is left of earlier ones.
+    /// The literals.
     literals: Vec<Literal>,
-    /// Their text, and behind it what is left of earlier text.
+    /// Their text.
     text: Vec<u8>,
-    /// How long the text of the first literals is, by their number.
+    /// At each n from 0 to `count`, how long the text of the first n literals is.
     ends: Vec<usize>,
 }
 
-/// Whether two literals are the same.
+/// Returns whether two literals are the same; `true` guarantees it.
 fn is_same(first: Literal, second: Literal) -> bool
     ensures { OnTrue result (first ≡ second) }
 {
     (first.variable == second.variable) & (first.low == second.low) & (first.high == second.high)
 }
 
-/// Whether the literals of two blocks are the same. It never stops early, so that the compiler compares them at once.
+/// Returns whether the literals of two blocks are the same; `true` guarantees it. It never stops early, so that the
+/// compiler can compare several at once.
 fn are_same<const N: usize>(first: &[Literal; N], second: &[Literal; N]) -> bool
     ensures { OnTrue result (first.now ≡ second.now) }
 {
@@ -46,7 +47,8 @@ fn are_same<const N: usize>(first: &[Literal; N], second: &[Literal; N]) -> bool
     are
 }
 
-/// A place up to which two lists are alike, found by blocks of eight.
+/// Returns a place up to which two lists are alike: the start of the first block of eight that differs, or that one of
+/// them hasn't whole.
 fn front_by_eights(first: &[Literal], second: &[Literal]) -> usize
     ensures { AreAlike first.now second.now result }
 {
@@ -54,7 +56,7 @@ fn front_by_eights(first: &[Literal], second: &[Literal]) -> usize
     let mut right = second;
     let mut place = 0;
     while let Some((block, rest)) = left.split_first_chunk::<8>() {
-        // the second list has no more block of eight
+        // the second list has no block of eight left
         let Some((other, behind)) = right.split_first_chunk::<8>() else {
             return place;
         };
@@ -68,7 +70,8 @@ fn front_by_eights(first: &[Literal], second: &[Literal]) -> usize
     place
 }
 
-/// A place up to which two lists are alike, four behind a place up to which they are if those are the same too.
+/// Returns a place up to which two lists are alike: four after `place`, up to which they are, if both have four more
+/// literals and these are the same; and `place` otherwise.
 fn front_by_four(first: &[Literal], second: &[Literal], place: usize) -> usize
     requires { AreAlike first.now second.now place }
     ensures { AreAlike first.now second.now result }
@@ -85,7 +88,8 @@ fn front_by_four(first: &[Literal], second: &[Literal], place: usize) -> usize
     place
 }
 
-/// How many literals two lists begin with alike, by a place up to which they do.
+/// Returns how many literals two lists begin with in common, looking at one after another from a place up to which they
+/// are alike.
 fn front_from(first: &[Literal], second: &[Literal], from: usize) -> usize
     requires { AreAlike first.now second.now from }
     ensures { AreAlike first.now second.now result }
@@ -101,8 +105,8 @@ fn front_from(first: &[Literal], second: &[Literal], from: usize) -> usize
     place
 }
 
-/// How many literals two lists begin with alike. Columns that are neighbours mostly differ in the last ones alone, so it looks at
-/// many together.
+/// Returns how many literals two lists begin with in common. Columns that are neighbours mostly differ in the last
+/// literals alone, so it compares many at once.
 fn common_front(first: &[Literal], second: &[Literal]) -> usize
     ensures { AreAlike first.now second.now result }
 {
@@ -111,7 +115,7 @@ fn common_front(first: &[Literal], second: &[Literal]) -> usize
     front_from(first, second, place)
 }
 
-/// How many variables there are up to one.
+/// Returns how many variables there are up to this one.
 fn count_up_to(variable: u8) -> usize
     ensures count { result ≡ variable + 1 }
     ensures few { result ≤ MOST_LITERALS }
@@ -119,19 +123,19 @@ fn count_up_to(variable: u8) -> usize
     usize::from(variable) + 1
 }
 
-/// Its contract says that literals whose variables rise are few.
+/// Literals whose variables rise are at most 256. The function does nothing and is there for its contract.
 fn are_few(literals: &[Literal])
     requires { IsRising literals.now }
     ensures { length literals.now ≤ MOST_LITERALS }
 {
     if let Some(last) = literals.last() {
-        // its clauses bound the number of literals
+        // called for its contract: n literals that rise have variables up to n - 1 at least
         let _count = count_up_to(last.variable);
     }
 }
 
 impl Line {
-    /// The line of no literals.
+    /// Returns the line of no literals; `Err` only if memory runs out.
     pub fn new(alloc: Global) -> Result<Line, AllocError>
         ensures { IfOk result (λ line. (labels : Labels) → IsLine labels line) }
     {
@@ -146,7 +150,7 @@ impl Line {
         })
     }
 
-    /// Its literals.
+    /// Returns the literals of the line.
     fn literals(&self) -> &[Literal]
         requires { self.now.count ≤ length self.now.literals.items }
         ensures { result.now ≡ take self.now.count self.now.literals.items }
@@ -154,7 +158,7 @@ impl Line {
         &self.literals[..self.count]
     }
 
-    /// Leaves this many literals. The contract alone names `labels`.
+    /// Keeps the first `count` literals and drops the others. `labels` is there for the contract alone.
     fn keep(&mut self, labels: &Labels<'_>, count: usize)
         requires line { IsLine labels.now self.old }
         requires within { count ≤ self.old.count }
@@ -165,7 +169,7 @@ impl Line {
         self.count = count;
     }
 
-    /// Adds a literal.
+    /// Adds a literal and its text.
     fn add(&mut self, labels: &Labels<'_>, literal: Literal)
         requires line { IsLine labels.now self.old }
         requires few { self.old.count < MOST_LITERALS }
@@ -174,6 +178,7 @@ impl Line {
         ensures count { self.new.count ≡ self.old.count + 1 }
     {
         let count = self.count;
+        // where the text so far ends
         let at = self.ends[count];
         let end = place_after(self.text.as_mut_slice(), at, labels, count, literal);
         self.literals[count] = literal;
@@ -181,7 +186,7 @@ impl Line {
         self.count = count + 1;
     }
 
-    /// Adds literals.
+    /// Adds literals and their text.
     fn add_all(&mut self, labels: &Labels<'_>, literals: &[Literal])
         requires line { IsLine labels.now self.old }
         requires few { self.old.count + length literals.now ≤ MOST_LITERALS }
@@ -193,13 +198,13 @@ impl Line {
         }
     }
 
-    /// Turns into the line of literals whose variables rise.
+    /// Turns the line into that of these literals, whose variables rise.
     pub fn turn_into(&mut self, labels: &Labels<'_>, literals: &[Literal])
         requires line { IsLine labels.now self.old }
         requires rising { IsRising literals.now }
         ensures { IsLineOf labels.now literals.now self.new }
     {
-        // called for its contract
+        // called for its contract: the literals find room
         are_few(literals);
         // the literals that both begin with stay, with their text
         let count = common_front(self.literals(), literals);
@@ -207,7 +212,8 @@ impl Line {
         self.add_all(labels, &literals[count..]);
     }
 
-    /// The text of its literals, and nothing of none. The contract alone names `labels` and `literals`.
+    /// Returns the text of the line's literals, which is empty if there are none. `labels` and `literals` are there for the
+    /// contract alone.
     pub fn text(&self, labels: &Labels<'_>, literals: &[Literal]) -> &[u8]
         requires { IsLineOf labels.now literals.now self.now }
         ensures { result.now ≡ front_text labels.now literals.now }

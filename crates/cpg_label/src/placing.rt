@@ -1,8 +1,9 @@
-//! Texts put into bytes from a place on. The bytes are there already, so nothing grows.
+//! Putting texts into bytes at a place. The bytes are there already, so no memory is asked for. Each function returns the
+//! place after what it put.
 ghost use Rattle.std.specs.Prelude.{◌≡◌, ◌+◌, ◌<◌, ◌≤◌, ◌++◌, ◌∷◌, [], length, take};
 ghost use Rattle.std.specs.Fmt.{decimal};
 
-/// Puts a byte at a place, and says where the next one is to stand.
+/// Puts a byte at a place.
 pub(crate) fn place_byte(out: &mut [u8], at: usize, byte: u8) -> usize
     requires { at < length out.old }
     ensures bytes { take result out.new ≡ take at out.old ++ byte ∷ [] }
@@ -13,7 +14,7 @@ pub(crate) fn place_byte(out: &mut [u8], at: usize, byte: u8) -> usize
     at + 1
 }
 
-/// Puts two bytes.
+/// Puts two bytes at a place.
 pub(crate) fn place_two(out: &mut [u8], at: usize, bytes: [u8; 2]) -> usize
     requires { at + 2 ≤ length out.old }
     ensures bytes { take result out.new ≡ take at out.old ++ bytes }
@@ -24,7 +25,7 @@ pub(crate) fn place_two(out: &mut [u8], at: usize, bytes: [u8; 2]) -> usize
     place_byte(out, next, bytes[1])
 }
 
-/// Puts bytes.
+/// Puts bytes at a place.
 pub(crate) fn place(out: &mut [u8], at: usize, bytes: &[u8]) -> usize
     requires { at + length bytes.now ≤ length out.old }
     ensures bytes { take result out.new ≡ take at out.old ++ bytes.now }
@@ -36,7 +37,7 @@ pub(crate) fn place(out: &mut [u8], at: usize, bytes: &[u8]) -> usize
     end
 }
 
-/// Puts a number of more than one digit.
+/// Puts a number at a place, digit by digit: those before the last by a call of itself.
 fn place_decimal(out: &mut [u8], at: usize, number: u8) -> usize
     requires { at + length (decimal number) ≤ length out.old }
     ensures bytes { take result out.new ≡ take at out.old ++ decimal number }
@@ -50,7 +51,8 @@ fn place_decimal(out: &mut [u8], at: usize, number: u8) -> usize
     place_byte(out, end, b'0' + number % 10)
 }
 
-/// Puts a number, which has at most 20 digits. Most have one.
+/// Puts a number at a place, for which 20 bytes are there. Most numbers have one digit, which is put without a further
+/// call.
 pub(crate) fn place_number(out: &mut [u8], at: usize, number: u8) -> usize
     requires { at + 20 ≤ length out.old }
     ensures bytes { take result out.new ≡ take at out.old ++ decimal number }

@@ -1,4 +1,4 @@
-//! Texts put into bytes that have room for them.
+//! Appending texts to bytes that have room for them.
 ghost use Rattle.std.specs.Prelude.{◌≡◌, ◌+◌, ◌≤◌, ◌++◌, length};
 ghost use Rattle.std.specs.Fmt.{decimal};
 ghost use Rattle.std.specs.Vec.{vec_len, vec_capacity};
@@ -10,11 +10,11 @@ pub fn append(out: &mut Vec<u8>, bytes: &[u8])
     ensures len { vec_len out.new ≡ vec_len out.old + length bytes.now }
     ensures room { vec_capacity out.old ≤ vec_capacity out.new }
 {
-    // as there is room, it can't want memory
+    // the room is reserved, so no memory is asked for, and there is no error
     let _done = out.extend_from_slice(bytes);
 }
 
-/// Appends a number.
+/// Appends a number, digit by digit: those before the last by a call of itself.
 fn append_decimal(out: &mut Vec<u8>, number: u64)
     requires { vec_len out.old + length (decimal number) ≤ vec_capacity out.old }
     ensures bytes { out.new.items ≡ out.old.items ++ decimal number }

@@ -1,11 +1,11 @@
-//! What texts are put together from.
+//! Parts of texts. Each function fails only if memory runs out.
 ghost use Rattle.std.specs.Prelude.{◌≡◌, ◌++◌, OnErr, OnOk, string_bytes};
 ghost use Rattle.std.specs.Fmt.{decimal};
 ghost use Rattle.cpg_label.specs.Front.{IsFrontOf};
 
 use std::alloc::AllocError;
 
-/// A text and another one behind it.
+/// Writes a text, and another one after it.
 pub(crate) fn write_both(out: &mut String, first: &str, second: &str) -> Result<(), AllocError>
     ensures text { OnOk result (string_bytes out.new ≡ string_bytes out.old ++ first.now ++ second.now) }
     ensures front { OnErr result (IsFrontOf (string_bytes out.old) (string_bytes out.new)) }
@@ -14,7 +14,7 @@ pub(crate) fn write_both(out: &mut String, first: &str, second: &str) -> Result<
     out.push_str(second)
 }
 
-/// A number.
+/// Writes a number in decimal digits.
 pub(crate) fn write_number(out: &mut String, number: u64) -> Result<(), AllocError>
     ensures text { OnOk result (string_bytes out.new ≡ string_bytes out.old ++ decimal number) }
     ensures front { OnErr result (IsFrontOf (string_bytes out.old) (string_bytes out.new)) }

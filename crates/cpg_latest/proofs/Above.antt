@@ -1,4 +1,5 @@
--- No run of an outcome is later than the latest times with as many faults.
+-- A run with at most n faults is no later than the latest times of its outcome with n faults: by induction on the moments in
+-- which the times of a run follow from each other.
 use Rattle.std.proofs.Common.{◌≡◌, ℕ, zero, suc, ◌+◌, ◌-◌, ◌<◌, ◌≤◌, ltb, lt-ltb, le-ltb, ltb-true, List, get_or, map}
 use Rattle.std.proofs.Common.{sum, Option, None, option_to_list, arith, inl, inr}
 use Rattle.std.proofs.lemmas.Bool.{cases_Bool}
@@ -46,7 +47,7 @@ module _ (g : Graph) (order : List ℕ) (frozen : List (Option ℕ)) (s : Scenar
       (le-ltb (moment_of_end g order p) m h)
       (lt-ltb (moment_of_end g order p) (moment_of_end g order p + 1) (omega arith))
 
-  -- before moment m no time of the run is later than the latest one with as many faults as are spent by it
+  -- before the moment m no time of the run is later than the latest one with n faults, if at most n are spent by it
   record AboveBefore (m : ℕ) : Type 0 where
     items : (n x : ℕ) → n ≤ g.faults → x < item_count g → moment g order x < m → spent_by (moment g order x) ≤ n →
         time_in t x ≤ time_in (late n) x
@@ -54,7 +55,8 @@ module _ (g : Graph) (order : List ℕ) (frozen : List (Option ℕ)) (s : Scenar
         spent_by (moment_of_end g order p + 1) ≤ n →
         end_in t p ≤ end_in (late n) p
 
-  -- what a bound rests on is no later in the run than in the latest times
+  -- what the item x rests on is no later in the run than in the latest times: a fixed number is the same, and an item or an end
+  -- has an earlier moment, by which no more faults are spent
   cause_le : (m x n : ℕ) → AboveBefore m → moment g order x ≤ m → n ≤ g.faults → spent_by (moment g order x) ≤ n
       → (c : Cause) → IsBefore g order (moment g order x) c → value_in t c ≤ value_in (late n) c
   cause_le m x n a k few b fixed h = omega arith
@@ -69,7 +71,8 @@ module _ (g : Graph) (order : List ℕ) (frozen : List (Option ℕ)) (s : Scenar
       → unfrozen_time g order s t x ≤ unfrozen_time g order s (late n) x
   unfrozen_le m x n a k l few b = unfrozen_grows g order topological s t (late n) x l (cause_le m x n a k few b)
 
-  -- if the unfrozen time of an item is no later than its latest unfrozen one, its time is no later either
+  -- if the unfrozen time of an item is no later than its latest unfrozen one, its time is no later either: both wait for the same
+  -- frozen time, and an inactive item has the time 0
   time_le : (x n : ℕ) → x < item_count g → n ≤ g.faults →
       unfrozen_time g order s t x ≤ unfrozen_time g order s (late n) x →
       time_in t x ≤ time_in (late n) x
@@ -85,7 +88,8 @@ module _ (g : Graph) (order : List ℕ) (frozen : List (Option ℕ)) (s : Scenar
     | inr is ↦ omega (arith, time_inactive g order frozen s t run x l is)
   ]
 
-  -- an end is no later in the run than in the latest times
+  -- An end is no later in the run than in the latest times. With j faults of its own, at most n - j are spent by its start, so
+  -- the start is no later than the latest one with n - j, and the end than the one that this gives.
   end_le : (m p n : ℕ) → AboveBefore m → moment_of_end g order p ≤ m → p < process_count g → n ≤ g.faults →
       spent_by (moment_of_end g order p + 1) ≤ n →
       end_in t p ≤ end_in (late n) p
@@ -106,7 +110,7 @@ module _ (g : Graph) (order : List ℕ) (frozen : List (Option ℕ)) (s : Scenar
         | inr is ↦ omega (arith, end_inactive g order frozen s t run p l is)
       ]
 
-  -- by induction on moments: what comes before m in the run is no later than in the latest times
+  -- by induction on m: no item or end before the moment m is later in the run than in the latest times
   above_before : (m : ℕ) → AboveBefore m
   above_before zero =
       record { items = λ n x few l h b. absurd (omega arith); ends = λ n p few l h b. absurd (omega arith) }
@@ -117,12 +121,12 @@ module _ (g : Graph) (order : List ℕ) (frozen : List (Option ℕ)) (s : Scenar
         ends = λ n p few l h b. end_le m p n a (omega arith) l few b;
       }
 
-  -- no more faults are spent than there are
+  -- by any moment no more faults are spent than the scenario has
   all_spent : (m n : ℕ) → sum s.faults ≤ n → spent_by m ≤ n
   unfolding spent_by
   all_spent m n h = omega (arith, h, spent-le (λ q. ltb (moment_of_end g order q) m) 0 s.faults)
 
-  -- the run is no later than the latest times with at least as many faults
+  -- the run is no later than the latest times with n faults, if it has at most n: all its moments come before the last
   pub no_later : (n : ℕ) → sum s.faults ≤ n → n ≤ g.faults → IsNoLater g order s t (late n)
   no_later n h few =
       let a = above_before (last g) in

@@ -1,4 +1,5 @@
--- Scenarios that agree on what is active in the first have one run, and what is active in it.
+-- If two scenarios agree on what is active in the first, the same is active in both, and a run of the first is one of the
+-- second.
 use Rattle.std.proofs.Common.{◌≡◌, ◌∙◌, ℕ, ◌+◌, ◌<◌, true, false, ◌&&◌, if◌then◌else◌, List, [], ◌∷◌, ◌++◌, map, get_or}
 use Rattle.std.proofs.Common.{Option, Some, None, option_to_list, option_map, arith, sym, ap, ap₂, subst}
 use Rattle.std.proofs.Common.{inl, inr}
@@ -27,7 +28,7 @@ use Rattle.cpg_run.specs.Run.{Times, IsRun, time_in, end_in, input_there, heard_
 use Rattle.cpg_run.specs.Run.{bounds_of_item, time_by, end_by}
 use Rattle.cpg_run.proofs.Runs.{time_is}
 
--- two scenarios agree on what is active in the first
+-- two scenarios agree on the values of conditions and the fault counts of processes that are active in the first
 pub record AreActiveAlike (g : Graph) (s u : Scenario) : Type 0 where
   pub values : (c : ℕ) → c < condition_count g → active g s.values (process_of g c) ≡ true →
       get_or s.values c false ≡ get_or u.values c false
@@ -40,7 +41,7 @@ module _ (g : Graph) (urgency : List ℕ) (urgent : IsUrgencyOrder g urgency) (l
   activation_is_same : (p : ℕ) → p < process_count g → activation g s.values p ≡ activation g u.values p
   activation_is_same p l = same_everywhere g urgency lawful s.values u.values p (omega arith) alike.values
 
-  -- the same processes and items are active in both
+  -- the same processes are active in both scenarios
   pub active_is_same : (p : ℕ) → p < process_count g → active g s.values p ≡ active g u.values p
   active_is_same p l = ap is_active (activation_is_same p l)
 
@@ -50,12 +51,12 @@ module _ (g : Graph) (urgency : List ℕ) (urgent : IsUrgencyOrder g urgency) (l
       (activation_is_same (source g e) (source_in_order g urgency lawful e l))
       (λ c k at acts. alike.values c k (subst (λ q. active g s.values q ≡ true) (sym at) acts))
 
-  -- the same conditions decide a process in both
+  -- the same conditions decide a process in both scenarios
   deciding_is_same : (p : ℕ) → deciding g s.values p ≡ deciding g u.values p
   deciding_is_same p = deciding_same g urgency urgent p s.values u.values
       (λ c l d. alike.values c l (deciding_is_active g urgency urgent lawful s.values p c l d))
 
-  -- the same items are active in both
+  -- the same items are active in both scenarios
   pub item_is_same : (x : ℕ) → ItemCases g x →
       item_active g s.values (item_at g x) ≡ item_active g u.values (item_at g x)
   item_is_same x (inl c) =
@@ -104,7 +105,7 @@ module _ (g : Graph) (urgency : List ℕ) (urgent : IsUrgencyOrder g urgency) (l
         (item_is_same x (item_cases g x l)) (bounds_same x (item_cases g x l))
 
     module _ (run : IsRun g order frozen s t) where
-      -- each process ends alike in both scenarios: an active one has the same faults, and an inactive one no start
+      -- each process ends alike in both scenarios: an active one has the same faults, and an inactive one has no start
       end_same : (p : ℕ) → p < process_count g → end_by g s t p ≡ end_by g u t p
       end_same p l = elim (cases_Bool (active g s.values p)) [
         | inl acts ↦

@@ -1,4 +1,4 @@
--- What the tracks of a list say of a process, one after another.
+-- The list of what the tracks say of a process, and one more at its end.
 use Rattle.std.proofs.Common.{◌≡◌, ◌∙◌, ℕ, ◌+◌, ◌<◌, List, [], ◌∷◌, ◌++◌, length, length-append, take, get_or, arith}
 use Rattle.std.proofs.Common.{sym, ap, ap₂, inl, inr, subst}
 use Rattle.std.proofs.lemmas.Bool.{cases_lt}
@@ -21,7 +21,7 @@ pub outcome_asked : (asked : List Asked) (i : ℕ) (d : Asked) → i < length as
     track_at (outcomes_asked asked) i ≡ (get_or asked i d).scenario.now.values
 outcome_asked asked i d l = get_or-map (λ a. a.scenario.now.values) asked i d [] l
 
--- if tracks are asked of a process and one more is, all of them are
+-- if each of a list is what an outcome says of the process, and one more is, so is each of the list with that one
 pub asked_more : (g : Graph) (guards : Guards) (p : ℕ) (asked more : List Asked) (one : Asked) →
     AreAsked g guards p asked → IsAsked g guards p one →
     more ≡ asked ++ one ∷ [] →
@@ -33,7 +33,7 @@ asked_more g guards p asked more one a is all i d l = elim (cases_lt i (length a
       subst (IsAsked g guards p) (sym (ap₂ (λ xs k. get_or xs k d) all at ∙ get_or-append_seam asked one [] d)) is
 ]
 
--- the outcomes that were asked are still those of the first scenarios, with one more
+-- if the outcomes asked are those of the first i scenarios, with one more they are those of the first i + 1
 pub outcomes_more : (asked more : List Asked) (one : Asked) (scenarios : List Scenario) (i : ℕ) (d : Scenario) →
     outcomes_asked asked ≡ outcomes_of (take i scenarios) →
     i < length scenarios

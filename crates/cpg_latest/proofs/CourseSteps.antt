@@ -34,12 +34,12 @@ not_sooner g p (suc n) start last = let is = cond-false (suc n == 0) (start + du
     (max (start + duration g p 0) (last + again g p)) (some_faults n) in
     omega (arith, is)
 
--- the last end that is given to the first course is 0
+-- the latest end with one fault less than none is taken as 0
 pub last_first : (g : Graph) (late : ℕ → Times) (p : ℕ) → 0 ≡ last_end g late 0 p
 unfolding last_end
 last_first g late p = refl
 
--- the latest end with n faults is the last end for m, which is n + 1
+-- the latest end with n faults is the last end for m, if m is n + 1
 last_at : (g : Graph) (late : ℕ → Times) (n m p : ℕ) → m ≡ suc n → latest_end g late n p ≡ last_end g late m p
 unfolding last_end
 last_at g late n m p e = subst (λ i. latest_end g late n p ≡ last_end g late i p) (sym e) refl
@@ -48,7 +48,7 @@ last_at g late n m p e = subst (λ i. latest_end g late n p ≡ last_end g late 
 pub last_next : (g : Graph) (late : ℕ → Times) (n p : ℕ) → latest_end g late n p ≡ last_end g late (n + 1) p
 last_next g late n p = last_at g late n (n + 1) p (omega arith)
 
--- the latest end with one fault less stays small
+-- given: an active process, early frozen times, and a graph within its limits
 module _ (g : Graph) (order : List ℕ) (topological : IsTopological g order) (Done : ℕ → Type 0)
     (frozen : List (Option ℕ)) (values : List Bool)
     (limits : IsWithinLimits g) (long : length values ≡ condition_count g) (early : AreEarly frozen) (p : ℕ)
@@ -67,7 +67,7 @@ module _ (g : Graph) (order : List ℕ) (topological : IsTopological g order) (D
       let is = late_end_active g order frozen s late are n (omega (arith, few)) p l on in
       omega (arith, is, small.ends p)
 
--- the course once a process has begun
+-- the course c once the process p has begun on its node
 abbrev pub begun : ProgressState → ℕ → ℕ → ℕ → ℕ → ProgressState
 begun c p node start end = record {
   known = record c.known { times = set c.known.times p (Some start); ends = set c.known.ends p (Some end) };
@@ -75,11 +75,11 @@ begun c p node start end = record {
   free = c.free;
 }
 
--- the course once the node has waited for an inactive process
+-- the course c once the node has waited for what decides an inactive process
 abbrev pub waited : ProgressState → ℕ → ℕ → ProgressState
 waited c node ready = record { known = c.known; ready = set c.ready node ready; free = c.free }
 
--- the course once an item is sent
+-- the course c once the item x is sent by the node
 abbrev pub sent : ProgressState → ℕ → ℕ → ℕ → ℕ → ProgressState
 sent c x node time free = record {
   known = record c.known { times = set c.known.times x (Some time) };
@@ -95,7 +95,8 @@ module _ (g : Graph) (order : List ℕ) (topological : IsTopological g order) (D
       (is_ready : IsReadyFor g values p c ready) where
     -- ---- an inactive process
 
-    -- after an inactive process all is known before the next place
+    -- after an inactive process all is known before the next place: no time is added, and its node is ready when it has heard
+    -- what decides the process too
     pub passed : active g values p ≡ false → IsSending g order Done frozen values p 0 n (waited c (node_of g p) ready)
     passed idle = record {
       places = record {
@@ -121,7 +122,7 @@ module _ (g : Graph) (order : List ℕ) (topological : IsTopological g order) (D
     module _ (done : Done p) (acts : active g values p ≡ true) (start : ℕ)
         (is_start : start ≡ max (max (max ready (process_at g p).release)
         (greatest (input_bounds g (with_faults values []) c.known p))) (frozen_in frozen p)) where
-      -- the start that is found is that of the latest times
+      -- the start that is found is that of the latest times: its frozen time is set already, and what it waits for is known
       pub start_is_latest : ForLatest g order Done frozen values (λ late. start ≡ time_in (late n) p)
       start_is_latest more goes late are =
           let found : start ≡ max (max (max ready (process_at g p).release)
@@ -136,7 +137,7 @@ module _ (g : Graph) (order : List ℕ) (topological : IsTopological g order) (D
 
       module _ (end last : ℕ) (is_end : end ≡ end_after g p n start last)
           (is_last : ForLatest g order Done frozen values (λ late. last ≡ last_end g late n p)) where
-        -- the end that is found is that of the latest times
+        -- the end that is found is that of the latest times, as it follows from the start and the last end by the same rule
         pub end_is_latest : ForLatest g order Done frozen values (λ late. end ≡ latest_end g late n p)
         end_is_latest more goes late are =
             is_end ∙ ap₂ (end_after g p n) (start_is_latest more goes late are) (is_last more goes late are)
@@ -205,7 +206,7 @@ module _ (g : Graph) (order : List ℕ) (topological : IsTopological g order) (D
     abbrev x : ℕ
     x = get_or (queue_of g p) k 0
 
-    -- if the item is inactive, the course as it is has sent one item more
+    -- if the item is inactive, the course as it is has sent one item more: the item has no time in the latest times either
     pub unsent : (active g values p ≡ true → item_active g values (item_at g x) ≡ false) →
         IsSending g order Done frozen values p (k + 1) n c
     unsent off = record {
@@ -238,7 +239,7 @@ module _ (g : Graph) (order : List ℕ) (topological : IsTopological g order) (D
       end_there more goes late are = let h = sending.acts acts more goes late are in
           ap (λ es. unwrap_or (get_or es p None) 0) h.keeps.ends ∙ h.ended
 
-      -- the time that is found for the item is that of the latest times, whatever frozen times follow
+      -- the time that is found is the rule's, with the latest end and the frozen time of whatever list follows
       time_there : (more : List (Option ℕ)) → GoesOn g Done frozen more → (late : ℕ → Times) →
           AreLatest g order more values late
           → time ≡ max (max (next_slot g (node_of g p) (end_in (late n) p)) (get_or c.free (node_of g p) 0))
@@ -257,7 +258,7 @@ module _ (g : Graph) (order : List ℕ) (topological : IsTopological g order) (D
           ∙ send_is g order topological s p l k inside more (late n) (latest_is_timed g order more s late are n
           (omega arith)) (get_or c.free (node_of g p) 0) h.sent.slots_free on_item
 
-      -- the end and the time of the send stay small
+      -- the end and the time of the send are latest times, and so below 2 ^ 59
       pub sends_small : IsWithinLimits g → length values ≡ condition_count g → AreEarly frozen →
           (end_in c.known p < 2 ^ 59) × (time < 2 ^ 59)
       sends_small limits long early =
@@ -312,12 +313,13 @@ module _ (g : Graph) (order : List ℕ) (topological : IsTopological g order) (D
           apart : true ≡ false → ⊥
           apart e = cc
 
-  -- once all items are sent, all is known before the next place
+  -- once all items are sent, all is known before the next place: by whether the process is active
   pub sent_all : (c : ProgressState) → IsSending g order Done frozen values p (length (queue_of g p)) n c →
       IsCourse g order Done frozen values (place order p + 1) n c
   sent_all c sending =
       record { places = sending.places; at = λ more goes late are. by (active g values p) refl more goes late are }
     where
+      -- an active process has sent all its items, and an inactive one has none to send
       by : (b : Bool) → active g values p ≡ b →
           ForLatest g order Done frozen values
           (λ late. IsAt g order (with_faults values []) (late n) (place order p + 1) c.known c.ready c.free)

@@ -1,5 +1,5 @@
--- The latest ends one after another: with one fault more the last execution has none of its own, or one more than with
--- one fault less.
+-- How the latest end with n + 1 faults follows from that with n: the execution has no fault of its own, or one more than an
+-- execution with n faults.
 use Rattle.std.proofs.Common.{◌≡◌, ℕ, zero, suc, ◌+◌, ◌-◌, ◌≤◌, max, map, arith, ap, subst, suc-mul}
 use Rattle.cpg_base.specs.Duration.{duration}
 use Rattle.cpg_base.specs.Graph.{Graph}
@@ -14,7 +14,7 @@ pub duration_suc : (g : Graph) (p j : ℕ) → duration g p (suc j) ≡ duration
 duration_suc g p j = omega (arith, suc-mul j (again g p))
 
 module _ (g : Graph) (late : ℕ → Times) (p : ℕ) where
-  -- the end with j of n faults of its own is no later than the latest end
+  -- an end with j of n faults of its own is no later than the latest end with n
   among : (n j : ℕ) → j ≤ n → end_with g late n p j ≤ latest_end g late n p
   among n j l = greatest_above (map (end_with g late n p) (numbers_below (n + 1))) (end_with g late n p j)
       (Contains-map (end_with g late n p) (numbers_below (n + 1)) j (Contains-numbers (n + 1) j (omega (arith, l))))
@@ -34,33 +34,36 @@ module _ (g : Graph) (late : ℕ → Times) (p : ℕ) where
   end_zero = omega
       (arith, none_of_it 0, among 0 0 (omega arith), no_more 0 (time_in (late 0) p + duration g p 0) (λ j l. below j l))
     where
+      -- 0 is the only number of own faults up to 0
       below : (j : ℕ) → j ≤ 0 → end_with g late 0 p j ≤ time_in (late 0) p + duration g p 0
       below zero l = omega (arith, none_of_it 0)
       below (suc j) l = absurd (omega (arith, l))
 
-  -- one own fault more makes it end later by one more part
+  -- one fault more, and that an own one, makes an execution end later by what each fault adds
   later_by : (n j : ℕ) → j ≤ n → end_with g late (suc n) p (suc j) ≡ end_with g late n p j + again g p
   later_by n j l = let e : suc n - suc j ≡ n - j = omega arith in
       omega (arith, ap (λ m. time_in (late m) p) e, duration_suc g p j)
 
-  -- with one fault more the latest end is that of an execution without faults, or one more fault after the latest end
-  -- with one fault less, whichever is later
+  -- The latest end with n + 1 faults is the later of the end without own faults, and of the latest end with n and one fault
+  -- more. It is no later, since each end is one of these (`whole`), and no earlier (`others` and the end without own faults).
   pub end_suc : (n : ℕ) →
       latest_end g late (suc n) p ≡ max (time_in (late (suc n)) p + duration g p 0) (latest_end g late n p + again g p)
   end_suc n = omega (arith, none_of_it (suc n), among (suc n) 0 (omega arith), others, whole)
     where
+      -- each end with n + 1 faults is that without own faults, or has one own fault more than an end with n
       whole : latest_end g late (suc n) p
           ≤ max (time_in (late (suc n)) p + duration g p 0) (latest_end g late n p + again g p)
       whole =
           no_more (suc n) (max (time_in (late (suc n)) p + duration g p 0) (latest_end g late n p + again g p)) below
         where
+          -- by whether the end has own faults
           below : (j : ℕ) → j ≤ suc n →
               end_with g late (suc n) p j
               ≤ max (time_in (late (suc n)) p + duration g p 0) (latest_end g late n p + again g p)
           below zero l = omega (arith, none_of_it (suc n))
           below (suc j) l = omega (arith, later_by n j (omega (arith, l)), among n j (omega (arith, l)))
 
-      -- with one fault more the latest end is later by at least one more part
+      -- the latest end with n + 1 faults is later than that with n by at least what one fault adds
       others : latest_end g late n p + again g p ≤ latest_end g late (suc n) p
       others =
           let bound = no_more n (latest_end g late (suc n) p - again g p)

@@ -1,4 +1,4 @@
--- Counts of faults: what some of the processes have of them, and one process with more.
+-- Fault counts: how many faults some of the processes have together, and a list with more faults in one process.
 use Rattle.std.proofs.Common.{◌≡◌, ℕ, zero, suc, ◌+◌, ◌<◌, ◌≤◌, Bool, true, false, if◌then◌else◌, List, [], ◌∷◌, length}
 use Rattle.std.proofs.Common.{get_or, sum, arith, refl, ap, ◌∙◌}
 use Rattle.std.proofs.lemmas.Bool.{cond-true, cond-false}
@@ -7,7 +7,7 @@ use Rattle.std.proofs.lemmas.List.Sums.{sum_by-cons}
 
 -- ---- of some processes
 
--- the faults of those that pass, where the first process of the list has this number
+-- how many faults the processes have that pass the test; the first of the list has the number i
 abbrev pub spent : (ℕ → Bool) → ℕ → List ℕ → ℕ
 spent b i [] = 0
 spent b i (f ∷ fs) = (if b i then f else 0) + spent b (suc i) fs
@@ -22,12 +22,12 @@ if_more : (b c : Bool) (f : ℕ) → (b ≡ true → c ≡ true) → (if b then 
 if_more true c f h = omega (arith, cond-true c f 0 (h refl))
 if_more false c f h = omega arith
 
--- some of the processes have no more faults than all have
+-- some of the processes have no more faults than all: by induction on the list
 pub spent-le : (b : ℕ → Bool) (i : ℕ) (fs : List ℕ) → spent b i fs ≤ sum fs
 spent-le b i [] = omega arith
 spent-le b i (f ∷ fs) = omega (arith, if_le (b i) f, spent-le b (suc i) fs, sum_by-cons (λ (n : ℕ). n) f fs)
 
--- if more processes pass, they have no fewer faults
+-- if all that pass one test pass another, those that pass the other have no fewer faults: by induction on the list
 pub spent-more : (b c : ℕ → Bool) (i : ℕ) (fs : List ℕ) → ((q : ℕ) → b q ≡ true → c q ≡ true) →
     spent b i fs ≤ spent c i fs
 spent-more b c i [] h = omega arith
@@ -37,7 +37,8 @@ spent-more b c i (f ∷ fs) h = omega (arith, if_more (b i) (c i) f (h i), spent
 none_at : (fs : List ℕ) (j : ℕ) → length fs ≡ 0 → get_or fs j 0 ≡ 0
 none_at fs j e = get_or_past fs j 0 (omega (arith, e))
 
--- if one process more passes, there are at least its faults more
+-- if the process q passes the second test only, those that pass that one have at least the faults of q more: by induction down
+-- to the place j of q
 pub spent-one : (b c : ℕ → Bool) (i j q : ℕ) (fs : List ℕ) → ((r : ℕ) → b r ≡ true → c r ≡ true) → i + j ≡ q →
     b q ≡ false → c q ≡ true
     → spent b i fs + get_or fs j 0 ≤ spent c i fs
@@ -54,7 +55,7 @@ spent-one b c i (suc j) q (f ∷ fs) h e off on =
 
 -- ---- one process with more
 
--- the list with `j` more at place `p`
+-- the list with j added at the place p; a place past the end changes nothing
 abbrev pub add_at : List ℕ → ℕ → ℕ → List ℕ
 add_at [] p j = []
 add_at (f ∷ fs) zero j = (f + j) ∷ fs
@@ -73,7 +74,7 @@ sum-add_at (f ∷ fs) zero j = omega (arith, sum_by-cons (λ (n : ℕ). n) (f + 
 sum-add_at (f ∷ fs) (suc p) j =
     omega (arith, sum_by-cons (λ (n : ℕ). n) f (add_at fs p j), sum_by-cons (λ (n : ℕ). n) f fs, sum-add_at fs p j)
 
--- no process has fewer faults than before, and the one itself has at least those that are added
+-- no process has fewer faults than before
 pub add_at-grows : (fs : List ℕ) (p j q : ℕ) → get_or fs q 0 ≤ get_or (add_at fs p j) q 0
 add_at-grows [] p j q = omega arith
 add_at-grows (f ∷ fs) zero j zero = omega arith
@@ -81,7 +82,7 @@ add_at-grows (f ∷ fs) zero j (suc q) = omega arith
 add_at-grows (f ∷ fs) (suc p) j zero = omega arith
 add_at-grows (f ∷ fs) (suc p) j (suc q) = add_at-grows fs p j q
 
--- the place then has at least what was added
+-- the process itself has at least the faults that were added
 pub add_at-there : (fs : List ℕ) (p j : ℕ) → p < length fs → j ≤ get_or (add_at fs p j) p 0
 add_at-there [] p j l = absurd (omega arith)
 add_at-there (f ∷ fs) zero j l = omega arith

@@ -1,4 +1,5 @@
--- From nothing at the first place to the figures after the last one.
+-- The ends of the walk along the order: nothing is known before the first place, and after the last one the lanes have the
+-- greatest excess and finish of the order.
 use Rattle.std.proofs.Common.{ℕ, ◌+◌, ◌-◌, ◌<◌, ◌≡◌, max, Bool, List, [], ◌∷◌, map, flat_map, length, get_or, Option}
 use Rattle.std.proofs.Common.{None, unwrap_or, option_to_list, arith, refl, sym, ap, ◌∙◌, subst, inl, inr}
 use Rattle.std.proofs.Common.{replicate}
@@ -40,7 +41,7 @@ on_graph g w p l = (w.processes p _ l).node
 -- ---- at the first place
 
 module _ (g : Graph) (order : List ℕ) where
-  -- before the first place no frozen time is set
+  -- before the first place no item is done, so that no frozen time is set is right
   pub settled_none : AreSettledOf g order (IsEarlier g order 0) (nothing_frozen g)
   settled_none = record {
     count = length-replicate {A = Option ℕ} (item_count g) None;
@@ -53,7 +54,7 @@ module _ (g : Graph) (order : List ℕ) where
   abbrev nothing : ProgressState
   nothing = record { known = no_times g; ready = replicate (length g.nodes) 0; free = replicate (length g.nodes) 0 }
 
-  -- at place 0 no time and no end is known, and all nodes are ready and free from 0 on
+  -- that is all that there is before the place 0, since no process comes before it
   at_first : (s : Scenario) (t : Times) →
       IsAt g order s t 0 (no_times g) (replicate (length g.nodes) 0) (replicate (length g.nodes) 0)
   at_first s t = record {
@@ -74,7 +75,7 @@ module _ (g : Graph) (order : List ℕ) where
     };
   }
 
-  -- the course in which nothing is known is the one before place 0
+  -- so a course in which nothing is known is the one before the place 0
   course_first : (Done : ℕ → Type 0) (frozen : List (Option ℕ)) (values : List Bool) (n : ℕ) →
       IsCourse g order Done frozen values 0 n nothing
   course_first Done frozen values n = record {
@@ -116,7 +117,7 @@ greatest_below f n most next h is =
     is ∙ ap (λ m. max m (f n)) h ∙ sym (greatest_push (map f (numbers_below n)) (f n))
     ∙ sym (ap (λ xs. greatest (map f xs)) (below_push n) ∙ ap greatest (map-append f (numbers_below n) (n ∷ [])))
 
--- the greatest end over all places is the greatest of the list
+-- the greatest of the ends by place, 0 if one is missing, is the greatest of those that are there: each bounds the other
 finish_by_places : (os : List (Option ℕ)) (n : ℕ) → length os ≡ n →
     greatest (map (there os) (numbers_below n)) ≡ greatest (flat_map option_to_list os)
 finish_by_places os n long =
@@ -132,7 +133,7 @@ finish_by_places os n long =
           omega (arith, r.2, above)
     ])
 
--- two lists of numbers by places are the same if their numbers are
+-- a number of each lane, in a list, is the list of the numbers G i, if they are the same at each place
 same_lists : (lanes : List (List ProgressState)) (count : ℕ) (F : List ProgressState → ℕ) (G : ℕ → ℕ) →
     length lanes ≡ count →
     ((i : ℕ) → i < count → F (get_or lanes i []) ≡ G i) →
@@ -142,8 +143,9 @@ same_lists lanes count F G long same = ext_get_or 0 (map F lanes) (map G (number
     let k : i < count = omega (arith, l, length-map lanes F, long) in
     get_or-map F lanes i [] 0 (omega (arith, k, long)) ∙ same i k ∙ sym (get_or-map-below G count i 0 k))
 
--- given: lanes of all tracks in which all is known behind the last place
--- `urgent`, `lawful`, `topological`, `all`: the orders and all tracks; `settled`: frozen times; `known`: the lanes
+-- given: the lanes of all tracks, in which all is known after the last place
+-- `urgent`, `lawful`: of the urgency order; `topological`: of the other; `all`: the tracks are all tracks of the graph;
+-- `settled`: all frozen items have their frozen times; `known`: what the lanes know
 module _ (g : Graph) (urgency order : List ℕ) (frozen : List (Option ℕ)) (tracks : List (List Bool))
     (urgent : IsUrgencyOrder g urgency) (lawful : IsTopological g urgency) (topological : IsTopological g order)
     (all : AreTracks g tracks) (lanes : List (List ProgressState))
@@ -159,7 +161,7 @@ module _ (g : Graph) (urgency order : List ℕ) (frozen : List (Option ℕ)) (tr
   are : AreLatestOf g order frozen tracks lates
   are = record { all = all; each = λ i l. latest_exist g order frozen (track_at tracks i) topological }
 
-  -- what has been settled are the frozen times
+  -- the frozen times are those of the graph, as all items are done
   frozen_are : AreFrozenTimes g order frozen
   frozen_are = record {
     count = settled.count;

@@ -1,4 +1,4 @@
--- A list whose elements become so one after another.
+-- A loop over a list, which gives one element after another a new fact in place of an old one.
 use Rattle.std.proofs.Common.{◌≡◌, ◌∙◌, ℕ, ◌+◌, ◌<◌, List, length, length-set, get_or, set, arith, sym, ap, inl, inr}
 use Rattle.std.proofs.Common.{subst, get_or-set_same, get_or-set_other}
 use Rattle.std.proofs.lemmas.Bool.{cases_eq}
@@ -10,7 +10,7 @@ module _ {X : Type 0} (Old New : ℕ → X → Type 0) (count : ℕ) where
       AreHalf Old New 0 count xs
   half_first xs is old = record { count_is = is; done = λ j d l k. absurd (omega arith); left = λ j d l k. old j d k }
 
-  -- with the next element set, one element more has the new fact
+  -- if the m-th element is set to one with the new fact, the first m + 1 have it, and the others stay
   pub half_more : (m : ℕ) (xs more : List X) (x : X) → AreHalf Old New m count xs → m < count → New m x →
       more ≡ set xs m x →
       AreHalf Old New (m + 1) count more
@@ -26,7 +26,7 @@ module _ {X : Type 0} (Old New : ℕ → X → Type 0) (count : ℕ) where
         (a.left j d (omega arith) k);
   }
 
-  -- behind the last element all have the new fact
+  -- after the last element all have the new fact
   pub half_all : (m : ℕ) (xs : List X) → AreHalf Old New m count xs → m ≡ count → (j : ℕ) (d : X) → j < count →
       New j (get_or xs j d)
   half_all m xs a e j d l = a.done j d (omega arith) l

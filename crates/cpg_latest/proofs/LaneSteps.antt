@@ -37,17 +37,17 @@ lanes_map g P Q tracks lanes f are = record {
       (are.each i d l);
 }
 
--- where more is done and the frozen times of what was done stay
+-- given: all that is done by `Done` is done by `More`, and from `frozen` to `new` the frozen times of what is done stay
 module _ (g : Graph) (order : List ℕ) (Done More : ℕ → Type 0) (frozen new : List (Option ℕ))
     (grows : (y : ℕ) → y < item_count g → Done y → More y)
     (same : (y : ℕ) → y < item_count g → Done y → get_or new y None ≡ get_or frozen y None) where
-  -- a course and a sending process stay what they are if more items are done under the same frozen times
+  -- a course that has the latest times whatever follows has them if more items are done
   pub course_more : (values : List Bool) (i n : ℕ) (c : ProgressState) → IsCourse g order Done frozen values i n c →
       IsCourse g order More new values i n c
   course_more values i n c course =
       record { places = course.places; at = for_more g order Done More frozen new values _ grows same course.at }
 
-  -- what a process has sent in a course stays so once more frozen times are set
+  -- a course in which a process has sent some of its items remains such a course if more items are done
   pub sending_more : (values : List Bool) (p k n : ℕ) (c : ProgressState) →
       IsSending g order Done frozen values p k n c →
       IsSending g order More new values p k n c
@@ -57,7 +57,7 @@ module _ (g : Graph) (order : List ℕ) (Done More : ℕ → Type 0) (frozen new
     idle = λ off. for_more g order Done More frozen new values _ grows same (s.idle off);
   }
 
--- the lane of a track has a fact in each course
+-- each course of the lane of the i-th track has the fact P
 abbrev pub LaneHas : Graph → (List Bool → ℕ → ProgressState → Type 0) → List (List Bool) → ℕ → List ProgressState →
     Type 0
 LaneHas g P tracks i lane = IsLane g (P (track_at tracks i)) lane
@@ -70,7 +70,7 @@ module _ (g : Graph) (P Q : List Bool → ℕ → ProgressState → Type 0) (tra
   lanes_start lanes are = half_first (LaneHas g P tracks) (LaneHas g Q tracks) count lanes (are.count ∙ long)
       (λ j d l. are.each j d (omega (arith, l, long)))
 
-  -- once all lanes are gone over, each has the new fact
+  -- after the last track all lanes have the new fact
   pub lanes_end : (m : ℕ) (lanes : List (List ProgressState)) →
       AreHalf (LaneHas g P tracks) (LaneHas g Q tracks) m count lanes → m ≡ count →
       AreLanes g Q tracks lanes
@@ -87,14 +87,14 @@ module _ (g : Graph) (order : List ℕ) (topological : IsTopological g order) (f
     (n : ℕ) (few : n < g.faults + 1) (c : ProgressState)
     (s : IsSending g order (IsDone g order p (at + 1)) frozen values p at n c) (acts : active g values p ≡ true)
     (sent : item_active g values (item_at g (queued g p at)) ≡ true) where
-  -- under early frozen times the end and the time of the send are small
+  -- under early frozen times the end of the process and the time of the send are below 2 ^ 59
   pub item_small : IsWithinLimits g → length values ≡ condition_count g → AreEarly frozen →
       (end_in c.known p < 2 ^ 59) × (send_at g frozen p (queued g p at) c < 2 ^ 59)
   item_small limits long early = sends_small g order topological (IsDone g order p (at + 1)) frozen values p l on n few
       at inside c s (send_one g order topological p l at inside) acts sent
       (send_at g frozen p (queued g p at) c) refl limits long early
 
-  -- a course in which the item is sent has one item more sent
+  -- the course once the item is sent has sent one item more
   pub item_sent : IsSending g order (IsDone g order p (at + 1)) frozen values p (at + 1) n
       (course_sent g frozen p (queued g p at) c)
   item_sent = sends g order topological (IsDone g order p (at + 1)) frozen values p l on n few at inside c s

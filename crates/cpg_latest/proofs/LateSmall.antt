@@ -1,4 +1,4 @@
--- The latest times stay small where the frozen times are early: each is one of a run.
+-- Under early frozen times the latest times are below 2 ^ 59: each is reached in a run, whose times are.
 use Rattle.std.proofs.Common.{ℕ, ◌≡◌, ◌≤◌, Bool, List, [], length, Option, None, unwrap_or, arith, ap, inl, inr}
 use Rattle.std.proofs.lemmas.Bool.{cases_lt}
 use Rattle.std.proofs.lemmas.List.{get_or_past}
@@ -22,10 +22,11 @@ module _ (g : Graph) (order : List ℕ) (frozen : List (Option ℕ)) (values : L
   reached : AreReached g order frozen values late n
   reached = are_reached g order frozen values late topological long are n few
 
-  -- the latest times are small, as each of them is one of a run
+  -- the latest times are below 2 ^ 59: an item of the graph is no later than in some run, and any other has the time 0
   pub late_small : AreSmall (late n)
   late_small = record {
     times = λ x. elim (cases_lt x (item_count g)) [
+      -- no later than in the run that reaches it
       | inl l ↦
           let r = reached.items x l in
           let small =
@@ -38,6 +39,7 @@ module _ (g : Graph) (order : List ℕ) (frozen : List (Option ℕ)) (values : L
             length-map-range_with_len (time_by g order frozen (with_faults values []) (late n)) 0 (item_count g),
           ))) in omega arith
     ];
+    -- a process of the graph ends no later than in some run, and any other has the end 0
     ends = λ p. elim (cases_lt p (process_count g)) [
       | inl l ↦
           let r = reached.ends p l in

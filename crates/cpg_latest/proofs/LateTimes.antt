@@ -1,4 +1,4 @@
--- What the latest times are of items that are active, and of others.
+-- The latest times and ends of active items and processes, and those of inactive ones.
 use Rattle.std.proofs.Common.{◌≡◌, ℕ, ◌<◌, ◌≤◌, true, false, List, ◌∷◌, get_or, Option, None, option_map}
 use Rattle.std.proofs.Common.{option_to_list, unwrap_or, arith, ap, ◌∙◌}
 use Rattle.std.proofs.lemmas.Bool.{cond-true, cond-false}
@@ -13,12 +13,12 @@ use Rattle.cpg_latest.specs.Latest.{AreLatest, latest_end, latest_end_by}
 -- given: the latest times of a scenario's outcome, and a number of faults
 module _ (g : Graph) (order : List ℕ) (frozen : List (Option ℕ)) (s : Scenario) (late : ℕ → Times)
     (are : AreLatest g order frozen s.values late) (n : ℕ) (few : n ≤ g.faults) where
-  -- the time of each item and the end of each process are those that the rules make
+  -- the latest time of each item is the one that the rules make
   pub late_time : (x : ℕ) → x < item_count g → get_or (late n).times x None ≡ time_by g order frozen s (late n) x
   late_time x l = ap (λ ts. get_or ts x None) (are.times n few)
       ∙ get_or-map-below (time_by g order frozen s (late n)) (item_count g) x None l
 
-  -- the latest end of a process stands at its place
+  -- the latest end of each process is the one that the rule of the ends makes
   pub late_end : (p : ℕ) → p < process_count g → get_or (late n).ends p None ≡ latest_end_by g late n p
   late_end p l = ap (λ ts. get_or ts p None) (are.ends n few)
       ∙ get_or-map-below (latest_end_by g late n) (process_count g) p None l

@@ -1,4 +1,5 @@
--- Each outcome has latest times under a topological order and given frozen times.
+-- Under a topological order and any frozen times each outcome has latest times. They are found by applying the rules to times
+-- again and again: each round settles the times of one moment more.
 use Rattle.std.proofs.Common.{ℕ, zero, suc, ◌≡◌, ◌+◌, ◌-◌, ◌<◌, ◌≤◌, ◌∙◌, Bool, List, [], map, flat_map, Option, None}
 use Rattle.std.proofs.Common.{option_to_list, option_map, unwrap_or, arith, refl, sym, ap, ap₂}
 use Rattle.cpg_base.specs.Duration.{duration}
@@ -12,7 +13,7 @@ use Rattle.cpg_run.proofs.RunUnique.{AgreeBefore, agree_sooner, time_by_same}
 use Rattle.cpg_latest.specs.Latest.{AreLatest, with_faults, end_with, latest_end_by}
 
 module _ (g : Graph) (order : List ℕ) (topological : IsTopological g order) (late other : ℕ → Times) where
-  -- the latest end of a process rests only on what lies before it, with as many faults or fewer
+  -- the latest end of a process with n faults rests only on times before its moment, with n faults or fewer
   pub latest_end_same : (p n : ℕ) → p < process_count g →
       ((i : ℕ) → i ≤ n → AgreeBefore g order (late i) (other i) (moment_of_end g order p)) →
       latest_end_by g late n p ≡ latest_end_by g other n p
@@ -24,7 +25,7 @@ module _ (g : Graph) (order : List ℕ) (topological : IsTopological g order) (l
       ((a (n - j) (omega arith)).items p (omega arith) (omega (arith, start))))))
 
 module _ (g : Graph) (order : List ℕ) (frozen : List (Option ℕ)) (values : List Bool) where
-  -- the times that the rules make of given ones
+  -- all times made anew by the rules of latest times from given ones
   abbrev again : (ℕ → Times) → ℕ → Times
   again late n = record {
     times = map (time_by g order frozen (with_faults values []) (late n)) (numbers_below (item_count g));
@@ -38,7 +39,7 @@ module _ (g : Graph) (order : List ℕ) (frozen : List (Option ℕ)) (values : L
   again_and_again (suc m) n = again (again_and_again m) n
 
   module _ (topological : IsTopological g order) where
-    -- after m rounds the times before the moment m no longer change
+    -- after m rounds the times before the moment m no longer change: by induction on m, as each rests on earlier moments
     settled : (m n : ℕ) → AgreeBefore g order (again_and_again m n) (again_and_again (suc m) n) m
     settled zero n = record { items = λ x h k. absurd (omega arith); ends = λ p h k. absurd (omega arith) }
     settled (suc m) n = record {
@@ -57,11 +58,11 @@ module _ (g : Graph) (order : List ℕ) (frozen : List (Option ℕ)) (values : L
           ∙ sym (get_or-map-below (latest_end_by g (again_and_again (suc m)) n) (process_count g) p None h);
     }
 
-    -- the latest times of an outcome, for each number of faults
+    -- the times after one round more than there are moments, for each number of faults
     pub the_latest : ℕ → Times
     the_latest = again_and_again (suc (last g))
 
-    -- they are the latest times of the outcome
+    -- they are the latest times of the outcome, as the last round changed nothing
     pub latest_exist : AreLatest g order frozen values the_latest
     unfolding the_latest
     latest_exist = record {

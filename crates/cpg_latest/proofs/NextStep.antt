@@ -1,4 +1,4 @@
--- All tracks go on from one place to the next.
+-- All tracks go on from one place to the next: what is known stays so while frozen times are set that nothing known rests on.
 use Rattle.std.proofs.Common.{ℕ, ◌+◌, ◌<◌, Bool, List, length, Option, refl, ap, subst, arith}
 use Rattle.cpg_base.specs.Graph.{process_count, node_of}
 use Rattle.cpg_base.specs.Limits.{IsWithinLimits}
@@ -17,7 +17,8 @@ use Rattle.cpg_latest.proofs.Settling.{start_grows}
 
 module _ (setting : Setting) (topological : IsTopological setting.problem.now setting.order.now) (p : ℕ)
     (l : p < process_count setting.problem.now) (tracks : List (List Bool)) where
-  -- once the frozen time of a process is settled, the process can begin in each track
+  -- once the frozen time of the start of p is settled, p can begin in each track: what is known comes from earlier processes,
+  -- whose frozen times stay
   pub can_begin : (old new : List (Option ℕ)) (lanes : List (List ProgressState)) → IsSettledBy p old new →
       AreLanes setting.problem.now (IsBefore setting old (place setting.order.now p)) tracks lanes
       → AreLanes setting.problem.now (CanBegin setting new p) tracks lanes
@@ -32,7 +33,8 @@ module _ (setting : Setting) (topological : IsTopological setting.problem.now se
       values (place setting.order.now p) n c course)
       known
 
-  -- once the frozen time of the next item is settled, it can be sent in each track
+  -- once the frozen time of p's next item is settled, it can be sent in each track: what is known comes before it, and those
+  -- frozen times stay
   pub can_send : (at : ℕ) → at < length (queue_of setting.problem.now p) →
       (old new : List (Option ℕ)) (lanes : List (List ProgressState)) →
       IsSettledBy (queued setting.problem.now p at) old new
@@ -51,7 +53,8 @@ module _ (setting : Setting) (topological : IsTopological setting.problem.now se
       values p at n c s)
       known
 
-  -- once all items are sent, all is known before the next place
+  -- once all items of p are sent, all is known before the next place, since the items done are just those from processes before
+  -- it
   pub next_known : (on : node_of setting.problem.now p < length setting.problem.now.nodes) →
       IsWithinLimits setting.problem.now →
       (frozen : List (Option ℕ)) (lanes : List (List ProgressState))

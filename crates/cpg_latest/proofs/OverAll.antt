@@ -1,4 +1,4 @@
--- The latest time of an item over all tracks, when it isn't frozen, is its frozen time.
+-- The latest time over all tracks that an item would have if it were not frozen is its frozen time.
 use Rattle.std.proofs.Common.{ℕ, ◌+◌, ◌<◌, ◌≡◌, ◌⊎◌, max, Bool, true, List, [], ◌∷◌, length, get_or, Contains, Option}
 use Rattle.std.proofs.Common.{Some, None, unwrap_or, option_to_list, arith, refl, sym, ap, ◌∙◌, subst, inl}
 use Rattle.std.proofs.Common.{inr}
@@ -36,7 +36,7 @@ use Rattle.cpg_latest.proofs.TimedSends.{here_sent, send_is}
 
 -- ---- one track after another
 
--- two values that are there are equal if they are so as options
+-- two numbers are equal if they are so as options
 some_same : (a b : ℕ) → Some a ≡ Some b → a ≡ b
 some_same a b e = ap (λ o. unwrap_or o 0) e
 
@@ -46,7 +46,7 @@ module _ (Acts : ℕ → Type 0) (Is : ℕ → ℕ → Type 0) where
   over_none = record { reached = λ time e. absurd (none-some time e); above = λ i l acts. absurd (omega arith) }
 
   module _ (m : ℕ) where
-    -- a track in which the item does not act leaves the latest time as it is
+    -- a track in which the item isn't active leaves the latest time as it is
     pub over_idle : (latest : Option ℕ) → IsLatestOver m Acts Is latest → (Acts m → ⊥) →
         IsLatestOver (m + 1) Acts Is (later latest None)
     over_idle None o off = record {
@@ -64,9 +64,10 @@ module _ (Acts : ℕ → Type 0) (Is : ℕ → ℕ → Type 0) where
       ];
     }
 
-    -- a track in which the item acts raises the latest time to its own, if that is later
+    -- a track in which the item is active raises the latest time to its own, if that is later
     pub over_acting : (latest : Option ℕ) (time : ℕ) → IsLatestOver m Acts Is latest → Acts m → Is m time →
         IsLatestOver (m + 1) Acts Is (later latest (Some time))
+    -- it is the first track in which the item is active
     over_acting None time o acts is = record {
       reached = λ other e. (m, omega arith, acts, subst (Is m) (some_same time other e) is);
       above = λ i l on. elim (cases_lt i m) [
@@ -74,6 +75,7 @@ module _ (Acts : ℕ → Type 0) (Is : ℕ → ℕ → Type 0) where
         | inr h ↦ (time, time, subst (λ j. Is j time) (let e : m ≡ i = omega arith in e) is, refl, omega arith)
       ];
     }
+    -- the greater of both times is reached in this track or in an earlier one
     over_acting (Some most) time o acts is = record {
       reached = λ other e. let same = some_same (max most time) other e in elim (cases_lt most time) [
         | inl h ↦ (m, omega arith, acts, subst (Is m) (let k : time ≡ other = omega (arith, same, h) in k) is)
@@ -88,7 +90,7 @@ module _ (Acts : ℕ → Type 0) (Is : ℕ → ℕ → Type 0) where
       ];
     }
 
--- one more track gives the later of the latest time and its own, as the code finds it
+-- with one track more the latest time is the later of the one so far and of the track's, if the item is active in it
 pub over_more : (Acts : ℕ → Type 0) (Is : ℕ → ℕ → Type 0) (m : ℕ) (latest time next : Option ℕ) →
     IsLatestOver m Acts Is latest →
     next ≡ later latest time
@@ -116,7 +118,7 @@ module _ (g : Graph) (urgency order : List ℕ) (frozen : List (Option ℕ)) (tr
   pub long_track : (i : ℕ) → i < length tracks → length (track_at tracks i) ≡ condition_count g
   long_track i l = track_long g urgency order frozen tracks lates urgent lawful topological are i l
 
-  -- given: the latest of what an item has in the tracks in which it is active
+  -- given: the latest of the times that the item x has in the tracks in which it is active
   -- `over`: `latest` is the latest over the tracks; `on`, `off`: `Acts` holds in the tracks in which x is active;
   -- `right`: what `Is` says of a track is the unfrozen time there
   module _ (x : ℕ) (within : x < item_count g) (Acts : ℕ → Type 0) (Is : ℕ → ℕ → Type 0) (latest : Option ℕ)
@@ -156,10 +158,11 @@ module _ (g : Graph) (urgency order : List ℕ) (frozen : List (Option ℕ)) (tr
         let u = unfrozen_in g order tracks lates x i in
         is ∙ ap (λ o. greatest (u ∷ option_to_list o)) unset ∙ alone u
       where
+        -- the greatest of one number is that number
         alone : (u : ℕ) → greatest (u ∷ []) ≡ u
         alone u = let c = greatest-cons u [] in omega (arith, c)
 
-    -- it has no frozen time to wait for
+    -- the item has no frozen time to wait for
     pub no_frozen : frozen_in frozen x ≡ 0
     no_frozen = ap (λ o. unwrap_or o 0) unset
 
@@ -173,7 +176,7 @@ module _ (g : Graph) (urgency order : List ℕ) (frozen : List (Option ℕ)) (tr
       (before : AreLanes g
       (λ values n c. IsCourse g order (IsEarlier g order (place order p)) frozen values (place order p) n c)
       tracks lanes) where
-    -- each lane's last course says what a start needs
+    -- each lane has what `Lane::start` requires: the places of its last course, and small times
     pub tell_starts : TellStarts g tracks lanes
     tell_starts = record {
       count = before.count;
@@ -190,7 +193,7 @@ module _ (g : Graph) (urgency order : List ℕ) (frozen : List (Option ℕ)) (tr
           };
     }
 
-    -- the latest start over all tracks is the unfrozen time of the process
+    -- the latest start over all tracks, as if p were not frozen, is the greatest that p would have in any scenario
     pub start_over : (latest : Option ℕ) → IsLatestStart g tracks p lanes (length lanes) latest →
         IsUnfrozenTime g order frozen p latest
     start_over latest over = unfrozen_over p (omega arith) (λ i. active g (track_at tracks i) p ≡ true)
@@ -212,8 +215,10 @@ module _ (g : Graph) (urgency order : List ℕ) (frozen : List (Option ℕ)) (tr
             (record { known = record { times = []; ends = []; finish = 0 }; ready = []; free = [] })
             (omega arith) in
             let there = ap (item_active g (track_at tracks i)) (item_at-start g p l) ∙ acts in
+            -- its frozen time isn't set, so its time is its unfrozen one
             let zero_is = no_frozen i p (omega arith) there unset in
             let time_is = unfrozen_is_time i p (omega arith) there unset in
+            -- the start follows from what the course has before the place of p
             let start = start_right g order topological frozen s (lates i g.faults)
             (latest_is_timed g order frozen s (lates i) (latest_exist g order frozen (track_at tracks i) topological)
             g.faults (omega arith)) (place order p) p l refl on
@@ -236,7 +241,7 @@ module _ (g : Graph) (urgency order : List ℕ) (frozen : List (Option ℕ)) (tr
     abbrev x : ℕ
     x = get_or (queue_of g p) k 0
 
-    -- in each track in which the process is active, the end that the last course knows is the latest one
+    -- in each track in which p is active, its last course has the latest end of p with all the faults
     pub end_known : (i : ℕ) (d : List ProgressState) → i < length tracks → active g (track_at tracks i) p ≡ true →
         end_in (last_course g (get_or lanes i d)).known p ≡ end_in (lates i g.faults) p
     end_known i d h acts =
@@ -246,7 +251,7 @@ module _ (g : Graph) (urgency order : List ℕ) (frozen : List (Option ℕ)) (tr
         (latest_exist g order frozen (track_at tracks i) topological) in
         ap (λ es. unwrap_or (get_or es p None) 0) gone.keeps.ends ∙ gone.ended
 
-    -- each lane's last course says what a send needs
+    -- each lane has what `Lane::send_time` requires: the places of its last course, and a small end of p
     pub tell_sends : TellSends g tracks p lanes
     tell_sends = record {
       count = before.count;
@@ -268,7 +273,7 @@ module _ (g : Graph) (urgency order : List ℕ) (frozen : List (Option ℕ)) (tr
     sent_there : Contains (queue_of g p) x
     sent_there = here_sent g order topological (with_faults [] []) p l k inside
 
-    -- the latest send over all tracks is the unfrozen time of the item
+    -- the latest time over all tracks, as if x were not frozen, is the greatest that x would have in any scenario
     pub send_over : (latest : Option ℕ) → IsLatestSend g tracks p x lanes (length lanes) latest →
         IsUnfrozenTime g order frozen x latest
     send_over latest over = unfrozen_over x (in_queue g p x sent_there).within (λ i. AreSent g (track_at tracks i) p x)
@@ -294,8 +299,10 @@ module _ (g : Graph) (urgency order : List ℕ) (frozen : List (Option ℕ)) (tr
             let gone = course.acts are.acts frozen (λ y k d. refl) (lates i)
             (latest_exist g order frozen (track_at tracks i) topological) in
             let c = last_course g (lane_at lanes i) in
+            -- its frozen time isn't set, so its time is its unfrozen one
             let zero_is = no_frozen i x (in_queue g p x sent_there).within are.sent unset in
             let time_is = unfrozen_is_time i x (in_queue g p x sent_there).within are.sent unset in
+            -- the send follows from the end of p and from when the slots are free
             let send = send_is g order topological s p l k inside frozen (lates i g.faults)
             (latest_is_timed g order frozen s (lates i)
             (latest_exist g order frozen (track_at tracks i) topological) g.faults (omega arith))

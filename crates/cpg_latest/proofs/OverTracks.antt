@@ -1,4 +1,5 @@
--- The latest times of all tracks give the frozen times, and the greatest finish and excess of all scenarios.
+-- The latest times of all tracks give the frozen times, and the greatest finish and excess of all scenarios. Each run is no
+-- later than the latest times of the track of its scenario, and each latest time is reached in a run.
 use Rattle.std.proofs.Common.{◌≡◌, ◌∙◌, ℕ, ◌<◌, ◌≤◌, Bool, true, List, [], map, filter, length, get_or, Option, None}
 use Rattle.std.proofs.Common.{arith, refl, sym, ap, subst, inl, inr, true≢false, ◌⊎◌}
 use Rattle.std.proofs.lemmas.List.FromFn.{length-map-range_with_len}
@@ -52,7 +53,7 @@ module _ (g : Graph) (urgency order : List ℕ) (frozen : List (Option ℕ)) (tr
     track : HasTrack g urgency urgent lawful s tracks
     no_later : IsNoLater g order (with_faults (track_at tracks track.place) s.faults) t (lates track.place g.faults)
 
-  -- each run is below the latest times, with all the faults, of the track of its scenario
+  -- each run is no later than the latest times, with all the faults, of the track of its scenario
   is_below : (s : Scenario) (t : Times) → IsScenario g s → IsRun g order frozen s t → IsBelow s t
   is_below s t law run =
       let h = has_track g urgency urgent lawful s tracks are.all in
@@ -65,7 +66,7 @@ module _ (g : Graph) (urgency order : List ℕ) (frozen : List (Option ℕ)) (tr
 
   -- ---- frozen times
 
-  -- what an item would have in some run it has in some track, or later
+  -- a time that an item would have in some run is no later than the one that it would have in some track
   would_below : (x time : ℕ) → x < item_count g → WouldHave g order frozen x time →
       (i : ℕ) × (i < length tracks) × (acts_in g tracks x i ≡ true) × (time ≤ unfrozen_in g order tracks lates x i)
   would_below x time l w =
@@ -76,7 +77,7 @@ module _ (g : Graph) (urgency order : List ℕ) (frozen : List (Option ℕ)) (tr
         omega (arith, w.has, b.track.unfrozen order w.times x topological l, b.no_later.unfrozen x l),
       )
 
-  -- the unfrozen time of an item in a track is one that the item would have in some run
+  -- the time that an item would have in a track is one that it would have in some run: one is as late, and none is later
   would_have : (x i : ℕ) → x < item_count g → i < length tracks → acts_in g tracks x i ≡ true →
       WouldHave g order frozen x (unfrozen_in g order tracks lates x i)
   would_have x i l k acts =
@@ -92,7 +93,7 @@ module _ (g : Graph) (urgency order : List ℕ) (frozen : List (Option ℕ)) (tr
         has = omega (arith, r.is, n.unfrozen x l);
       }
 
-  -- the latest of an item's unfrozen times in the tracks is its unfrozen time
+  -- the latest of the times that an item would have in the tracks is the greatest that it would have in any run
   pub unfrozen_is : (x : ℕ) (latest : Option ℕ) → x < item_count g → IsLatestFrozen g order tracks lates x latest →
       IsUnfrozenTime g order frozen x latest
   unfrozen_is x latest l is = record {
@@ -102,13 +103,13 @@ module _ (g : Graph) (urgency order : List ℕ) (frozen : List (Option ℕ)) (tr
     none = λ e time w. let b = would_below x time l w in true≢false (sym b.2 ∙ is.none e b.0 b.1);
   }
 
-  -- the latest time over all tracks is the frozen time
+  -- so if its frozen time is that, it is right
   frozen_time : (x : ℕ) → x < item_count g → IsLatestFrozen g order tracks lates x (get_or frozen x None) →
       IsFrozenTime g order frozen x
   frozen_time x l is = let u = unfrozen_is x (get_or frozen x None) l is in
       record { reached = u.reached; greatest = u.greatest; none = u.none }
 
-  -- the frozen times that the tracks give are those of the order
+  -- the frozen times that the tracks give are those of the graph under the order
   pub frozen_times : AreLatestFrozen g order tracks lates frozen → AreFrozenTimes g order frozen
   frozen_times is = record {
     count = is.count;
@@ -118,19 +119,19 @@ module _ (g : Graph) (urgency order : List ℕ) (frozen : List (Option ℕ)) (tr
 
   -- ---- the greatest of all tracks
 
-  -- given: a number that is made of times; it grows with them, and in each track it is 0 or reached in a run
-  -- `grows`: no run has a greater number than its track; `reached`: the number of a track is 0 or that of a run
+  -- given: a number of times, such as the finish
+  -- `grows`: no run has a greater number than its track; `reached`: the number of a track is 0, or some run comes to it
   module _ (of : Times → ℕ)
       (grows : (s : Scenario) (t : Times) (i : ℕ) → i < length tracks → IsRun g order frozen s t →
       IsNoLater g order s t (lates i g.faults) → s.values ≡ track_at tracks i →
       of t ≤ of (lates i g.faults))
       (reached : (i : ℕ) → i < length tracks → (of (lates i g.faults) ≡ 0) ⊎
       IsReached g order frozen (track_at tracks i) g.faults of (of (lates i g.faults))) where
-    -- the greatest figure of all tracks, with all faults
+    -- the greatest number of all tracks, with all the faults
     most : ℕ
     most = greatest (map (λ i. of (lates i g.faults)) (numbers_below (length tracks)))
 
-    -- what is found for a track is at most the greatest of all
+    -- the number of a track is at most the greatest
     below_most : (i : ℕ) → i < length tracks → of (lates i g.faults) ≤ most
     unfolding most
     below_most i l =
@@ -166,7 +167,7 @@ module _ (g : Graph) (urgency order : List ℕ) (frozen : List (Option ℕ)) (tr
           omega (arith, e, above s (the_run g order frozen s topological) (zero_lawful g) run),
         )
 
-    -- the greatest number is that of some run
+    -- if the greatest number is that of a track, and some run comes to it, that run has it
     found : (i : ℕ) → i < length tracks → of (lates i g.faults) ≡ most →
         IsReached g order frozen (track_at tracks i) g.faults of (of (lates i g.faults)) → HasSome most
     unfolding HasSome
@@ -178,7 +179,7 @@ module _ (g : Graph) (urgency order : List ℕ) (frozen : List (Option ℕ)) (tr
       omega (arith, e, r.is, above (with_faults (track_at tracks i) r.faults) r.times r.lawful r.run),
     )
 
-    -- some run has the greatest number: by whether it is 0 or the number of a track
+    -- some run has the greatest number: by whether it is 0 or the number of a track, which is 0 or reached
     at_most : HasSome most
     unfolding most
     at_most = elim (greatest_cases (map (λ i. of (lates i g.faults)) (numbers_below (length tracks)))) [
@@ -199,7 +200,7 @@ module _ (g : Graph) (urgency order : List ℕ) (frozen : List (Option ℕ)) (tr
 
   -- ---- the excess
 
-  -- a run with ends no earlier has no less excess: how far an end is past its due at most
+  -- times with later ends have no less excess: the excess of each process is at most that of the same process in the others
   excess_grows : (s : Scenario) (t u : Times) → IsNoLater g order s t u → excess_in_run g t ≤ excess_in_run g u
   excess_grows s t u h = greatest-le (map (excess_of g t) (numbers_below (process_count g))) (excess_in_run g u)
       (λ v c.
@@ -217,13 +218,14 @@ module _ (g : Graph) (urgency order : List ℕ) (frozen : List (Option ℕ)) (tr
   excess_above t p l = greatest_above (map (excess_of g t) (numbers_below (process_count g))) (excess_of g t p)
       (Contains-map (excess_of g t) (numbers_below (process_count g)) p (Contains-numbers (process_count g) p l))
 
-  -- the excess of each track is 0 or reached in a run
+  -- the excess of each track is 0, or some run comes to it: it is that of some process, whose latest end is reached
   excess_reached : (i : ℕ) → i < length tracks →
       (excess_in_run g (lates i g.faults) ≡ 0) ⊎
       IsReached g order frozen (track_at tracks i) g.faults (excess_in_run g) (excess_in_run g (lates i g.faults))
   excess_reached i l = elim (greatest_cases (map (excess_of g (lates i g.faults)) (numbers_below (process_count g)))) [
     | inl e ↦ inl e
     | inr c ↦
+        -- the process that has the excess, and the run that reaches its latest end
         let r = Contains-map_parts (excess_of g (lates i g.faults)) (numbers_below (process_count g))
         (excess_in_run g (lates i g.faults)) c in
         let p = numbers-Contains (process_count g) r.0 r.1 in
@@ -254,7 +256,7 @@ module _ (g : Graph) (urgency order : List ℕ) (frozen : List (Option ℕ)) (tr
   latest_long i l = ap length ((are.each i l).ends g.faults (omega arith))
       ∙ length-map-range_with_len (latest_end_by g (lates i) g.faults) 0 (process_count g)
 
-  -- the finish of a run is no later than that of the latest times of its track
+  -- the finish of a run is no later than that of the latest times of its track: it is 0, or some end, which is no later
   finish_grows : (s : Scenario) (t : Times) (i : ℕ) → i < length tracks → IsRun g order frozen s t →
       IsNoLater g order s t (lates i g.faults) →
       t.finish ≤ (lates i g.faults).finish
@@ -270,7 +272,7 @@ module _ (g : Graph) (urgency order : List ℕ) (frozen : List (Option ℕ)) (tr
     )
   ]
 
-  -- the finish of each track is 0 or reached in a run
+  -- the finish of each track is 0, or some run comes to it: it is some latest end, which is reached
   finish_reached : (i : ℕ) → i < length tracks →
       ((lates i g.faults).finish ≡ 0) ⊎
       IsReached g order frozen (track_at tracks i) g.faults (λ t. t.finish) (lates i g.faults).finish

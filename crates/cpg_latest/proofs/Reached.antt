@@ -1,4 +1,5 @@
--- Each of the latest times with n faults is reached in a run with no more.
+-- Each latest time with n faults is reached in some run with at most n faults: by induction on the moments in which the times
+-- of a run follow from each other.
 use Rattle.std.proofs.Common.{◌≡◌, ℕ, zero, suc, ◌+◌, ◌-◌, ◌<◌, ◌≤◌, true, Bool, List, [], length, get_or, map, sum}
 use Rattle.std.proofs.Common.{replicate, Option, None, option_to_list, arith, refl, sym, subst, ◌∙◌, inl, inr}
 use Rattle.std.proofs.lemmas.Bool.{cases_Bool}
@@ -39,14 +40,14 @@ module _ (g : Graph) (order : List ℕ) (frozen : List (Option ℕ)) (values : L
     is = omega (arith, e);
   }
 
-  -- the latest times before moment m are reached
+  -- the latest times and ends before the moment m are reached
   record ReachedBefore (m : ℕ) : Type 0 where
     items : (n x : ℕ) → n ≤ g.faults → x < item_count g → moment g order x < m →
         IsReached g order frozen values n (λ t. time_in t x) (time_in (late n) x)
     ends : (n p : ℕ) → n ≤ g.faults → p < process_count g → moment_of_end g order p < m →
         IsReached g order frozen values n (λ t. end_in t p) (end_in (late n) p)
 
-  -- what a bound rests on is reached in a run, as late as in the latest times
+  -- what a bound of the item x rests on is reached in a run: 0 always is, and an item or an end has an earlier moment
   cause_reached : (m x n : ℕ) → ReachedBefore m → moment g order x ≤ m → n ≤ g.faults
       → (c : Cause) → IsBefore g order (moment g order x) c →
       IsReached g order frozen values n (λ t. value_in t c) (value_in (late n) c)
@@ -54,7 +55,8 @@ module _ (g : Graph) (order : List ℕ) (frozen : List (Option ℕ)) (values : L
   cause_reached m x n a k few (item y) h = a.items n y few h.0 (omega (arith, h.1, k))
   cause_reached m x n a k few (ended p) h = a.ends n p few h.0 (omega (arith, h.1, k))
 
-  -- an item's unfrozen time is reached in a run, as late as in the latest times
+  -- An item's unfrozen time is reached in a run. It is 0, or one of the bounds; that rests on one thing alone, and grows with
+  -- it, so the run that reaches the one thing reaches the bound.
   unfrozen_reached : (m x n : ℕ) → ReachedBefore m → moment g order x ≤ m → x < item_count g → n ≤ g.faults
       → IsReached g order frozen values n (λ t. unfrozen_time g order (with_faults values []) t x)
       (unfrozen_time g order (with_faults values []) (late n) x)
@@ -63,6 +65,7 @@ module _ (g : Graph) (order : List ℕ) (frozen : List (Option ℕ)) (values : L
         | inl e ↦ without n (λ t. unfrozen_time g order (with_faults values []) t x)
             (unfrozen_time g order (with_faults values []) (late n) x) e
         | inr c ↦
+            -- the run that reaches what the greatest bound rests on
             let r = rests g order topological (with_faults values []) (late n) x
             (unfrozen_time g order (with_faults values []) (late n) x) l c in
             let b = cause_reached m x n a k few r.cause r.early in
@@ -82,7 +85,7 @@ module _ (g : Graph) (order : List ℕ) (frozen : List (Option ℕ)) (values : L
             }
       ]
 
-  -- if an item's unfrozen time is reached, so is its time
+  -- if an item's unfrozen time is reached, so is its time: both wait for the same frozen time, and an inactive item has the time 0
   time_reached : (x n : ℕ) → x < item_count g → n ≤ g.faults
       → IsReached g order frozen values n (λ t. unfrozen_time g order (with_faults values []) t x)
       (unfrozen_time g order (with_faults values []) (late n) x)
@@ -108,11 +111,13 @@ module _ (g : Graph) (order : List ℕ) (frozen : List (Option ℕ)) (values : L
         (late_inactive g order frozen (with_faults values []) late are n few x l is)
   ]
 
-  -- the faults of a process itself beside those on the ways to its start
+  -- If the start of p with n - j faults is reached, so is its end with j more of its own: the run with j more faults in p starts
+  -- p no earlier, and p lasts as long or longer in it.
   with_own : (n p j : ℕ) → p < process_count g → n ≤ g.faults → j ≤ n → item_active g values (item_at g p) ≡ true
       → IsReached g order frozen values (n - j) (λ t. time_in t p) (time_in (late (n - j)) p)
       → IsReached g order frozen values n (λ t. end_in t p) (end_with g late n p j)
   with_own n p j l few own is b =
+      -- the run's faults with j more of p, which are at most n in all
       let more = add_at b.faults p j in
       let total : sum more ≤ n = omega (arith, sum-add_at b.faults p j, b.few, own) in
       let times = the_run g order frozen (with_faults values more) topological in
@@ -138,7 +143,7 @@ module _ (g : Graph) (order : List ℕ) (frozen : List (Option ℕ)) (values : L
         );
       }
 
-  -- if the starts of a process are reached with each number of faults, so is its end
+  -- if the starts of p with each number of faults are reached, so is its latest end, which is 0 or one with some j own faults
   end_reached : (p n : ℕ) → p < process_count g → n ≤ g.faults
       → ((i : ℕ) → i ≤ g.faults → IsReached g order frozen values i (λ t. time_in t p) (time_in (late i) p))
       → IsReached g order frozen values n (λ t. end_in t p) (end_in (late n) p)
@@ -157,7 +162,7 @@ module _ (g : Graph) (order : List ℕ) (frozen : List (Option ℕ)) (values : L
         (late_end_inactive g order frozen (with_faults values []) late are n few p l is)
   ]
 
-  -- by induction on moments: each latest time and each latest end before the moment m is reached in a run
+  -- by induction on m: each latest time and each latest end before the moment m is reached in a run
   reached_before : (m : ℕ) → ReachedBefore m
   reached_before zero =
       record { items = λ n x few l h. absurd (omega arith); ends = λ n p few l h. absurd (omega arith) }
@@ -169,7 +174,7 @@ module _ (g : Graph) (order : List ℕ) (frozen : List (Option ℕ)) (values : L
             (λ i less. a.items i p less (omega arith) (omega (arith, h, moment_of_start g order topological p l)));
       }
 
-  -- each latest time with n faults is reached in some run with no more
+  -- each latest time with n faults is reached in some run with at most n, as all moments come before the last
   pub are_reached : (n : ℕ) → n ≤ g.faults → AreReached g order frozen values late n
   are_reached n few =
       let a = reached_before (last g) in

@@ -1,4 +1,5 @@
--- Each bound of an item rests on one thing alone, which is settled before it, and grows with that.
+-- Each bound of an item rests on one thing alone, the time of an item or an end, which has an earlier moment, and grows with
+-- it.
 use Rattle.std.proofs.Common.{rules, ◌≡◌, ℕ, ◌+◌, ◌*◌, ◌<◌, ◌≤◌, ◌==◌, List, [], ◌∷◌, ◌++◌, filter, flat_map, Contains}
 use Rattle.std.proofs.Common.{arith, refl, sym, subst, inl, inr}
 use Rattle.std.specs.Prelude.{⊤}
@@ -34,7 +35,7 @@ use Rattle.cpg_run.specs.Run.{unfrozen_time}
 
 -- ---- later times have later slots
 
--- without a round of the bus the number of turns makes no difference
+-- if a turn takes no time, the number of turns makes no difference
 no_turn : (j k turn off : ℕ) → turn ≡ 0 → j * turn + off ≤ k * turn + off
 no_turn j k turn off e = subst (λ n. j * n + off ≤ k * n + off) (sym e) (omega arith)
 
@@ -42,7 +43,7 @@ no_turn j k turn off e = subst (λ n. j * n + off ≤ k * n + off) (sym e) (omeg
 more_turns : (j k turn off : ℕ) → j ≤ k → j * turn + off ≤ k * turn + off
 more_turns j k turn off l = omega (arith, mul-le-mul_right turn l)
 
--- a later time has no earlier slot after it
+-- the next slot after a later time is no earlier; without slots the round is 0, and so is their number
 pub next_slot_later : (g : Graph) (node first second : ℕ) → first ≤ second →
     next_slot g node first ≤ next_slot g node second
 next_slot_later g node first second l = elim (cases_lt 0 (round g)) [
@@ -60,7 +61,7 @@ pub data Cause : Type 0 where
   item : ℕ → Cause
   ended : ℕ → Cause
 
--- the time that a cause has in a run: 0 for a fixed one
+-- the time that a cause has in given times; 0 for a fixed one
 abbrev pub value_in : Times → Cause → ℕ
 value_in t fixed = 0
 value_in t (item y) = time_in t y
@@ -72,19 +73,24 @@ IsBefore g order m fixed = ⊤
 IsBefore g order m (item y) = (y < item_count g) × (moment g order y < m)
 IsBefore g order m (ended p) = (p < process_count g) × (moment_of_end g order p < m)
 
--- a bound of an item, as it is in any times: it grows with the one thing that it rests on
+-- v is a bound of the item x in the times t that rests on one thing
 pub record Rests (g : Graph) (order : List ℕ) (s : Scenario) (t : Times) (x v : ℕ) : Type 0 where
+  -- what it rests on, which is settled before the item
   pub cause : Cause
   pub early : IsBefore g order (moment g order x) cause
+  -- the bound in any times, which is v in t
   pub bound : Times → ℕ
   pub is : bound t ≡ v
+  -- in any times it is one of the item's bounds, and it grows with its cause
   pub among : (u : Times) → Contains (bounds_of_item g order s u x (item_at g x)) (bound u)
   pub grows : (u w : Times) → value_in u cause ≤ value_in w cause → bound u ≤ bound w
 
--- the same for a number of a list of bounds
+-- v is one of a list of bounds in the times t, and rests on one thing that is settled before the moment m
 record RestsIn (g : Graph) (order : List ℕ) (m : ℕ) (t : Times) (bounds : Times → List ℕ) (v : ℕ) : Type 0 where
+  -- what it rests on, which is settled before the moment
   cause : Cause
   early : IsBefore g order m cause
+  -- the bound in any times, which is v in t
   bound : Times → ℕ
   is : bound t ≡ v
   -- in other times too it is one of the bounds, and it grows with its cause
@@ -93,7 +99,7 @@ record RestsIn (g : Graph) (order : List ℕ) (m : ℕ) (t : Times) (bounds : Ti
 
 module _ (g : Graph) (order : List ℕ) (topological : IsTopological g order) (s : Scenario) (t : Times) where
   module _ (p m : ℕ) (at : place order p * phases g ≤ m) where
-    -- when an input is there rests on one thing alone
+    -- when an input is there rests on one thing alone: the send of its message, or the end of its source
     input_rests : (e : ℕ) → Contains (inputs g p) e → (bounds : Times → List ℕ) →
         ((u : Times) → Contains (bounds u) (input_there g u e)) →
         RestsIn g order m t bounds (input_there g t e)
@@ -152,7 +158,7 @@ module _ (g : Graph) (order : List ℕ) (topological : IsTopological g order) (s
           grows = λ u w l. l;
         }
 
-    -- when a node hears a condition rests on one thing alone
+    -- when a node hears a condition rests on one thing alone: the end of its process, or its broadcast
     heard_rests : (c : ℕ) → Contains (flat_map (deciding g s.values) (before_on_node g order p ++ p ∷ [])) c →
         (bounds : Times → List ℕ)
         → ((u : Times) → Contains (bounds u) (heard_there g u (node_of g p) c)) →
@@ -250,11 +256,12 @@ module _ (g : Graph) (order : List ℕ) (topological : IsTopological g order) (s
               ]
         ]
 
-  -- each bound of a send rests on one thing alone
+  -- each bound of a send rests on one thing alone: the end of its producer, or an item before it in the queue
   send_rests : (x v : ℕ) → x < item_count g → phase (item_at g x) ≡ rank_of_item (item_at g x) + 2 →
       Contains (send_bounds g order s t x) v
       → RestsIn g order (moment g order x) t (λ u. send_bounds g order s u x) v
   send_rests x v l sends c = elim (Contains-cases (next_slot g (home g x) (end_in t (producer g x))) _ v c) [
+    -- the next slot after the producer's end
     | inl e ↦ record {
       cause = ended (producer g x);
       early = (producer_in_range g order topological x l, omega arith);
@@ -263,6 +270,7 @@ module _ (g : Graph) (order : List ℕ) (topological : IsTopological g order) (s
       among = λ u. Contains-first _ _;
       grows = λ u w k. next_slot_later g (home g x) (end_in u (producer g x)) (end_in w (producer g x)) k;
     }
+    -- a round after an active item before it in the queue
     | inr rest ↦
         let r = Contains-map_parts (λ y. time_in t y + round g)
         (filter (λ y. item_active g s.values (item_at g y)) (queued_before g order x)) v rest in
@@ -281,7 +289,7 @@ module _ (g : Graph) (order : List ℕ) (topological : IsTopological g order) (s
         }
   ]
 
-  -- a number of an item's bounds is a bound of the item
+  -- what is said of the bounds of an item of the kind i is said of the item's bounds, if it is of that kind
   of_item : (x v : ℕ) (i : Item) → item_at g x ≡ i →
       RestsIn g order (moment g order x) t (λ u. bounds_of_item g order s u x i) v →
       Rests g order s t x v
@@ -313,7 +321,7 @@ module _ (g : Graph) (order : List ℕ) (topological : IsTopological g order) (s
       Rests g order s t x v
   rests x v l k = rests_by x v l (item_cases g x l) k
 
-  -- the time that an item would have grows with what is settled before it
+  -- the time that an item would have if it were not frozen grows with what is settled before it, since each bound does
   pub unfrozen_grows : (u : Times) (x : ℕ) → x < item_count g →
       ((c : Cause) → IsBefore g order (moment g order x) c → value_in t c ≤ value_in u c)
       → unfrozen_time g order s t x ≤ unfrozen_time g order s u x

@@ -1,4 +1,4 @@
--- Where each process of an outcome fails as often or more, nothing in its run is sooner.
+-- If each process has as many faults or more in the second of two scenarios of an outcome, nothing in its run is sooner.
 use Rattle.std.proofs.Common.{◌≡◌, ℕ, zero, suc, ◌+◌, ◌*◌, ◌<◌, ◌≤◌, false, Bool, List, get_or, Option, None}
 use Rattle.std.proofs.Common.{option_map, option_to_list, unwrap_or, arith, ap, ◌∙◌, inl, inr}
 use Rattle.std.specs.Int.{div_ceil}
@@ -29,7 +29,7 @@ duration_grows g p m n h =
 -- given: a run of one scenario
 module _ (g : Graph) (order : List ℕ) (frozen : List (Option ℕ)) (s : Scenario) (t : Times)
     (run : IsRun g order frozen s t) where
-  -- what is inactive has no time and no end
+  -- an item that isn't active has no time, so its time counts as 0
   pub time_inactive : (x : ℕ) → x < item_count g → item_active g s.values (item_at g x) ≡ false → time_in t x ≡ 0
   time_inactive x l a = ap (λ o. unwrap_or o 0) (time_is g order frozen s t run x l ∙ cond-false _ _ _ a)
 
@@ -39,7 +39,7 @@ module _ (g : Graph) (order : List ℕ) (frozen : List (Option ℕ)) (s : Scenar
       ∙ ap (λ o. option_map (λ start. start + duration g p (fault_of s p)) o)
       (time_is g order frozen s t run p (omega arith) ∙ cond-false _ _ _ a))
 
--- given: two runs of an outcome, in the second of which each process fails as often or more
+-- given: two runs of an outcome, in the second of which each process has as many faults or more
 module _ (g : Graph) (order : List ℕ) (frozen : List (Option ℕ)) (values : List Bool) (fs hs : List ℕ)
     (topological : IsTopological g order)
     (more : (q : ℕ) → get_or fs q 0 ≤ get_or hs q 0) (t u : Times) (run : IsRun g order frozen
@@ -49,14 +49,15 @@ module _ (g : Graph) (order : List ℕ) (frozen : List (Option ℕ)) (values : L
     items : (x : ℕ) → x < item_count g → moment g order x < m → time_in t x ≤ time_in u x
     ends : (p : ℕ) → p < process_count g → moment_of_end g order p < m → end_in t p ≤ end_in u p
 
-  -- what an item rests on is no sooner in the run with more faults
+  -- what an item rests on is no sooner in the second run, as it has an earlier moment
   cause_le : (m x : ℕ) → GrowBefore m → moment g order x ≤ m → (c : Cause) → IsBefore g order (moment g order x) c →
       value_in t c ≤ value_in u c
   cause_le m x a k fixed h = omega arith
   cause_le m x a k (item y) h = a.items y h.0 (omega (arith, h.1))
   cause_le m x a k (ended p) h = a.ends p h.0 (omega (arith, h.1))
 
-  -- if all before the moment m is no earlier in u, neither is an item of moment m; by whether it is active
+  -- if all before the moment m is no earlier in u, neither is an item at the moment m: its bounds grow, and an inactive item has
+  -- the time 0
   time_le : (m x : ℕ) → GrowBefore m → moment g order x ≤ m → x < item_count g → time_in t x ≤ time_in u x
   time_le m x a k l = elim (cases_Bool (item_active g values (item_at g x))) [
     | inl is ↦ omega (
@@ -85,7 +86,7 @@ module _ (g : Graph) (order : List ℕ) (frozen : List (Option ℕ)) (values : L
     | inr is ↦ omega (arith, end_inactive g order frozen (with_faults values fs) t run p l is)
   ]
 
-  -- by induction on moments: what comes before m is no earlier in the second run
+  -- by induction on m: what comes before the moment m is no earlier in the second run
   grow_before : (m : ℕ) → GrowBefore m
   grow_before zero = record { items = λ x l h. absurd (omega arith); ends = λ p l h. absurd (omega arith) }
   grow_before (suc m) =
@@ -95,10 +96,10 @@ module _ (g : Graph) (order : List ℕ) (frozen : List (Option ℕ)) (values : L
         ends = λ p l h. end_le p l (a.items p (omega arith) (omega (arith, moment_of_start g order topological p l)));
       }
 
-  -- no item is sooner in the second run, and no process ends sooner
+  -- no item is sooner in the second run
   pub times_grow : (x : ℕ) → x < item_count g → time_in t x ≤ time_in u x
   times_grow x l = (grow_before (last g)).items x l (moment_before_last g order topological x l)
 
-  -- no process ends sooner in the run with more faults
+  -- no process ends sooner in the second run
   pub ends_grow : (p : ℕ) → p < process_count g → end_in t p ≤ end_in u p
   ends_grow p l = (grow_before (last g)).ends p l (end_before_last g order topological p l)

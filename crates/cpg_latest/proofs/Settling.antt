@@ -1,4 +1,4 @@
--- Which frozen times are settled at the next item, and what goes on under them.
+-- With one item more that is done, the frozen times are settled with it; and which items are done along the order.
 use Rattle.std.proofs.Common.{ℕ, ◌+◌, ◌*◌, ◌<◌, ◌≤◌, ◌≡◌, ◌≢◌, Bool, true, false, List, length, get_or, Option, None}
 use Rattle.std.proofs.Common.{Contains, ◌⊎◌, arith, refl, sym, ap, ap₂, ◌∙◌, subst, inl, inr, take_all}
 use Rattle.std.proofs.lemmas.Bool.{and_parts, cases_eq, cases_lt, true≢false}
@@ -27,12 +27,12 @@ use Rattle.cpg_latest.specs.Course.{AreSettledOf, ForLatest, IsDone, IsEarlier}
 use Rattle.cpg_latest.proofs.TimedSends.{Contains-take, in_next, take_next}
 
 module _ (g : Graph) (order : List ℕ) (topological : IsTopological g order) (within : IsWithinLimits g) where
-  -- frozen times that are settled are early
+  -- settled frozen times are below 2 ^ 58, as they are no later than their items could be
   pub early_of : (Done : ℕ → Type 0) (frozen : List (Option ℕ)) → AreSettledOf g order Done frozen → AreEarly frozen
   early_of Done frozen s = early_from_low g order frozen within topological s.count s.low
 
   module _ (Done More : ℕ → Type 0) (frozen : List (Option ℕ)) (settled : AreSettledOf g order Done frozen) where
-    -- if the same frozen items are done, the frozen times stay settled
+    -- if the same frozen items are done by `More` as by `Done`, the frozen times stay settled
     pub settled_as : ((y : ℕ) → y < item_count g → is_frozen g y ≡ true → More y → Done y) →
         ((y : ℕ) → y < item_count g → Done y → More y) →
         AreSettledOf g order More frozen
@@ -43,7 +43,8 @@ module _ (g : Graph) (order : List ℕ) (topological : IsTopological g order) (w
       low = settled.low;
     }
 
-    -- given: one item more that is done
+    -- given: one item x more is done
+    -- `later`: all items done so far have earlier moments; `grows`, `one`, `only`: by `More` just these and x are done
     module _ (x : ℕ) (l : x < item_count g) (later : (y : ℕ) → y < item_count g → Done y →
         moment g order y < moment g order x) (grows : (y : ℕ) → Done y → More y) (one : More x)
         (only : (y : ℕ) → More y → Done y ⊎ (y ≡ x)) where
@@ -53,11 +54,12 @@ module _ (g : Graph) (order : List ℕ) (topological : IsTopological g order) (w
           (λ y h f m. elim (only y m) [ inl d ↦ d | inr e ↦ absurd (true≢false (sym f ∙ ap (is_frozen g) e ∙ thawed)) ])
           (λ y h d. grows y d)
 
-      -- the frozen time of the item is not set before it is done
+      -- the item isn't done yet, so it has no frozen time
       pub not_yet : get_or frozen x None ≡ None
       not_yet = settled.others x (λ h f d. let m = later x h d in absurd (omega (arith, m)))
 
-      -- once the frozen time of the item is set to its unfrozen time, the frozen times are settled with it
+      -- If the item is frozen, and its frozen time is set to the greatest that it would have if it were not, the frozen times are
+      -- settled with it. An item done before keeps its frozen time, as it rests on earlier moments.
       pub settled_more : is_frozen g x ≡ true → (more : List (Option ℕ)) →
           IsUnfrozenTime g order frozen x (get_or more x None) →
           ((y : ℕ) → y ≢ x → get_or more y None ≡ get_or frozen y None) →
@@ -95,7 +97,7 @@ module _ (g : Graph) (order : List ℕ) (topological : IsTopological g order) (w
         };
       }
 
--- what holds of the latest times goes on where more is done
+-- what holds of the latest times whatever frozen times follow still does if more items are done under the same frozen times
 pub for_more : (g : Graph) (order : List ℕ) (Done More : ℕ → Type 0) (frozen new : List (Option ℕ)) (values : List Bool)
     (P : (ℕ → Times) → Type 0) →
     ((y : ℕ) → y < item_count g → Done y → More y)
@@ -108,12 +110,12 @@ for_more g order Done More frozen new values P grows same f more goes late are =
 module _ (g : Graph) (order : List ℕ) (topological : IsTopological g order) (p : ℕ) (l : p < process_count g) where
   -- ---- the start of a process
 
-  -- a process is not earlier than its own place
+  -- the start of p doesn't come from an earlier process
   pub own_place : IsEarlier g order (place order p) p → ⊥
   own_place e = let is = ap (λ i. place order (producer_of_item g i)) (item_at-start g p l) in
       absurd (omega (arith, e, is))
 
-  -- each item of an earlier process has an earlier moment than the start
+  -- each item of an earlier process has an earlier moment than the start of p
   pub start_later : (y : ℕ) → y < item_count g → IsEarlier g order (place order p) y →
       moment g order y < moment g order p
   start_later y h e =
@@ -122,7 +124,7 @@ module _ (g : Graph) (order : List ℕ) (topological : IsTopological g order) (p
       sooner (place order (producer g y)) (place order p) (phase (item_at g y)) (phases g) e (phase_below g y h) in
       omega (arith, own, less)
 
-  -- what is earlier is done once the process has started
+  -- with the start of p, items of earlier processes are done
   pub start_grows : (y : ℕ) → IsEarlier g order (place order p) y → IsDone g order p 0 y
   start_grows y e = inl e
 
@@ -130,7 +132,7 @@ module _ (g : Graph) (order : List ℕ) (topological : IsTopological g order) (p
   pub start_one : IsDone g order p 0 p
   start_one = inr (inl refl)
 
-  -- nothing but that and the earlier items is done
+  -- what is done with the start of p is an item of an earlier process, or that start
   pub start_only : (y : ℕ) → IsDone g order p 0 y → IsEarlier g order (place order p) y ⊎ (y ≡ p)
   start_only y (inl e) = inl e
   start_only y (inr (inl e)) = inr e
@@ -157,7 +159,7 @@ module _ (g : Graph) (order : List ℕ) (topological : IsTopological g order) (p
     pub here_within : here < item_count g
     here_within = (in_queue g p here in_here).within
 
-    -- what is done before it has an earlier moment
+    -- what is done before it has an earlier moment: an item of an earlier process, the start of p, or an earlier item of p
     pub send_later : (y : ℕ) → y < item_count g → IsDone g order p k y → moment g order y < moment g order here
     send_later y h (inl e) =
         let at = moment_of_sent here in_here in
@@ -175,17 +177,17 @@ module _ (g : Graph) (order : List ℕ) (topological : IsTopological g order) (p
         below_first (rank_at g) (queue_of g p) (queue_rises g p) k inside y c in
         omega (arith, at, own, less)
 
-    -- what was done stays done, and the item is done too
+    -- with the item, what was done stays done
     pub send_grows : (y : ℕ) → IsDone g order p k y → IsDone g order p (k + 1) y
     send_grows y (inl e) = inl e
     send_grows y (inr (inl e)) = inr (inl e)
     send_grows y (inr (inr c)) = inr (inr (in_next (queue_of g p) k y inside (inl c)))
 
-    -- with it the items up to the next place are settled
+    -- the item itself is done then
     pub send_one : IsDone g order p (k + 1) here
     send_one = inr (inr (in_next (queue_of g p) k here inside (inr refl)))
 
-    -- nothing but that and the item is done then
+    -- what is done with the item was done before, or is the item
     pub send_only : (y : ℕ) → IsDone g order p (k + 1) y → IsDone g order p k y ⊎ (y ≡ here)
     send_only y (inl e) = inl (inl e)
     send_only y (inr (inl e)) = inl (inr (inl e))
@@ -205,7 +207,7 @@ module _ (g : Graph) (order : List ℕ) (topological : IsTopological g order) (p
       (queue-Contains g p x h sent by)))
   among x h f by (inr (inr c)) = absurd (true≢false (sym f ∙ ap (is_frozen_item g) c.3))
 
-  -- a frozen item before the next place is done once the process has sent all
+  -- once p has sent all, each frozen item from a process before the next place is done: an earlier one's, or one of p
   pub next_done : (x : ℕ) → x < item_count g → is_frozen g x ≡ true → IsEarlier g order (place order p + 1) x →
       IsDone g order p (length (queue_of g p)) x
   next_done x h f e = elim (cases_lt (place order (producer g x)) (place order p)) [
@@ -219,7 +221,7 @@ module _ (g : Graph) (order : List ℕ) (topological : IsTopological g order) (p
         among x h f by (item_cases g x h)
   ]
 
-  -- what is done then is before the next place
+  -- once p has sent all, each item that is done comes from a process before the next place
   pub next_earlier : (x : ℕ) → x < item_count g → IsDone g order p (length (queue_of g p)) x →
       IsEarlier g order (place order p + 1) x
   next_earlier x h (inl e) = omega (arith, e)

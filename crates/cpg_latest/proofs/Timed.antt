@@ -1,4 +1,4 @@
--- What times that keep the rules of a run are, and what each is at or above.
+-- What times are that keep the rules of a run but for the ends: which items and processes have one, and what bounds them below.
 use Rattle.std.proofs.Common.{◌≡◌, ℕ, ◌+◌, ◌<◌, ◌≤◌, true, List, [], ◌∷◌, ◌++◌, flat_map, length, get_or, Contains}
 use Rattle.std.proofs.Common.{Option, Some, None, option_to_list, option_map, unwrap_or, refl, sym, ap, ◌∙◌}
 use Rattle.std.proofs.Common.{subst, arith, inl, inr, true≢false}
@@ -37,7 +37,7 @@ module _ (g : Graph) (order : List ℕ) (frozen : List (Option ℕ)) (s : Scenar
   time_is x l =
       ap (λ ts. get_or ts x None) run.times ∙ get_or-map-below (time_by g order frozen s t) (item_count g) x None l
 
-  -- the time of an active item
+  -- the time that the rules make for an active item
   abbrev pub time_of : ℕ → ℕ
   time_of x = greatest (unfrozen_time g order s t x ∷ option_to_list (get_or frozen x None))
 
@@ -45,7 +45,7 @@ module _ (g : Graph) (order : List ℕ) (frozen : List (Option ℕ)) (s : Scenar
   pub time_active : (x : ℕ) → x < item_count g → Acts x → get_or t.times x None ≡ Some (time_of x)
   time_active x l a = time_is x l ∙ cond-true _ _ _ a
 
-  -- the time of an active item is that of the rules
+  -- so that is its time
   pub time_in_active : (x : ℕ) → x < item_count g → Acts x → time_in t x ≡ time_of x
   time_in_active x l a = ap (λ o. unwrap_or o 0) (time_active x l a)
 
@@ -65,24 +65,24 @@ module _ (g : Graph) (order : List ℕ) (frozen : List (Option ℕ)) (s : Scenar
         ∙ e))
   ]
 
-  -- a process is active exactly if its start is
+  -- if a process is active, its start is
   pub start_acts : (p : ℕ) → p < process_count g → active g s.values p ≡ true → Acts p
   start_acts p l a = ap (item_active g s.values) (item_at-start g p l) ∙ a
 
-  -- a process whose start is active is active
+  -- if its start is active, a process is
   pub acts_start : (p : ℕ) → p < process_count g → Acts p → active g s.values p ≡ true
   acts_start p l a = sym (ap (item_active g s.values) (item_at-start g p l)) ∙ a
 
-  -- the end of each process is that of the rules
+  -- the end of each process is the given one, if the process starts
   pub end_is : (p : ℕ) → p < process_count g → get_or t.ends p None ≡ end_where t run.end_of p
   end_is p l =
       ap (λ ts. get_or ts p None) run.ends ∙ get_or-map-below (end_where t run.end_of) (process_count g) p None l
 
-  -- an active process has an end
+  -- an active process has the given end
   pub has_end : (p : ℕ) → p < process_count g → active g s.values p ≡ true → get_or t.ends p None ≡ Some (run.end_of p)
   has_end p l a = end_is p l ∙ ap (option_map (λ start. run.end_of p)) (has_time p (omega arith) (start_acts p l a))
 
-  -- an active process has the end of the run
+  -- so that is its end
   pub end_active : (p : ℕ) → p < process_count g → active g s.values p ≡ true → end_in t p ≡ run.end_of p
   end_active p l a = ap (λ o. unwrap_or o 0) (has_end p l a)
 
@@ -153,12 +153,12 @@ module _ (g : Graph) (order : List ℕ) (frozen : List (Option ℕ)) (s : Scenar
       b ≤ time_in t x
   send_bound x b l a e k = bound_below x b l a (subst (λ bs. Contains bs b) (sym (sent_bounds x (item_at g x) e)) k)
 
-  -- it is sent no earlier than in the next slot after its producer's end
+  -- an item is sent no earlier than in the next slot after its producer's end
   pub producer_below : (x : ℕ) → x < item_count g → Acts x → is_sent g x ≡ true →
       next_slot g (home g x) (end_in t (producer g x)) ≤ time_in t x
   producer_below x l a e = send_bound x _ l a e (Contains-first _ _)
 
-  -- it is sent no earlier than a round after what stands before it in the queue
+  -- an item is sent no earlier than a round after each active item before it in the queue
   pub queue_below : (x y : ℕ) → x < item_count g → Acts x → is_sent g x ≡ true → Contains (queued_before g order x) y →
       Acts y →
       time_in t y + round g ≤ time_in t x

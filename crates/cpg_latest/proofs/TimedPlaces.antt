@@ -1,4 +1,5 @@
--- From all that holds before a place to all that holds before the next one.
+-- From all that holds before a place, times, ends, ready nodes and free slots, and what is found of the process there, follows
+-- the same before the next place.
 use Rattle.std.proofs.Common.{◌≡◌, ◌∙◌, ℕ, ◌+◌, ◌≤◌, ◌<◌, max, true, false, List, length, get_or, set, Option, Some}
 use Rattle.std.proofs.Common.{None, unwrap_or, arith, sym, ap, inl, inr, subst, get_or-set_same}
 use Rattle.std.proofs.Common.{get_or-set_other}
@@ -21,9 +22,9 @@ use Rattle.cpg_latest.proofs.TimedStarts.{decided_in_run, start_is}
 use Rattle.cpg_latest.proofs.TimedSteps.{ready_other, ready_idle, ready_active, free_other, free_idle, free_here}
 use Rattle.cpg_latest.proofs.TimedSteps.{knows_idle, knows_active}
 
--- given: what is known before the place of a process, and when its node has heard what decides it
--- `run`: the times of a run; `at`, `on`: the place and the node of p; `a`, `long`, `far`: what is known there;
--- `is_heard`: when the node has heard what decides p
+-- given: what is known of the times t before the place i of the process p, and when p's node has heard what decides p
+-- `run`: t keeps the rules of a run; `at`, `on`: p is at i, on a node of the graph; `a`, `long`, `far`: what is known;
+-- `is_heard`: by what is known, the node has heard all that decides p at `heard`
 module _ (g : Graph) (order : List ℕ) (topological : IsTopological g order) (frozen : List (Option ℕ)) (s : Scenario)
     (t : Times) (run : IsTimed g order frozen s t)
     (i p : ℕ) (l : p < process_count g) (at : place order p ≡ i) (on : node_of g p < length g.nodes)
@@ -35,12 +36,12 @@ module _ (g : Graph) (order : List ℕ) (topological : IsTopological g order) (f
   abbrev node : ℕ
   node = node_of g p
 
-  -- when all that decides the process has been heard is the same by the run
+  -- `heard` is also when the node has heard all of that in the times t
   heard_in_run : IsMost (λ c. (c < condition_count g) × (decides g s.values p c ≡ true))
       (heard_there g t (node_of g p)) heard
   heard_in_run = decided_in_run g order t i known a.knows topological s p l at heard is_heard
 
-  -- if the node of the process is ready, all nodes are ready at the next place
+  -- if v is when p's node is ready at the next place, the list with v for it says when each node is; the others stay
   readies_next : (v : ℕ) → IsReady g order s t (i + 1) (node_of g p) v → (n : ℕ) → n < length g.nodes →
       IsReady g order s t (i + 1) n (get_or (set readies (node_of g p) v) n 0)
   readies_next v ready n k = elim (cases_eq n (node_of g p)) [
@@ -51,8 +52,7 @@ module _ (g : Graph) (order : List ℕ) (topological : IsTopological g order) (f
         (ready_other g order topological frozen s t run i p l at n (get_or readies n 0) other (a.nodes_ready n k))
   ]
 
-  -- after an inactive process all is known before the next place, with its node ready once it has heard what decides
-  -- it
+  -- after an inactive process all is known before the next place, and its node is ready when it has heard what decides p too
   pub at_idle : (v : ℕ) → active g s.values p ≡ false → v ≡ max (get_or readies (node_of g p) 0) heard →
       IsAt g order s t (i + 1) known (set readies (node_of g p) v) frees
   at_idle v idle is = record {
@@ -68,7 +68,7 @@ module _ (g : Graph) (order : List ℕ) (topological : IsTopological g order) (f
       (ready_at : ready ≡ max (get_or readies (node_of g p) 0) heard)
       (found : start ≡ max (max (max ready (process_at g p).release) (greatest (input_bounds g s known p)))
       (frozen_in frozen p)) where
-    -- the start that is found is that of the times
+    -- the start that is found is that of the times t
     pub start_right : start ≡ time_in t p
     start_right = found ∙ ap (λ r.
         max (max (max r (process_at g p).release) (greatest (input_bounds g s known p))) (frozen_in frozen p)) ready_at
@@ -81,7 +81,7 @@ module _ (g : Graph) (order : List ℕ) (topological : IsTopological g order) (f
           (ends_long : length known.ends ≡ process_count g)
           (started : begun.times ≡ set known.times p (Some start))
           (ended : begun.ends ≡ set known.ends p (Some end)) where
-        -- once its start and its end are set, the process can send
+        -- once its start and its end are set, all is known that has to be before p sends
         pub can_send : (free : ℕ) → free ≡ get_or frees (node_of g p) 0 → CanSend g order s t p begun free
         can_send free is = record {
           ends = ap (λ es. unwrap_or (get_or es p None) 0) ended
@@ -95,7 +95,8 @@ module _ (g : Graph) (order : List ℕ) (topological : IsTopological g order) (f
               (a.slots_free (node_of g p) on));
         }
 
-        -- once it has sent all, everything is known before the next place
+        -- once p has sent all, all is known before the next place: its node is ready at the end of p, and the node's slots are free
+        -- after what p sent; other nodes stay as they are
         pub at_active : (new : Times) (free : ℕ) → HasSent g order s t p (length (queue_of g p)) begun new free →
             KeepsEnds begun new
             → IsAt g order s t (i + 1) new (set readies (node_of g p) end) (set frees (node_of g p) free)
@@ -105,6 +106,7 @@ module _ (g : Graph) (order : List ℕ) (topological : IsTopological g order) (f
           nodes_ready = readies_next end (ready_active g order topological frozen s t run i p l at
               (get_or readies (node_of g p) 0) heard end acts end_right
               (omega (arith, ready_at, found, after)) (a.nodes_ready (node_of g p) on) heard_in_run);
+          -- the slots of p's node are free after what p sent, and those of other nodes as before
           slots_free = λ n k. elim (cases_eq n (node_of g p)) [
             | inl e ↦ subst (λ z. IsFree g order s t (i + 1) z (get_or (set frees (node_of g p) free) z 0)) (sym e)
                 (subst (IsFree g order s t (i + 1) (node_of g p))

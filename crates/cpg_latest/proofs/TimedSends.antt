@@ -1,4 +1,4 @@
--- What a process sends next follows from what its node has sent before.
+-- When a process's next item is sent follows from when the slots of its node are free after what was sent before.
 use Rattle.std.proofs.Common.{◌≡◌, ◌∙◌, ℕ, suc, ◌+◌, ◌<◌, ◌≤◌, max, true, false, ◌&&◌, ◌==◌, ltb, List, [], ◌∷◌, ◌++◌}
 use Rattle.std.proofs.Common.{length, get_or, set, take, drop, Contains, Option, Some, None, option_to_list}
 use Rattle.std.proofs.Common.{arith, refl, sym, ap, ap₂, inl, inr, ◌⊎◌, ⊎_elim, subst, eq-eqb, eqb-true, lt-ltb}
@@ -33,7 +33,7 @@ use Rattle.cpg_run.proofs.Mosts.{most_same}
 use Rattle.cpg_bus.proofs.Queued.{in_queue, queue-Contains, queue_rises, below_first, in_first, rank_at}
 use Rattle.cpg_latest.proofs.TimedStarts.{greatest_option, both_ways_equal}
 
--- the first k + 1 elements
+-- one of the first k + 1 elements is one of the first k, or that at place k
 pub take_next : (xs : List ℕ) (k y : ℕ) → k < length xs → Contains (take (k + 1) xs) y →
     Contains (take k xs) y ⊎ (y ≡ get_or xs k 0)
 take_next xs k y l c =
@@ -45,7 +45,7 @@ take_next xs k y l c =
           elim (Contains-cases (get_or xs k 0) [] y b) [ inl e ↦ inr (sym e) | inr none ↦ absurd (Contains-nil y none) ]
     ]
 
--- one of the first k elements, or the next one, is one of the first k + 1
+-- one of the first k elements, or that at place k, is one of the first k + 1
 pub in_next : (xs : List ℕ) (k y : ℕ) → k < length xs → Contains (take k xs) y ⊎ (y ≡ get_or xs k 0) →
     Contains (take (k + 1) xs) y
 in_next xs k y l c =
@@ -76,7 +76,7 @@ module _ (g : Graph) (order : List ℕ) (topological : IsTopological g order) (s
     pub here_sent : Contains (queue_of g p) here
     here_sent = Contains-get_or (queue_of g p) k 0 inside
 
-    -- an active item queued before this one is one that the node has sent by then
+    -- an active item queued before this one is sent for an earlier process, or is one of the first k of p
     queued_is_by : (y : ℕ) → Contains (queued_before g order here) y → item_active g s.values (item_at g y) ≡ true →
         IsSentBy g order s p k y
     queued_is_by y c acts =
@@ -97,7 +97,8 @@ module _ (g : Graph) (order : List ℕ) (topological : IsTopological g order) (s
               (or_cases _ _ b.1),
         )
 
-    -- the other way around: what the node has sent by then is queued before this item
+    -- and conversely: an active item that the node sends for an earlier process, or that is one of the first k of p, is queued
+    -- before this one
     by_is_queued : (y : ℕ) → IsSentBy g order s p k y → Contains (queued_before g order here) y
     by_is_queued y h =
         let x = in_queue g p here here_sent in
@@ -113,7 +114,7 @@ module _ (g : Graph) (order : List ℕ) (topological : IsTopological g order) (s
               (lt-ltb _ _ (below_first (rank_at g) (queue_of g p) (queue_rises g p) k inside y first)))
         ]))
 
-    -- no item stands before itself
+    -- the item at place k is not among the first k
     pub not_among : Contains (take k (queue_of g p)) here → ⊥
     not_among c = let less = below_first (rank_at g) (queue_of g p) (queue_rises g p) k inside here c in omega arith
 
@@ -138,18 +139,18 @@ module _ (g : Graph) (order : List ℕ) (topological : IsTopological g order) (s
           ∙ greatest-cons (unfrozen_time g order s t here) (option_to_list (get_or frozen here None))
           ∙ ap₂ max (unfrozen_sent g order frozen s t run here x.sent) (greatest_option (get_or frozen here None))
 
-      -- the slots are free by the item's time
+      -- the slots are free by the item's time, since it waits for a round after each active item queued before it
       free_by : free ≤ time_in t here
       free_by = let x = in_queue g p here here_sent in
           is_free.least (time_in t here)
           (λ y h. queue_below g order frozen s t run here y x.within acts x.sent (by_is_queued y h) h.0.active)
 
-      -- no bound of the item is above the time found
+      -- no bound of the item is above the time found: the slot after the producer's end isn't, nor is a round after an item before
       bounds_found : greatest (send_bounds g order s t here) ≤ found
       bounds_found = send_bounds_le g order s t here found (omega (arith, at_producer))
           (λ y c a. omega (arith, is_free.above y (queued_is_by y c a)))
 
-      -- the time that is found for the item is that of the times
+      -- the time that is found is that of the times t: each is at most the other
       pub send_is : max (max (next_slot g (node_of g p) (end_in t p)) free) (frozen_in frozen here) ≡ time_in t here
       send_is = let x = in_queue g p here here_sent in
           both_ways_equal found (time_in t here)
@@ -157,7 +158,7 @@ module _ (g : Graph) (order : List ℕ) (topological : IsTopological g order) (s
           (arith, free_by, item_time, at_producer, producer_below g order frozen s t run here x.within acts x.sent))
           (omega (arith, item_time, bounds_found))
 
-      -- the slots are free a round after the item then
+      -- once the item is sent, the slots of the node are free a round after it
       pub free_next : IsMost (IsSentBy g order s p (k + 1)) (free_after g t) (time_in t here + round g)
       free_next = let x = in_queue g p here here_sent in record {
         above = λ y h. elim h.1 [
@@ -173,7 +174,7 @@ module _ (g : Graph) (order : List ℕ) (topological : IsTopological g order) (s
         );
       }
 
-    -- an item that is not active leaves the slots as free as before
+    -- after an inactive item the slots are free when they were, since no item more is sent
     pub free_same : (t : Times) (free : ℕ) → item_active g s.values (item_at g here) ≡ false →
         IsMost (IsSentBy g order s p k) (free_after g t) free →
         IsMost (IsSentBy g order s p (k + 1)) (free_after g t) free
@@ -214,7 +215,7 @@ module _ (g : Graph) (order : List ℕ) (topological : IsTopological g order) (s
     abbrev item : ℕ
     item = get_or (queue_of g p) k 0
 
-    -- an inactive item counts as sent without a time
+    -- an inactive item counts as sent: it has no time, in what is known and in the times t
     pub sent_idle : ((x : ℕ) → Contains (queue_of g p) x → get_or old.times x None ≡ None) →
         item_active g s.values (item_at g item) ≡ false →
         HasSent g order s t p (k + 1) old known free
@@ -232,7 +233,7 @@ module _ (g : Graph) (order : List ℕ) (topological : IsTopological g order) (s
           slots_free = free_same k inside t free idle has.slots_free;
         }
 
-    -- an active item counts as sent once its time is set
+    -- an active item counts as sent once its time is set to the one found, which is its time in t
     pub sent_active : (new : Times) (time : ℕ) → item < length known.times →
         new.times ≡ set known.times item (Some time) →
         item_active g s.values (item_at g item) ≡ true
@@ -242,6 +243,7 @@ module _ (g : Graph) (order : List ℕ) (topological : IsTopological g order) (s
         let x = in_queue g p item (here_sent k inside) in
         let right : time ≡ time_in t item = at ∙ send_is k inside frozen t run free has.slots_free acts in
         record {
+          -- the item's place of the list is set, and the first k keep their times
           sent = λ y c. elim (cases_eq y item) [
             | inl e ↦ subst (λ z. get_or new.times z None ≡ get_or t.times z None) (sym e)
                 (ap (λ ts. get_or ts item None) is ∙ get_or-set_same known.times item (Some time) None long
@@ -256,11 +258,12 @@ module _ (g : Graph) (order : List ℕ) (topological : IsTopological g order) (s
               ∙ get_or-set_other known.times item y (Some time) None
               (λ e. c (in_next (queue_of g p) k y inside (inr e)))
               ∙ has.others y (λ first. c (in_next (queue_of g p) k y inside (inl first)));
+          -- the item is the last that was sent, so the slots are free a round after it
           slots_free = subst (IsMost (IsSentBy g order s p (k + 1)) (free_after g t))
               (ap (λ n. n + round g) (sym right)) (free_next k inside frozen t run free has.slots_free acts);
         }
 
--- the same as code says it
+-- the equation of the time that is found, with the node, the end and the item replaced by equal ones
 pub found_is : (g : Graph) (frozen : List (Option ℕ)) (time free node sender end last item x : ℕ) →
     time ≡ max (max (next_slot g node end) free) (frozen_in frozen item)
     → node ≡ sender → end ≡ last → item ≡ x → time ≡ max (max (next_slot g sender last) free) (frozen_in frozen x)

@@ -1,4 +1,4 @@
--- What is known before a place gives the start of the process there.
+-- The start of the process at a place follows from what is known before the place.
 use Rattle.std.proofs.Common.{◌≡◌, ◌∙◌, ℕ, ◌+◌, ◌<◌, ◌≤◌, max, true, ◌==◌, if◌then◌else◌, List, [], ◌∷◌, ◌++◌, length}
 use Rattle.std.proofs.Common.{get_or, filter, flat_map, Contains, Option, Some, None, option_to_list}
 use Rattle.std.proofs.Common.{unwrap_or, arith, refl, sym, ap, ap₂, inl, inr, subst, eq-eqb, eqb-true}
@@ -33,18 +33,18 @@ use Rattle.cpg_run.specs.Most.{IsMost}
 use Rattle.cpg_run.specs.Progress.{Knows, IsReady}
 use Rattle.cpg_run.proofs.Bounded.{start_bounds_le, passing_le}
 
--- an optional time as the greatest of its list
+-- the greatest of the list of an optional time is that time, or 0
 pub greatest_option : (o : Option ℕ) → greatest (option_to_list o) ≡ unwrap_or o 0
 greatest_option None = refl
 greatest_option (Some n) = greatest-cons n [] ∙ omega arith
 
--- over plain numbers
+-- two numbers are equal if each is at most the other
 pub both_ways_equal : (a b : ℕ) → a ≤ b → b ≤ a → a ≡ b
 both_ways_equal a b h k = omega arith
 
--- given: what is known of times before a place
+-- given: what is known of the times t before the place i
 module _ (g : Graph) (order : List ℕ) (t : Times) (i : ℕ) (known : Times) (knows : Knows g order t i known) where
-  -- what is known of an item or a process from before the place is its time or its end
+  -- the time of an earlier process's item is known
   pub known_item : (x : ℕ) → x < item_count g → place order (producer g x) < i → time_in known x ≡ time_in t x
   known_item x l h = ap (λ o. unwrap_or o 0) (knows.times x l h)
 
@@ -52,11 +52,11 @@ module _ (g : Graph) (order : List ℕ) (t : Times) (i : ℕ) (known : Times) (k
   pub known_end : (q : ℕ) → q < process_count g → place order q < i → end_in known q ≡ end_in t q
   known_end q l h = ap (λ o. unwrap_or o 0) (knows.ends q l h)
 
-  -- the frame of an earlier process's item is known
+  -- the arrival of an earlier process's frame is known
   known_frame : (x : ℕ) → x < item_count g → place order (producer g x) < i → frame_there g known x ≡ frame_there g t x
   known_frame x l h = ap (λ n. n + slot_length g (home g x)) (known_item x l h)
 
-  -- it is known when an input from before the place is there
+  -- what is known tells when an input from before the place is there, just as the times t do
   pub known_input_of : (e : ℕ) → e < edge_count g → source g e < process_count g → place order (source g e) < i →
       input_there g known e ≡ input_there g t e
   known_input_of e h l less = ap₂ (λ v w. if is_message g e then v else w)
@@ -64,7 +64,7 @@ module _ (g : Graph) (order : List ℕ) (t : Times) (i : ℕ) (known : Times) (k
       (omega (arith, ap (λ j. place order (producer_of_item g j)) (item_at-message g e h))))
       (known_end (source g e) l less)
 
-  -- it is known when a node hears a condition from before the place
+  -- what is known tells when a node hears a condition from before the place, just as the times t do
   pub known_heard_of : (node c : ℕ) → c < condition_count g → place order (process_of g c) < i →
       heard_there g known node c ≡ heard_there g t node c
   known_heard_of node c h less = ap₂ (λ v w. if node_of g (process_of g c) == node then v else w)
@@ -72,7 +72,7 @@ module _ (g : Graph) (order : List ℕ) (t : Times) (i : ℕ) (known : Times) (k
       (known_frame (broadcast_item g c) (omega arith)
       (omega (arith, ap (λ j. place order (producer_of_item g j)) (item_at-broadcast g c))))
 
-  -- what is known of small times is small
+  -- if the times t are below 2 ^ 59, so is what is known of them: it is a time of t, or 0
   pub known_small : length known.times ≡ item_count g → length known.ends ≡ process_count g → AreSmall t →
       AreSmall known
   known_small items processes small = record {
@@ -97,7 +97,7 @@ module _ (g : Graph) (order : List ℕ) (t : Times) (i : ℕ) (known : Times) (k
 
   module _ (topological : IsTopological g order) (s : Scenario) (p : ℕ) (l : p < process_count g)
       (at : place order p ≡ i) where
-    -- it is known when each input of the process at the place is there
+    -- what is known tells when each input of the process at the place is there, just as the times t do
     pub known_input : (e : ℕ) → Contains (inputs g p) e → input_there g known e ≡ input_there g t e
     known_input e c =
         let h = (inputs_parts g p e c).0 in
@@ -124,7 +124,7 @@ module _ (g : Graph) (order : List ℕ) (t : Times) (i : ℕ) (known : Times) (k
         (Contains-filter (decides g s.values q) (numbers_below (condition_count g)) c d
         (Contains-numbers (condition_count g) c h))
 
-    -- what decides the process is heard then in the run as well
+    -- if by what is known the node has heard at v all that decides p, it has in the times t
     pub decided_in_run : (v : ℕ) →
         IsMost (λ c. (c < condition_count g) × (decides g s.values p c ≡ true)) (heard_there g known (node_of g p)) v
         → IsMost (λ c. (c < condition_count g) × (decides g s.values p c ≡ true)) (heard_there g t (node_of g p)) v
@@ -140,7 +140,7 @@ module _ (g : Graph) (order : List ℕ) (t : Times) (i : ℕ) (known : Times) (k
         (ready heard : ℕ) (is_ready : IsReady g order s t i (node_of g p) ready)
         (is_heard : IsMost (λ c. (c < condition_count g) × (decides g s.values p c ≡ true))
         (heard_there g known (node_of g p)) heard) where
-      -- when the inputs are there
+      -- the time by which all live inputs are there, by what is known
       abbrev inputs_by : ℕ
       inputs_by = greatest (input_bounds g s known p)
 
@@ -148,14 +148,14 @@ module _ (g : Graph) (order : List ℕ) (t : Times) (i : ℕ) (known : Times) (k
       abbrev found : ℕ
       found = max (max (max (max ready heard) (process_at g p).release) inputs_by) (frozen_in frozen p)
 
-      -- the start is the greatest of its bounds and its frozen time
+      -- the start of p in the times t is the greatest of its bounds and its frozen time
       time_is : time_in t p ≡ max (greatest (start_bounds g order s t p)) (frozen_in frozen p)
       time_is = time_in_active g order frozen s t run p (omega arith) (start_acts g order frozen s t run p l acts)
           ∙ greatest-cons (unfrozen_time g order s t p) (option_to_list (get_or frozen p None))
           ∙ ap₂ max (ap (λ j. greatest (bounds_of_item g order s t p j)) (item_at-start g p l))
           (greatest_option (get_or frozen p None))
 
-      -- the node is ready by the start
+      -- the node is ready by the start, since the start waits for the ends and hearings of which that is the least bound
       ready_by : ready ≤ time_in t p
       ready_by = is_ready.least (time_in t p)
           (λ q k less same a. before_below g order frozen s t run p q l acts (before_in q k less same) a)
@@ -175,7 +175,8 @@ module _ (g : Graph) (order : List ℕ) (t : Times) (i : ℕ) (known : Times) (k
           (λ e k. let r = Contains-filter_parts (live g s.values) (inputs g p) e k in
           omega (arith, known_input e r.0, input_below g order frozen s t run p e l acts r.0 r.1)) c)
 
-      -- a condition that decides p or an earlier process of its node is heard by the found time
+      -- a condition that decides p or an earlier process of its node is heard by the time found: for an earlier process when the
+      -- node is ready, for p when it has heard what decides p
       heard_found : (c : ℕ) → Contains (flat_map (deciding g s.values) (before_on_node g order p ++ p ∷ [])) c →
           heard_there g t (node_of g p) c ≤ found
       heard_found c k =
@@ -183,6 +184,7 @@ module _ (g : Graph) (order : List ℕ) (t : Times) (i : ℕ) (known : Times) (k
           let r = Contains-filter_parts (decides g s.values q.0) (numbers_below (condition_count g)) c q.2 in
           let h = numbers-Contains (condition_count g) c r.0 in
           elim (Contains-append_cases (before_on_node g order p) (p ∷ []) q.0 q.1) [
+            -- it decides an earlier process of the node, so it is heard by the time that the node is ready
             | inl b ↦
                 let o = on_node_before g order p q.0 b in
                 let same : node_of g q.0 ≡ node_of g p = eqb-true _ _
@@ -192,6 +194,7 @@ module _ (g : Graph) (order : List ℕ) (t : Times) (i : ℕ) (known : Times) (k
                   is_ready.heard q.0 c (from_order (process_count g) order topological.all q.0 o.0)
                       (omega (arith, o.1)) same h r.1,
                 )
+            -- it decides p itself
             | inr b ↦ elim (Contains-cases p [] q.0 b) [
               | inl e ↦ omega (
                 arith,
@@ -201,7 +204,7 @@ module _ (g : Graph) (order : List ℕ) (t : Times) (i : ℕ) (known : Times) (k
             ]
           ]
 
-      -- no bound of the start is later than the found time
+      -- no bound of the start is later than the time found: not the release, an input, an end before it or a hearing
       bounds_found : greatest (start_bounds g order s t p) ≤ found
       bounds_found = start_bounds_le g order s t p found (omega arith)
           (λ e c a. omega (
@@ -221,7 +224,7 @@ module _ (g : Graph) (order : List ℕ) (t : Times) (i : ℕ) (known : Times) (k
           ))
           heard_found
 
-      -- the start of the process
+      -- the time found is the start of p in the times t: each is at most the other
       pub start_is : max (max (max (max ready heard) (process_at g p).release) (greatest (input_bounds g s known p)))
           (frozen_in frozen p) ≡ time_in t p
       start_is = both_ways_equal found (time_in t p)

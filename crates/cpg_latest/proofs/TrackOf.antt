@@ -1,4 +1,4 @@
--- Each scenario has a track whose scenario with the same faults has its run.
+-- Each scenario has a track: with the values of inactive conditions made false and the same faults it has the same run.
 use Rattle.std.proofs.Common.{◌≡◌, ◌∙◌, ℕ, ◌<◌, Bool, true, false, not, ◌&&◌, ◌||◌, List, [], map, filter, length}
 use Rattle.std.proofs.Common.{get_or, Option, refl, sym, ap, subst, inl, inr}
 use Rattle.std.proofs.lemmas.Bool.{cases_Bool, or_left, or_right}
@@ -20,29 +20,29 @@ use Rattle.cpg_latest.specs.Latest.{with_faults}
 use Rattle.cpg_latest.specs.Tracks.{track_at}
 use Rattle.cpg_latest.proofs.Alike.{AreActiveAlike, active_is_same, item_is_same, bounds_same, run_of_alike}
 
--- the values of active conditions, and the others false
+-- the values of conditions whose processes are active, and false for the others
 abbrev pub cleared : Graph → List Bool → List Bool
 cleared g o = map (λ c. get_or o c false && active g o (process_of g c)) (numbers_below (condition_count g))
 
--- a condition that holds leaves a conjunction as it is
+-- a test together with one that passes is the test
 and_on : (a b : Bool) → b ≡ true → a ≡ (a && b)
 and_on true b e = sym e
 and_on false b e = refl
 
--- a condition that fails makes a conjunction false
+-- a test together with one that fails fails
 and_off : (a b : Bool) → b ≡ false → (a && b) ≡ false
 and_off true b e = e
 and_off false b e = refl
 
 module _ (g : Graph) (urgency : List ℕ) (urgent : IsUrgencyOrder g urgency) (lawful : IsTopological g urgency)
     (s : Scenario) where
-  -- a cleared value is the old one if its process is active, and else false
+  -- a cleared value is the old one, if the process of the condition is active, and else false
   at_condition : (c : ℕ) → c < condition_count g →
       get_or (cleared g s.values) c false ≡ (get_or s.values c false && active g s.values (process_of g c))
   at_condition c l = get_or-map-below (λ c. get_or s.values c false && active g s.values (process_of g c))
       (condition_count g) c false l
 
-  -- clearing the values of inactive processes changes nothing of what is active
+  -- the scenario and the one with cleared values agree on what is active in the first
   alike : AreActiveAlike g s (with_faults (cleared g s.values) s.faults)
   alike = record {
     values =
@@ -55,7 +55,7 @@ module _ (g : Graph) (urgency : List ℕ) (urgent : IsUrgencyOrder g urgency) (l
   long = length-map-range_with_len (λ c. get_or s.values c false && active g s.values (process_of g c)) 0
       (condition_count g)
 
-  -- in the cleared outcome a condition is false, or its process is active; by whether the process is active in s
+  -- in the cleared outcome a condition is false or its process is active: by whether the process is active in s
   passes : (c : ℕ) → c < condition_count g →
       (not (get_or (cleared g s.values) c false) || active g (cleared g s.values) (process_of g c)) ≡ true
   passes c l = elim (cases_Bool (active g s.values (process_of g c))) [
@@ -66,7 +66,7 @@ module _ (g : Graph) (urgency : List ℕ) (urgent : IsUrgencyOrder g urgency) (l
         (ap not (at_condition c l ∙ and_off (get_or s.values c false) (active g s.values (process_of g c)) idle))
   ]
 
-  -- the cleared values are a track
+  -- the cleared values are a track, as each of them is false or its process is active
   cleared_is_track : is_track g (cleared g s.values) ≡ true
   cleared_is_track =
       all_from (λ c. not (get_or (cleared g s.values) c false) || active g (cleared g s.values) (process_of g c))
@@ -88,7 +88,7 @@ module _ (g : Graph) (urgency : List ℕ) (urgent : IsUrgencyOrder g urgency) (l
     pub unfrozen : (order : List ℕ) (t : Times) (x : ℕ) → IsTopological g order → x < item_count g →
         unfrozen_time g order s t x ≡ unfrozen_time g order (with_faults (track_at tracks place) []) t x
 
-  -- what the cleared outcome has
+  -- the cleared values are the track at the place i, if they are the outcome there
   of_outcome : (tracks : List (List Bool)) (i : ℕ) → i < length tracks → cleared g s.values ≡ track_at tracks i →
       HasTrack tracks
   of_outcome tracks i l is = record {
@@ -107,7 +107,7 @@ module _ (g : Graph) (urgency : List ℕ) (urgent : IsUrgencyOrder g urgency) (l
         (with_faults (cleared g s.values) s.faults) alike order topological [] t x (item_cases g x k)));
   }
 
-  -- each scenario has a track with its runs
+  -- each scenario has a track with its runs, as the cleared values are a track and the list has all of them
   pub has_track : (tracks : List (List Bool)) → AreTracks g tracks → HasTrack tracks
   has_track tracks all =
       let c =

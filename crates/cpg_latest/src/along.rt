@@ -1,4 +1,4 @@
-//! All tracks along an order, one process after another.
+//! Finds the latest times of all tracks along an order, one process after another, and the frozen times they give.
 ghost use Rattle.std.specs.Prelude.{◌≡◌, ◌+◌, ◌<◌, None, OnOk, Contains, get_or, length};
 ghost use Rattle.cpg_base.specs.Graph.{process_count, item_count};
 ghost use Rattle.cpg_base.specs.Order.{place};
@@ -17,7 +17,7 @@ use cpg_base::{OutOfMemory, Scenario};
 use cpg_run::{FrozenTimes, Setting};
 use std::alloc::Global;
 
-/// The later of two times that may be missing.
+/// Returns the later of two times, the one that there is if there is only one, and `None` if there is none.
 fn later(first: Option<u64>, second: Option<u64>) -> Option<u64>
     ensures { result ≡ later first second }
 {
@@ -30,7 +30,7 @@ fn later(first: Option<u64>, second: Option<u64>) -> Option<u64>
     }
 }
 
-/// Sets the frozen time of an item, if there is one.
+/// Sets the frozen time of an item to its latest time, if it has one.
 fn settle(frozen: &mut FrozenTimes, item: u32, latest: Option<u64>)
     requires item { item < length frozen.old }
     requires unset { get_or frozen.old item None ≡ None }
@@ -42,7 +42,7 @@ fn settle(frozen: &mut FrozenTimes, item: u32, latest: Option<u64>)
     }
 }
 
-/// The latest start of a process over all tracks as if it were not frozen, and `None` exactly if it is never active.
+/// Returns the latest start of a process over all tracks as if it were not frozen. `None` exactly if it is active in none.
 fn latest_start(
     setting: &Setting<'_>,
     asked: &[Asked<'_>],
@@ -55,6 +55,7 @@ fn latest_start(
     requires lanes { TellStarts setting.now.problem.now (outcomes_asked asked.now) lanes.now }
     ensures { IsLatestStart setting.now.problem.now (outcomes_asked asked.now) process lanes.now (length lanes.now) result }
 {
+    // what was asked of a track and its lane are at the same place
     let mut latest = None;
     for i in 0..lanes.len() {
         latest = later(latest, lanes[i].start(setting, &asked[i], process));
@@ -62,7 +63,7 @@ fn latest_start(
     latest
 }
 
-/// Sets the frozen time of a process, if it is frozen.
+/// Sets the frozen time of a process's start, if it is frozen and active in some track.
 fn settle_start(
     setting: &Setting<'_>,
     frozen: &mut FrozenTimes,
@@ -78,7 +79,7 @@ fn settle_start(
     ensures settled { AreSettledOf setting.now.problem.now setting.now.order.now (IsDone setting.now.problem.now setting.now.order.now process 0) frozen.new }
     ensures others { IsSettledBy process frozen.old frozen.new }
 {
-    // the start isn't frozen, so no time is set
+    // a start that isn't frozen has no frozen time
     if !setting.problem.is_frozen(process) {
         return;
     }
@@ -86,8 +87,8 @@ fn settle_start(
     settle(frozen, process, latest);
 }
 
-/// The latest time of an item of a process over all tracks as if it were not frozen, and `None` exactly if it is
-/// never active.
+/// Returns the latest time over all tracks at which a process could send an item as if it were not frozen. `None` exactly
+/// if the item is active in none.
 fn latest_send(
     setting: &Setting<'_>,
     asked: &[Asked<'_>],
@@ -110,7 +111,7 @@ fn latest_send(
     latest
 }
 
-/// Sets the frozen time of the item at a place of what a process sends, if it is frozen.
+/// Sets the frozen time of the item at the place `at` in the queue of a process, if it is frozen and active in some track.
 fn settle_send(
     setting: &Setting<'_>,
     frozen: &mut FrozenTimes,
@@ -129,7 +130,7 @@ fn settle_send(
     ensures others { IsSettledBy (queued setting.now.problem.now process at) frozen.old frozen.new }
 {
     let item = setting.plan.queue(setting.problem, process)[at];
-    // the item isn't frozen, so no time is set
+    // an item that isn't frozen has no frozen time
     if !setting.problem.is_frozen(item) {
         return;
     }
@@ -137,7 +138,7 @@ fn settle_send(
     settle(frozen, item, latest);
 }
 
-/// Starts a process in each track.
+/// Starts a process in each course of each track in which it is active; in the others its node waits for what decides it.
 fn begin_each(
     setting: &Setting<'_>,
     frozen: &FrozenTimes,
@@ -158,7 +159,7 @@ fn begin_each(
     }
 }
 
-/// Sends the item at a place of what a process sends in each track.
+/// Sends the item at the place `at` in the queue of a process, in each course of each track in which it is active.
 fn send_each(
     setting: &Setting<'_>,
     frozen: &FrozenTimes,
@@ -181,7 +182,7 @@ fn send_each(
     }
 }
 
-/// Sends all that a process sends in each track.
+/// Sends all items of a process in each track, and sets the frozen times of those that are frozen.
 fn send_all(
     setting: &Setting<'_>,
     frozen: &mut FrozenTimes,
@@ -196,13 +197,15 @@ fn send_all(
     requires sending { AreSending setting.now (outcomes_asked asked.now) process 0 frozen.old lanes.old.items }
     ensures { AreSending setting.now (outcomes_asked asked.now) process (length (queue_of setting.now.problem.now process)) frozen.new lanes.new.items }
 {
+    // item by item, since the frozen time of one has to be set before it is sent, and the next waits for its slot
     for at in 0..setting.plan.queue(setting.problem, process).len() {
         settle_send(setting, frozen, asked, lanes.as_slice(), process, at);
         send_each(setting, frozen, asked, lanes, process, at);
     }
 }
 
-/// Adds a process and all that it sends to each track.
+/// Goes on by one process: finds the latest times of its start, its end and all that it sends in each track, and the frozen
+/// times of those that are frozen.
 pub(crate) fn step(
     alloc: Global,
     setting: &Setting<'_>,
@@ -218,6 +221,7 @@ pub(crate) fn step(
     requires known { AreKnown setting.now (outcomes_of tracks.now) (place setting.now.order.now process) frozen.old lanes.old.items }
     ensures { OnOk result (AreKnown setting.now (outcomes_of tracks.now) (place setting.now.order.now process + 1) frozen.new lanes.new.items) }
 {
+    // the frozen time of the start is set before it is used
     let asked = ask_each(alloc, setting, tracks, process)?;
     settle_start(setting, frozen, asked.as_slice(), lanes.as_slice(), process);
     begin_each(setting, frozen, asked.as_slice(), lanes, process);

@@ -1,4 +1,4 @@
-//! What is known of the latest times of a track with a number of faults.
+//! What is known so far of the latest times of a track with a number of faults.
 ghost use Rattle.std.specs.Prelude.{◌≡◌, ◌<◌, IfOk, Some, get_or, length, replicate, slice_set};
 ghost use Rattle.cpg_run.specs.Known.{no_times};
 ghost use Rattle.cpg_run.specs.Run.{time_in, end_in};
@@ -7,17 +7,16 @@ use cpg_base::{OutOfMemory, Problem};
 use std::alloc::Global;
 use std::marker::Model;
 
-/// The times and ends that are known so far; for each node when it is ready for its next process, apart from what
-/// decides that process; and for each node from when on its slots are free. All are in time units.
+/// The latest times and ends that are known so far, and what they leave to the next processes, in time units.
 #[derive(Drop)]
 pub(crate) struct LatestCourse {
-    /// The time of each item, if it is known.
+    /// For each item when it starts or is sent; `None` if it is inactive or not known yet.
     times: Vec<Option<u64>>,
-    /// The end of each process, if it is known.
+    /// For each process when it ends; `None` if it is inactive or not known yet.
     ends: Vec<Option<u64>>,
-    /// When each node is ready for its next process, apart from what decides that process.
+    /// For each node by when all active processes so far have ended, and it has heard what decides any process so far.
     ready: Vec<u64>,
-    /// From when on the slots of each node are free.
+    /// For each node from when its slots are free after all that it has sent so far.
     free: Vec<u64>,
 }
 
@@ -30,12 +29,13 @@ impl Model for LatestCourse {
 }
 
 impl LatestCourse {
-    /// A course in which nothing is known.
+    /// Returns a course in which nothing is known, and all nodes are ready and their slots free at 0.
     pub(crate) fn none(alloc: Global, problem: &Problem) -> Result<LatestCourse, OutOfMemory>
         ensures { IfOk result (λ course. course ≡
             record { known = no_times problem.now; ready = replicate (length problem.now.nodes) 0; free = replicate (length problem.now.nodes) 0 }) }
     {
         let processes = problem.processes().len();
+        // an item is a start for each process, a message for each edge or a broadcast for each condition
         let items = processes + problem.edges().len() + problem.conditions() as usize;
         let nodes = problem.nodes().len();
         Ok(LatestCourse {
@@ -46,7 +46,7 @@ impl LatestCourse {
         })
     }
 
-    /// The time of an item, or 0 if none is known.
+    /// Returns the time of an item, or 0 if none is known.
     pub(crate) fn time(&self, item: u32) -> u64
         ensures { result ≡ time_in self.now.known item }
     {
@@ -56,7 +56,7 @@ impl LatestCourse {
         }
     }
 
-    /// The end of a process, or 0 if none is known.
+    /// Returns the end of a process, or 0 if none is known.
     pub(crate) fn end(&self, process: u32) -> u64
         ensures { result ≡ end_in self.now.known process }
     {
@@ -66,7 +66,7 @@ impl LatestCourse {
         }
     }
 
-    /// When a node is ready for its next process, apart from what decides that process.
+    /// Returns by when a node's active processes so far have ended, and it has heard what decides any process so far.
     pub(crate) fn ready(&self, node: u32) -> u64
         requires { node < length self.now.ready }
         ensures { result ≡ get_or self.now.ready node 0 }
@@ -74,7 +74,7 @@ impl LatestCourse {
         self.ready[node as usize]
     }
 
-    /// From when on the slots of a node are free.
+    /// Returns from when the slots of a node are free after all that it has sent so far.
     pub(crate) fn free(&self, node: u32) -> u64
         requires { node < length self.now.free }
         ensures { result ≡ get_or self.now.free node 0 }
@@ -82,7 +82,7 @@ impl LatestCourse {
         self.free[node as usize]
     }
 
-    /// Sets the start and the end of a process. Its node is ready at the end.
+    /// Sets the start and the end of a process. Its node is ready for the next one at the end.
     pub(crate) fn begin(&mut self, process: u32, node: u32, start: u64, end: u64)
         requires start { process < length self.old.known.times }
         requires end { process < length self.old.known.ends }
@@ -101,7 +101,7 @@ impl LatestCourse {
         self.ready[node as usize] = end;
     }
 
-    /// Sets when a node is ready.
+    /// Sets when a node is ready, as an inactive process leaves it.
     pub(crate) fn wait(&mut self, node: u32, ready: u64)
         requires { node < length self.old.ready }
         ensures { self.new ≡ record self.old { ready = slice_set self.old.ready node ready } }
@@ -109,7 +109,7 @@ impl LatestCourse {
         self.ready[node as usize] = ready;
     }
 
-    /// Sets the time of an item that a node sends, and from when on its slots are free.
+    /// Sets the time of an item that a node sends, and from when the node's slots are free after it.
     pub(crate) fn send(&mut self, item: u32, node: u32, time: u64, free: u64)
         requires item { item < length self.old.known.times }
         requires node { node < length self.old.free }

@@ -1,13 +1,13 @@
-//! The latest end of a process.
+//! Finds the latest end of a process with a number of faults.
 ghost use Rattle.std.specs.Prelude.{◌≡◌, ◌<◌, ◌≤◌, ◌^◌};
 ghost use Rattle.cpg_base.specs.Graph.{process_count};
 ghost use Rattle.cpg_latest.specs.Course.{end_after};
 
 use cpg_base::Problem;
 
-/// The latest end of a process with a number of faults, in time units. Given are its latest start with as many faults
-/// and its latest end with one fault less. Either the execution starts at that start and has no fault, or the one
-/// with a fault less has one more.
+/// Returns the latest end of a process with a number of faults, in time units. Given are its latest start with as many
+/// faults and, in `last`, its latest end with one fault less. Either all faults delay the start and the execution has
+/// none, or it has one more than the execution that ended at `last`. Without faults `last` isn't used.
 pub(crate) fn latest_end(
     problem: &Problem,
     process: u32,
@@ -22,7 +22,7 @@ pub(crate) fn latest_end(
     ensures { result ≡ end_after problem.now process faults start last }
 {
     let first = problem.duration(process, 0);
-    // without faults there is no latest end with one fault less
+    // there is no end with one fault less than none
     if faults == 0 {
         return start + first;
     }

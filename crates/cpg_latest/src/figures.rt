@@ -1,4 +1,4 @@
-//! The figures of an order.
+//! How late ends are at most under an order.
 ghost use Rattle.std.specs.Prelude.{◌≡◌, ◌+◌, ◌<◌, ℕ, List, get_or, length, map};
 ghost use Rattle.cpg_base.specs.Numbers.{greatest};
 ghost use Rattle.cpg_latest.specs.Lanes.{excess_of_course, finish_of, last_course};
@@ -7,7 +7,7 @@ ghost use Rattle.cpg_run.specs.Progress.{ProgressState};
 use crate::lanes::Lane;
 use cpg_base::Problem;
 
-/// How late the processes of a graph are under an order at most, over all scenarios.
+/// How late ends are at most under an order, over all scenarios.
 #[derive(Clone, Copy, Debug, PartialEq, Eq)]
 pub struct Figures {
     /// How far an end is past its due at most, in time units.
@@ -16,7 +16,8 @@ pub struct Figures {
     pub worst: u64,
 }
 
-/// The greatest figures of these tracks.
+/// Returns the greatest excess and the greatest finish of these lanes, those with all the faults. Both are 0 if there are
+/// no lanes.
 pub(crate) fn greatest_figures(problem: &Problem, lanes: &[Lane]) -> Figures
     requires { (i : ℕ) (d : List ProgressState) → i < length lanes.now → length (get_or lanes.now i d) ≡ problem.now.faults + 1 }
     ensures excess { result.excess ≡ greatest (map (λ l. excess_of_course problem.now (last_course problem.now l)) lanes.now) }

@@ -1,4 +1,4 @@
-//! The courses of the tracks.
+//! A lane: the courses of one track, for each number of faults.
 ghost use Rattle.std.specs.Prelude.{◌≡◌, ◌<◌, ◌+◌, ◌^◌, ℕ, true, false, IfOk, Some, None, Contains, length};
 ghost use Rattle.cpg_base.specs.Activity.{active, item_active};
 ghost use Rattle.cpg_base.specs.Graph.{process_count, item_count, item_at, node_of};
@@ -18,9 +18,10 @@ use cpg_run::{FrozenTimes, Setting};
 use std::alloc::Global;
 use std::marker::Model;
 
-/// The courses of a track, by the number of faults.
+/// The courses of a track.
 #[derive(Drop)]
 pub(crate) struct Lane {
+    // by the number of faults, from none to all the faults of the graph
     courses: Vec<LatestCourse>,
 }
 
@@ -33,7 +34,7 @@ impl Model for Lane {
     ghost view = { λ l. l.courses.items };
 }
 
-/// Whether a track sends an item of a process.
+/// Whether an item in the queue of a process is sent in a track.
 fn is_sent(setting: &Setting<'_>, asked: &Asked<'_>, process: u32, item: u32) -> bool
     requires setting { IsSetting setting.now }
     requires process { process < process_count setting.now.problem.now }
@@ -58,18 +59,20 @@ fn is_sent(setting: &Setting<'_>, asked: &Asked<'_>, process: u32, item: u32) ->
 }
 
 impl Lane {
-    /// A lane in which nothing is known.
+    /// Returns a lane in whose courses nothing is known, and all nodes are ready and their slots free at 0.
     pub(crate) fn none(alloc: Global, problem: &Problem) -> Result<Lane, OutOfMemory>
         ensures { IfOk result (λ lane. lane ≡ no_lane problem.now) }
     {
         let mut courses = Vec::new(alloc);
+        // one course for no fault, and one for each further number of faults
         for _ in 0..problem.faults() as usize + 1 {
             courses.push(LatestCourse::none(alloc, problem)?)?;
         }
         Ok(Lane { courses })
     }
 
-    /// When a process could start with all the faults if it were not frozen, and `None` exactly if it is inactive.
+    /// Returns when a process could start at the latest, with all the faults, if it were not frozen. `None` exactly if it is
+    /// inactive.
     pub(crate) fn start(
         &self,
         setting: &Setting<'_>,
@@ -89,13 +92,14 @@ impl Lane {
         if !asked.acts {
             return None;
         }
+        // the last course, the one with all the faults
         let course = &self.courses[setting.problem.faults() as usize];
         let ready = ready(setting, course, asked, process);
         Some(unfrozen_start(setting, course, asked, process, ready))
     }
 
-    /// When an item of a process could be sent with all the faults if it were not frozen, and `None` exactly if it is
-    /// inactive.
+    /// Returns when an item of a process could be sent at the latest, with all the faults, if it were not frozen. `None`
+    /// exactly if it is inactive.
     pub(crate) fn send_time(
         &self,
         setting: &Setting<'_>,
@@ -120,11 +124,12 @@ impl Lane {
         if !is_sent(setting, asked, process, item) {
             return None;
         }
+        // the last course, the one with all the faults
         let course = &self.courses[setting.problem.faults() as usize];
         Some(unfrozen_send(setting, course, process))
     }
 
-    /// Starts a process if it is active, and otherwise lets its node wait for what decides it.
+    /// Starts a process in each course, if it is active. Otherwise lets its node wait in each for what decides it.
     pub(crate) fn begin(
         &mut self,
         setting: &Setting<'_>,
@@ -140,7 +145,7 @@ impl Lane {
         requires lane { IsLane setting.now.problem.now (CanBegin setting.now frozen.now process asked.now.scenario.now.values) self.old }
         ensures { IsLane setting.now.problem.now (HasSentTo setting.now frozen.now process 0 0 asked.now.scenario.now.values) self.new }
     {
-        // the latest end with one fault less; the course without faults doesn't use it
+        // the latest end with one fault less, by which a course follows from the one before; the first doesn't use it
         let mut last = 0;
         for faults in 0..self.courses.len() {
             let course = &mut self.courses[faults];
@@ -148,7 +153,7 @@ impl Lane {
         }
     }
 
-    /// Sends the item at a place of what a process sends, if it is active.
+    /// Sends the item at the place `at` in the queue of a process in each course, if it is active.
     pub(crate) fn send(
         &mut self,
         setting: &Setting<'_>,
@@ -167,6 +172,7 @@ impl Lane {
         ensures { IsLane setting.now.problem.now (HasSentTo setting.now frozen.now process (at + 1) (at + 1) asked.now.scenario.now.values) self.new }
     {
         let item = setting.plan.queue(setting.problem, process)[at];
+        // an item that isn't sent changes no course
         if !is_sent(setting, asked, process, item) {
             return;
         }
@@ -176,11 +182,12 @@ impl Lane {
         }
     }
 
-    /// The greatest end with all the faults, in time units.
+    /// Returns the greatest end with all the faults, in time units, or 0 if no process is active.
     pub(crate) fn finish(&self, problem: &Problem) -> u64
         requires count { length self.now ≡ problem.now.faults + 1 }
         ensures { result ≡ finish_of problem.now (last_course problem.now self.now) }
     {
+        // an inactive process has the end 0
         let course = &self.courses[problem.faults() as usize];
         let mut latest = 0u64;
         for process in 0..problem.processes().len() as u32 {
@@ -189,11 +196,12 @@ impl Lane {
         latest
     }
 
-    /// How far an end with all the faults is past its due at most, in time units.
+    /// Returns how far an end with all the faults is past its due at most, in time units: 0 if none is.
     pub(crate) fn excess(&self, problem: &Problem) -> u64
         requires count { length self.now ≡ problem.now.faults + 1 }
         ensures { result ≡ excess_of_course problem.now (last_course problem.now self.now) }
     {
+        // an inactive process has the end 0, which is past no due
         let course = &self.courses[problem.faults() as usize];
         let mut most = 0u64;
         for process in 0..problem.processes().len() as u32 {

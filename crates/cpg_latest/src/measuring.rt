@@ -1,4 +1,4 @@
-//! The figures of an order by the latest times of all tracks.
+//! Finds the greatest excess and finish under an order by the latest times of all tracks.
 ghost use Rattle.std.specs.Prelude.{◌≡◌, ◌<◌, ℕ, IfOk, length, replicate};
 ghost use Rattle.cpg_base.specs.Graph.{process_count};
 ghost use Rattle.cpg_order.specs.Track.{AreTracks};
@@ -17,7 +17,7 @@ use cpg_rules::Admitted;
 use cpg_run::{FrozenTimes, Setting};
 use std::alloc::Global;
 
-/// Lanes of `count` tracks in which nothing is known.
+/// Returns a lane for each of `count` tracks, in whose courses nothing is known.
 fn beginnings(alloc: Global, problem: &Problem, count: usize) -> Result<Vec<Lane>, OutOfMemory>
     ensures { IfOk result (λ lanes. lanes.items ≡ replicate count (no_lane problem.now)) }
 {
@@ -29,9 +29,9 @@ fn beginnings(alloc: Global, problem: &Problem, count: usize) -> Result<Vec<Lane
     Ok(lanes)
 }
 
-/// The greatest excess and the greatest finish of all scenarios under an order, in time units, given the outcomes of
-/// a graph's tracks. No scenario is run. The latest times of a track with each number of faults follow from those of
-/// earlier processes, in (processes + edges) * (faults + 1) steps for each track.
+/// Returns the greatest excess and the greatest finish of all scenarios under a topological order, in time units, given
+/// the outcomes of a graph's tracks. No scenario is run: for each track and number of faults, the latest times of a
+/// process and what it sends follow from those of earlier processes.
 pub fn latest(
     alloc: Global,
     admitted: &Admitted,
@@ -47,6 +47,7 @@ pub fn latest(
     let setting = Setting::of(admitted, order, &plan);
     let mut frozen = FrozenTimes::none(alloc, problem)?;
     let mut lanes = beginnings(alloc, problem, tracks.len())?;
+    // along the order, since latest times and frozen times of a process rest on those of earlier ones
     for place in 0..problem.processes().len() as u32 {
         step(
             alloc,

@@ -1,4 +1,4 @@
-//! A process starts and sends in a course.
+//! Starts a process in a course, and sends its items.
 ghost use Rattle.std.specs.Prelude.{◌≡◌, ◌<◌, ◌+◌, ◌^◌, true, length};
 ghost use Rattle.cpg_base.specs.Graph.{process_count, item_count, node_of};
 ghost use Rattle.cpg_bus.specs.Share.{HasSlot};
@@ -14,7 +14,7 @@ use crate::ends::latest_end;
 use crate::waiting::{ready, unfrozen_start};
 use cpg_run::{FrozenTimes, Setting};
 
-/// The frozen time of an item, or 0 if none is set.
+/// Returns the frozen time of an item, or 0 if none is set.
 fn frozen_time(frozen: &FrozenTimes, item: u32) -> u64
     requires { item < length frozen.now }
     ensures { result ≡ frozen_in frozen.now item }
@@ -22,8 +22,9 @@ fn frozen_time(frozen: &FrozenTimes, item: u32) -> u64
     frozen.time_of(item).unwrap_or(0)
 }
 
-/// Starts a process if it is active, with a number of faults, and otherwise lets its node wait for what decides it.
-/// Given is the latest end of the process with one fault less. Returns its latest end.
+/// Starts a process in the course with a number of faults, if it is active, and otherwise lets its node wait for what
+/// decides it. `last` is the latest end of the process with one fault less, and any number if `faults` is 0. Returns the
+/// latest end with this number of faults, or 0 if the process is inactive.
 pub(crate) fn begin(
     setting: &Setting<'_>,
     frozen: &FrozenTimes,
@@ -46,12 +47,12 @@ pub(crate) fn begin(
 {
     let node = setting.problem.node_of(process);
     let ready = ready(setting, course, asked, process);
-    // an inactive process doesn't start, but its node has waited for what decides it
+    // an inactive process takes no time, but a later one on its node starts only when the node knows of that
     if !asked.acts {
         course.wait(node, ready);
         return 0;
     }
-    // a frozen process starts at its frozen time, if it could start before
+    // a frozen process also waits for its frozen time; for any other that is 0
     let unfrozen = unfrozen_start(setting, course, asked, process, ready);
     let start = unfrozen.max(frozen_time(frozen, process));
     let end = latest_end(setting.problem, process, faults, start, last);
@@ -59,7 +60,8 @@ pub(crate) fn begin(
     end
 }
 
-/// When an item could be sent if it were not frozen, by the end of its process and the slots of its node.
+/// Returns when the next item of a process could be sent if it were not frozen: in the first slot from the end of the
+/// process on, but not before the slots of its node are free.
 pub(crate) fn unfrozen_send(setting: &Setting<'_>, course: &LatestCourse, process: u32) -> u64
     requires setting { IsSetting setting.now }
     requires process { process < process_count setting.now.problem.now }
@@ -76,7 +78,7 @@ pub(crate) fn unfrozen_send(setting: &Setting<'_>, course: &LatestCourse, proces
     next.max(course.free(node))
 }
 
-/// Sends an active item.
+/// Sends an active item of a process in a course: sets its time, and when the slots of the node are free after it.
 pub(crate) fn send_item(
     setting: &Setting<'_>,
     frozen: &FrozenTimes,
@@ -97,6 +99,7 @@ pub(crate) fn send_item(
 {
     let node = setting.problem.node_of(process);
     let time = unfrozen_send(setting, course, process).max(frozen_time(frozen, item));
+    // the node's next slot is a round later
     let free = time + setting.plan.round(setting.problem);
     course.send(item, node, time, free);
 }

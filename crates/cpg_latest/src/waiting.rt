@@ -1,4 +1,4 @@
-//! What a start waits for.
+//! When what a start waits for is there, in a course.
 ghost use Rattle.std.specs.Prelude.{◌≡◌, ◌<◌, true, max, ℕ, [], Contains, length, map};
 ghost use Rattle.cpg_base.specs.Numbers.{greatest};
 ghost use Rattle.cpg_base.specs.Graph.{process_count, edge_count, condition_count, node_of, home, inputs, process_at};
@@ -19,7 +19,7 @@ use cpg_base::Problem;
 use cpg_bus::Plan;
 use cpg_run::Setting;
 
-/// When a frame of a node is there.
+/// Returns when a frame that a node sends arrives: at the end of its slot.
 fn frame_there(problem: &Problem, plan: &Plan, course: &LatestCourse, node: u32, item: u32) -> u64
     requires plan { plan.now ≡ plan_of problem.now }
     requires node { node < length problem.now.nodes }
@@ -28,10 +28,11 @@ fn frame_there(problem: &Problem, plan: &Plan, course: &LatestCourse, node: u32,
     requires small { AreSmall course.now.known }
     ensures { result ≡ frame_there problem.now course.now.known item }
 {
+    // the sum doesn't overflow, since known times are below 2^59
     course.time(item) + plan.share(problem, node).length()
 }
 
-/// When an input is there.
+/// Returns when a live input is there: when its message arrives or, on one node, when its source ends.
 fn input_there(problem: &Problem, plan: &Plan, course: &LatestCourse, edge: u32) -> u64
     requires plan { plan.now ≡ plan_of problem.now }
     requires slots { HasSenderSlots problem.now }
@@ -40,7 +41,7 @@ fn input_there(problem: &Problem, plan: &Plan, course: &LatestCourse, edge: u32)
     ensures { result ≡ input_there problem.now course.now.known edge }
 {
     let sender = problem.source(edge);
-    // a message is there with its frame, and an edge on one node once the sender has ended
+    // an input that isn't a message comes from the same node, and is there at once
     if problem.is_message(edge) {
         frame_there(
             problem,
@@ -54,7 +55,8 @@ fn input_there(problem: &Problem, plan: &Plan, course: &LatestCourse, edge: u32)
     }
 }
 
-/// When a node has heard a condition.
+/// Returns when a node has heard a condition, given that the condition's process is active: when that process ends if it is
+/// on the node, and otherwise when the broadcast arrives.
 fn heard_there(
     problem: &Problem,
     plan: &Plan,
@@ -71,7 +73,7 @@ fn heard_there(
 {
     let process = problem.process_of(condition);
     let sender = problem.node_of(process);
-    // the node's own process has only to end; another node's condition comes in a frame
+    // a node needs no broadcast of its own conditions
     if sender == node {
         course.end(process)
     } else {
@@ -85,7 +87,7 @@ fn heard_there(
     }
 }
 
-/// When all of these inputs are there.
+/// Returns when all of these inputs are there, or 0 if there are none.
 fn latest_there(problem: &Problem, plan: &Plan, course: &LatestCourse, edges: &[u32]) -> u64
     requires plan { plan.now ≡ plan_of problem.now }
     requires slots { HasSenderSlots problem.now }
@@ -100,7 +102,7 @@ fn latest_there(problem: &Problem, plan: &Plan, course: &LatestCourse, edges: &[
     latest
 }
 
-/// When a node has heard each of these conditions.
+/// Returns when a node has heard each of these conditions, or 0 if there are none.
 fn latest_heard(
     problem: &Problem,
     plan: &Plan,
@@ -122,7 +124,7 @@ fn latest_heard(
     latest
 }
 
-/// When the node of a process has heard each condition that decides the process.
+/// Returns when the node of a process has heard each condition that decides the process, or 0 if none does.
 fn heard(setting: &Setting<'_>, course: &LatestCourse, asked: &Asked<'_>, process: u32) -> u64
     requires setting { IsSetting setting.now }
     requires process { process < process_count setting.now.problem.now }
@@ -143,7 +145,8 @@ fn heard(setting: &Setting<'_>, course: &LatestCourse, asked: &Asked<'_>, proces
     )
 }
 
-/// When the node of a process is ready for it: its earlier processes have ended, and it has heard what decides them and this one.
+/// Returns when the node of a process is ready for it: its active earlier processes have ended, and it has heard each
+/// condition that decides this process or an earlier one of the node.
 pub(crate) fn ready(
     setting: &Setting<'_>,
     course: &LatestCourse,
@@ -161,7 +164,8 @@ pub(crate) fn ready(
     before.max(heard(setting, course, asked, process))
 }
 
-/// When an active process could start if it were not frozen, given when its node is ready for it.
+/// Returns when an active process could start if it were not frozen, given when its node is ready for it: not before its
+/// release and its live inputs.
 pub(crate) fn unfrozen_start(
     setting: &Setting<'_>,
     course: &LatestCourse,

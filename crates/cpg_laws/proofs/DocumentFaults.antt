@@ -33,7 +33,8 @@ module _ (ms : Members) where
       let (g, e) = subst (λ faults. IsFirst faults (read_raw ms)) (good_fields ms good) (fields_first ms) in
       e ∙ ap Ok (graph_is ms g e)
 
-  -- each listed fault of the graph is one of the document
+  -- Each listed fault of the graph is one of the document.
+  -- List by list: limits, double names, unknown names.
   graph_is_faulty : HasGoodFields ms → Each (IsFaultOf ms) (graph_faults (Ok (graph_in ms)))
   graph_is_faulty good =
       each_joined (IsFaultOf ms) (limit_faults (graph_in ms))
@@ -73,7 +74,8 @@ module _ (ms : Members) where
   in_names good fault c = in_graph good fault (Contains-append_right (limit_faults (graph_in ms))
       (double_faults (graph_in ms) ++ unknown_faults (graph_in ms)) fault c)
 
-  -- each fault of the document is listed
+  -- Each fault of the document is listed.
+  -- By the kind of the fault, which has its part of the list.
   fault_there : (fault : ReadFault) → IsFaultOf ms fault → Contains (document_faults (Ok ms)) fault
   fault_there NotToml h = absurd h
   fault_there (BadField at) h =
@@ -147,7 +149,8 @@ module _ (bytes : List ℕ) where
       let (faultless, read) = read_where (faults_of bytes) (problem_of bytes) (graph_files_show_first_faults bytes) in
       (λ h fault faulty. faultless h fault (back fault faulty), λ none. read (λ fault c. none fault (there fault c)))
 
--- a graph file is rejected by the first fault of its document
+-- A graph file is rejected by the first fault of its document.
+-- The listed faults are those of the document, and the refusal is the first of these.
 pub files_are_refused_by_document : FilesAreRefusedByDocument
 files_are_refused_by_document bytes = record {
   faults = file_faults_are bytes;

@@ -18,7 +18,7 @@ use Rattle.cpg_reader.specs.Rows.{flag_or, read_array}
 use Rattle.cpg_reader.specs.Shape.{RawGraph, read_node, read_slot, read_process, read_edge, read_rows, read_raw}
 use Rattle.cpg_laws.specs.GraphFiles.{top_of, elements}
 
--- a step that gives this, if it gives anything
+-- a step that gives x, if it gives anything
 record Gives {T : Type 0} (r : Reading T) (x : T) : Type 0 where
   is : (y : T) → r ≡ Ok y → y ≡ x
 
@@ -33,7 +33,7 @@ seq_gives : {T U : Type 0} (r : Reading T) (next : Reading U) (z : U) → Gives 
 seq_gives (Ok w) next z k = k
 seq_gives (Err fault) next z k = record { is = λ y e. cc }
 
--- a value by itself is given
+-- a reading that succeeds with x gives x
 pure_gives : {T : Type 0} (x : T) → Gives (pure x) x
 pure_gives x = record { is = λ y e. cc }
 
@@ -67,6 +67,7 @@ module _ {T : Type 0} (as_type : Data → Option T) (row : DocumentRow) (key : K
   optional_by None = pure_gives None
   optional_by (Some d) = by (as_type d)
     where
+      -- by whether the value is of the type
       by : (x : Option T) → Gives (typed_in row key x) x
       by None = record { is = λ y e. cc }
       by (Some x) = pure_gives (Some x)
@@ -104,7 +105,7 @@ abbrev pub slot_in : Members → RawSlot
 slot_in ms =
     record { node = name_in ms Node; length = integer_in ms Length (pos 1); bytes = integer_in ms Bytes (pos 1) }
 
--- the process that its table says
+-- the process that its table says; a missing number counts as the default of its key, or as one in its range
 abbrev pub process_in : Members → RawProcess
 process_in ms = record {
   name = name_in ms Name;
@@ -122,7 +123,7 @@ process_in ms = record {
   deadline = value_in as_integer ms Deadline;
 }
 
--- the edge that its table says
+-- the edge that its table says; a missing size counts as 1
 abbrev pub edge_in : Members → RawEdge
 edge_in ms = record {
   from = name_in ms From;
@@ -132,7 +133,7 @@ edge_in ms = record {
   frozen = unwrap_or (value_in as_bool ms Frozen) false;
 }
 
--- the whole document
+-- the graph that a document says
 abbrev pub graph_in : Members → RawGraph
 graph_in ms = record {
   faults = integer_in ms Faults (pos 0);
@@ -183,7 +184,8 @@ module _ (row : DocumentRow) where
   slot_gives = bind_gives _ _ _ _ (name_gives Node) (bind_gives _ _ _ _ (integer_gives Length (pos 1))
       (bind_gives _ _ _ _ (integer_gives Bytes (pos 1)) (seq_gives _ _ _ (pure_gives _))))
 
-  -- a process is what its table says
+  -- A process is what its table says.
+  -- Reading goes key by key, and each value is what stands at its key or the default.
   process_gives : Gives (read_process row) (process_in row.members)
   unfolding read_process
   process_gives =
@@ -212,7 +214,8 @@ rows_give table element_at element_in gives members =
     each_gives (λ i ms. element_at (record { table = table; index = i; members = ms })) element_in
     (λ i ms. gives (record { table = table; index = i; members = ms })) 0 members
 
--- reading gives the graph that the document says
+-- Reading gives the graph that the document says.
+-- Key by key of the top, and then list by list, element by element.
 graph_gives : (ms : Members) → Gives (read_raw ms) (graph_in ms)
 unfolding read_raw
 graph_gives ms =

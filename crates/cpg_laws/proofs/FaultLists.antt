@@ -75,7 +75,8 @@ module _ {T : Type 0} where
       Stand Q 0 xs
   stand_all Q xs h = stand_from Q 0 xs (λ k x e. subst (λ n. Q n x) (sym (zero-add k)) (h k x e))
 
-  -- a fault of the element at a place is among those of all elements
+  -- A fault of the element at a place is among those of all elements.
+  -- By induction on the place: the faults of the first come first.
   contains_from : (faults : ℕ → T → List ReadFault) (fault : ReadFault) (i k : ℕ) (xs : List T) (x : T) →
       slice_get xs k ≡ Some x →
       Contains (faults (i + k) x) fault →
@@ -104,11 +105,13 @@ of_each_mapped faults f i (x ∷ xs) = ap (λ rest. faults i (f x) ++ rest) (of_
 
 -- ---- a position is found where some element passes
 
--- there is a place that passes a test exactly if some element does
+-- There is a place that passes a test exactly if some element does.
+-- By induction on the list.
 some_from : {T : Type 0} (test : T → Bool) (i : ℕ) (xs : List T) → is_some (position_from test i xs) ≡ list_any test xs
 some_from test i [] = refl
 some_from test i (x ∷ xs) = by (test x) (some_from test (i + 1) xs)
   where
+    -- by whether the first element passes
     by : (b : Bool) → is_some (position_from test (i + 1) xs) ≡ list_any test xs →
         is_some (cond b (Some i) (position_from test (i + 1) xs)) ≡ (b || list_any test xs)
     by true h = refl

@@ -64,17 +64,20 @@ still_there : (text : List ℕ) (d : Data) (other : List ℕ) (e : Data) (ms : M
     (z : Data) × (get_member text (member other e ms) ≡ Some z)
 still_there text d other e ms is = by (slice_cmp nat_cmp text other)
   where
+    -- by how the key compares with that of the member in front
     by : (o : Ordering) → (z : Data) × (match_ordering o (get_member text ms) (Some e) (get_member text ms) ≡ Some z)
     by Less = (d, is)
     by Equal = (e, refl)
     by Greater = (d, is)
 
--- a table whose keys aren't all listed has another key
+-- A table whose keys aren't all listed has another key.
+-- By induction on the table: the first key isn't a field's, or a later one isn't.
 unlisted : (fields : List Field) (members : Members) → are_listed (keys_of fields) members ≡ false →
     HasOtherKey members fields
 unlisted fields no_members e = absurd (true≢false e)
 unlisted fields (member text d ms) e = by (is_key fields text) refl e (unlisted fields ms)
   where
+    -- by whether the first key is that of a field
     by : (b : Bool) → is_key fields text ≡ b → (b && are_listed (keys_of fields) ms) ≡ false →
         (are_listed (keys_of fields) ms ≡ false → HasOtherKey ms fields) →
         HasOtherKey (member text d ms) fields
@@ -89,7 +92,8 @@ unlisted fields (member text d ms) e = by (is_key fields text) refl e (unlisted 
 same_text : (text other : List ℕ) → slice_cmp nat_cmp text other ≡ Equal → text ≡ other
 same_text text other e = (bytes_eq-Decides text other).0 (sym (is_eq-slice_cmp text other) ∙ ap is_eq e)
 
--- if all keys of a table are listed, each of its keys is a field's
+-- If all keys of a table are listed, each of its keys is a field's.
+-- By induction on the table: the text is the first key, or a later one.
 listed : (fields : List Field) (text : List ℕ) (d : Data) (members : Members) →
     are_listed (keys_of fields) members ≡ true → get_member text members ≡ Some d →
     is_key fields text ≡ true
@@ -98,6 +102,7 @@ listed fields text d (member other z ms) e is =
     let (here, rest) = and_parts (is_key fields other) (are_listed (keys_of fields) ms) e in
     by (slice_cmp nat_cmp text other) refl here is (listed fields text d ms rest)
   where
+    -- by how the key compares with the first one of the table
     by : (o : Ordering) → slice_cmp nat_cmp text other ≡ o → is_key fields other ≡ true →
         match_ordering o (get_member text ms) (Some z) (get_member text ms) ≡ Some d →
         (get_member text ms ≡ Some d → is_key fields text ≡ true) → is_key fields text ≡ true
@@ -113,12 +118,13 @@ other_key fields members (text, d, is, apart) = false_from_ne_true (are_listed (
 
 -- ---- one table
 
--- the fault of a bad field
+-- the fault is that of a bad field of the document
 abbrev pub IsBad : Members → ReadFault → Type 0
 IsBad ms fault = (place : Place) × (fault ≡ BadField place) × IsBadField ms place
 
 module _ (ms : Members) (row : DocumentRow) (at : table_at ms row.table row.index ≡ Some row.members) where
-  -- each bad field found by a list of fields is one of the document
+  -- Each bad field found by a list of fields is one of the document.
+  -- By induction on the fields: the first is bad, or a later one, or last the row has another key.
   bad_keys : (fields : List Field) → ((f : Field) → Contains fields f → Contains (fields_of row.table) f) →
       Each (IsBad ms) (bad_fields row (keys_of (fields_of row.table)) fields)
   bad_keys [] those =
@@ -217,7 +223,8 @@ module _ (ms : Members) (fault : ReadFault) where
       (Contains-append_right (part tables.Process Process process_fields) _ fault
       (of_each_contains (λ i x. bad_in edge_fields (row_of tables.Edge i x)) fault i (elements ms Edge) row at c))))
 
--- each bad field of the document is in the list of field faults
+-- Each bad field of the document is in the list of field faults.
+-- The bad value stands among the faults of its row, or the unknown key does, and the row's faults are in the list.
 pub bad_field_there : (ms : Members) (place : Place) → IsBadField ms place → Contains (field_faults ms) (BadField place)
 bad_field_there ms place (members, at, inl (f, c, same, e)) =
     row_there ms (BadField place) place.table place.index members at
@@ -238,6 +245,7 @@ bad_field_there ms place (members, at, inr (unknown, other)) =
 pub good_fields : (ms : Members) → HasGoodFields ms → field_faults ms ≡ []
 good_fields ms good = by (field_faults ms) (fields_are_bad ms)
   where
+    -- by whether there is a fault
     by : (faults : List ReadFault) → Each (IsBad ms) faults → faults ≡ []
     by [] h = refl
     by (f ∷ faults) h = absurd (good h.0.0 h.0.2)

@@ -1,4 +1,4 @@
--- Fronts of packs.
+-- The first bytes of a pack: they are refused where they end, since no pack is a proper front of another.
 use Rattle.std.proofs.Common.{ℕ, zero, suc, ◌≡◌, List, [], ◌∷◌, ◌++◌, length, take, drop, refl, sym, ap, ◌∙◌, subst}
 use Rattle.std.proofs.Common.{arith}
 use Rattle.std.proofs.lemmas.List.{length-append, length-take}
@@ -19,7 +19,9 @@ again zero xs = refl
 again (suc n) [] = refl
 again (suc n) (x ∷ xs) = ap (λ l. x ∷ l) (again n xs)
 
--- a proper front of a pack is rejected where it ends
+-- A proper front of a pack is rejected where it ends.
+-- The whole front begins the pack, so nothing shorter is where it goes wrong. It is no pack itself, since no pack is a
+-- proper front of another.
 pub fronts_of_packs : FrontsOfPacksAreRefused
 fronts_of_packs t n h l =
     let front : length (take n (spelling t)) ≡ n = omega (arith, length-take n (spelling t), l) in

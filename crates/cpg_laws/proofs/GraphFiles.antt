@@ -72,14 +72,14 @@ bind_within : {T U : Type 0} (fs gs hs : List ReadFault) (r : Reading T) (next :
 bind_within [] gs hs r next h more = subst (λ z. IsFirst (gs ++ hs) (z >>= next)) (sym h.1) (more h.0 h.1)
 bind_within (f ∷ fs) gs hs r next h more = ap (λ z. z >>= next) h
 
--- the same of three lists, of which the last two are the second step's
+-- two steps in turn, of which the second has the last two of three lists of faults
 seq_within : {T U : Type 0} (fs gs hs : List ReadFault) (r : Reading T) (next : Reading U) → IsFirst fs r →
     IsFirst (gs ++ hs) next →
     IsFirst ((fs ++ gs) ++ hs) (r >> next)
 seq_within [] gs hs r next h more = subst (λ z. IsFirst (gs ++ hs) (z >> next)) (sym h.1) more
 seq_within (f ∷ fs) gs hs r next h more = ap (λ z. z >> next) h
 
--- a test, and what follows it
+-- a test that refuses with one fault if it fails, and what follows it if it passes
 or_next : {T : Type 0} (b : Bool) (fault : ReadFault) (fs : List ReadFault) (next : Reading T) → IsFirst fs next →
     IsFirst (unless b fault ++ fs) (if b then next else Err fault)
 or_next true fault fs next h = h
@@ -133,7 +133,7 @@ module _ {T : Type 0} (row : DocumentRow) (key : Key) (as_type : Data → Option
   required_by None = refl
   required_by (Some d) = typed_required (as_type d)
 
-  -- the same of the value at a key that may be missing
+  -- a value at a key that may be missing is refused if it is there and doesn't fit
   optional_first : IsFirst (of_field row key false as_type (value_at row key)) (optional as_type row key)
   unfolding optional
   optional_first = optional_by (value_at row key)
@@ -149,13 +149,15 @@ module _ {T : Type 0} (row : DocumentRow) (key : Key) (as_type : Data → Option
   default_first value = bind_last (of_field row key false as_type (value_at row key)) (optional as_type row key)
       (λ found. unwrap_or found value) optional_first
 
-  -- the value at a key, or its default, if what stands there is good
+  -- The value at a key, or its default, if what stands there is good.
+  -- By whether something stands at the key.
   default_by : (value : T) (o : Option Data) (x : T) →
       (optional_in row key as_type o >>= (λ found. pure (unwrap_or found value))) ≡ Ok x →
       x ≡ unwrap_or (option_and_then as_type o) value
   default_by value None x e = cc
   default_by value (Some d) x e = by (as_type d) e
     where
+      -- by whether the value is of the type
       by : (y : Option T) → (typed_in row key y >>= (λ found. pure (unwrap_or found value))) ≡ Ok x →
           x ≡ unwrap_or y value
       by None e = cc
@@ -174,6 +176,7 @@ module _ (row : DocumentRow) where
   unfolding only
   only_first keys = by (are_listed keys row.members)
     where
+      -- by whether all keys are listed
       by : (b : Bool) → IsFirst (unless b (BadField (place_in row Unknown))) (if b then done else bad row Unknown)
       by true = (tt, refl)
       by false = refl
@@ -213,7 +216,8 @@ module _ (row : DocumentRow) where
       (λ node _. bind _ _ _ _ (integer_first row Length) (λ length _. bind _ _ _ _ (integer_first row Bytes)
       (λ bytes _. seq_last _ _ _ (only_first row (Node ∷ Length ∷ Bytes ∷ [])))))
 
-  -- a process is refused by the first of its bad fields
+  -- A process is refused by the first of its bad fields.
+  -- Reading goes field by field in the order of the list, and last come the keys that are none of them.
   process_first : IsFirst (bad_in process_fields row) (read_process row)
   unfolding read_process integer_or flag_or
   process_first = bind _ _ _ _ (name_first row Name)
@@ -260,7 +264,8 @@ rows_of ms key table fields element_at first members e =
     subst (λ rows. IsFirst (bad_elements table fields rows) (read_rows table element_at members))
     (default_is (top_of ms) key as_tables [] members e) (rows_first table fields element_at first members)
 
--- reading a document's fields is rejected by the first of its field faults
+-- Reading a document's fields is rejected by the first of its field faults.
+-- Reading goes by the keys of the top, then by the lists, in the order of the faults.
 pub fields_first : (ms : Members) → IsFirst (field_faults ms) (read_raw ms)
 unfolding read_raw
 fields_first ms =
@@ -286,6 +291,7 @@ at_most_first : {T : Type 0} (limit : ℕ) (what : What) (xs : List T) →
     IsFirst (too_many limit what xs) (at_most limit what xs)
 at_most_first limit what xs = by (nat_le (length xs) limit)
   where
+    -- by whether the count is within the limit
     by : (b : Bool) → IsFirst (unless b (OverLimit what)) (if b then done else Err (OverLimit what))
     by true = (tt, refl)
     by false = refl
@@ -298,14 +304,15 @@ range_first table i (n ∷ ns) =
     (out_of_range table i ns) (in_range table i ns)
     (range_first table i ns)
 
--- the same over all elements of a table
+-- the numbers of all elements of a list are refused by the first that is out of its range
 ranges_first : {T : Type 0} (table : Table) (numbers_of : T → List BoundedField) (i : ℕ) (xs : List T) →
     IsFirst (of_each (λ i x. out_of_range table i (numbers_of x)) i xs) (all_in_range table numbers_of i xs)
 ranges_first table numbers_of i [] = (tt, refl)
 ranges_first table numbers_of i (x ∷ xs) =
     seq _ _ _ _ (range_first table i (numbers_of x)) (ranges_first table numbers_of (i + 1) xs)
 
--- the limits of a graph are refused by the first of its limit faults
+-- The limits of a graph are refused by the first of its limit faults.
+-- They are tested one after another, in the order of the faults.
 limits_first : (g : RawGraph) → IsFirst (limit_faults g) (limits g)
 unfolding limits
 limits_first g =
@@ -415,7 +422,8 @@ unfolding order_of
 order_first names None = (None, refl)
 order_first names (Some order) = bind_last _ _ (λ numbers. Some numbers) (order_numbers names 0 order)
 
--- resolving the names is refused by the first of the unknown ones
+-- Resolving the names is refused by the first of the unknown ones.
+-- Slots come first, then processes, edges and the order, as in the list of faults.
 resolved_first : (g : RawGraph) → IsFirst (unknown_faults g) (resolved g)
 unfolding resolved
 resolved_first g =

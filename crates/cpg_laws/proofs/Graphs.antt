@@ -37,7 +37,8 @@ none g answer other acyclic = record {
 acyclic : (g : Graph) (order : List ℕ) → IsOrdered g order → HasCycle g → ⊥
 acyclic g order is = no_cycle g order is.topological
 
--- a graph is rejected for a cycle exactly if it has one
+-- A graph is rejected for a cycle exactly if it has one.
+-- By the answer: any but a cycle comes with a topological order, which leaves no cycle.
 pub cycles_are_refused_first : CyclesAreRefusedFirst
 cycles_are_refused_first g (Ok a) may kept =
     none g (Ok a) (λ walk e. cc) (subst (λ g. HasCycle g → ⊥) may.0 (no_cycle a.graph a.order may.1.topological))
@@ -59,7 +60,8 @@ cycles_are_refused_first g (Err OutOfMemory) may kept = absurd (kept refl)
 
 -- A refusal tells the first cause.
 
--- a fault that the checks show is the first cause: the checks before it have passed
+-- A fault that the checks show is the first cause: the checks before it have passed.
+-- Fault by fault, from the records that the checks before it gave.
 first : (g : Graph) (fault : RuleFault) → ShowsFault g fault → IsFirstCause g fault
 first g (Cycle walk) h = h
 first g TooManyTracks h = (acyclic g h.0 h.1, h.2)
@@ -92,7 +94,8 @@ module _ (g : Graph) where
   no_cycle_then (BadOrder p) l m h = h.0
   no_cycle_then OutOfMemory l m h = absurd (omega (arith, m))
 
-  -- a graph that is refused for a later cause than its tracks has few enough of them
+  -- A graph that is refused for a later cause than its tracks has few enough of them.
+  -- The causes of lower ranks are left out by their ranks, and a later one says so itself.
   few_then : (fault : RuleFault) → 1 < rank_of_fault fault → rank_of_fault fault < 6 → IsFirstCause g fault →
       track_count g ≤ most_tracks
   few_then (Cycle walk) l m h = absurd (omega (arith, l))
@@ -135,7 +138,8 @@ module _ (g : Graph) where
   sizes_then (BadOrder p) l m h = h.4
   sizes_then OutOfMemory l m h = absurd (omega (arith, m))
 
-  -- of two causes the later one isn't the first
+  -- Of two causes the later one isn't the first.
+  -- What the earlier cause says is broken is what the later one says is kept.
   apart : (fault other : RuleFault) → rank_of_fault fault < rank_of_fault other → rank_of_fault other < 6 →
       IsFirstCause g fault → IsFirstCause g other → ⊥
   apart (Cycle walk) other l m h k = no_cycle_then other l m k (walk, h)
@@ -160,7 +164,8 @@ module _ (g : Graph) where
   below (BadOrder p) kept = omega arith
   below OutOfMemory kept = absurd (kept refl)
 
-  -- two first causes have one rank
+  -- Two first causes have one rank.
+  -- Were one rank lower, the other cause wouldn't be the first (`apart`).
   one : (fault other : RuleFault) → fault ≢ OutOfMemory → other ≢ OutOfMemory → IsFirstCause g fault →
       IsFirstCause g other →
       rank_of_fault fault ≡ rank_of_fault other
@@ -174,7 +179,8 @@ module _ (g : Graph) where
 
 -- Two first causes of one kind are the same.
 
--- the first number of a kind is one
+-- The first number of a kind is one.
+-- Of two different ones the lesser would be one before the other.
 one_first : (holds : ℕ → Bool) (m n : ℕ) → holds m ≡ true → ((k : ℕ) → k < m → holds k ≡ false) → holds n ≡ true →
     ((k : ℕ) → k < n → holds k ≡ false) → m ≡ n
 one_first holds m n h before k earlier = elim (cases_lt m n) [
@@ -190,7 +196,8 @@ module _ (g : Graph) where
   not_single : (order : List ℕ) (p : ℕ) (s : Scenario) → AreAlternatives g order p s → IsSingleJoin g p → ⊥
   not_single order p s two single = true≢false (sym two.least.holds ∙ single s.values two.join two.least.lawful.values)
 
-  -- the first join with two live inputs is one
+  -- The first join with two live inputs is one.
+  -- Of two different ones the lesser would be one before the other.
   one_join : (o r : List ℕ) (p q : ℕ) (s t : Scenario) → AreAlternatives g o p s → AreAlternatives g r q t → p ≡ q
   one_join o r p q s t a b = elim (cases_lt p q) [
     | inl l ↦ absurd (not_single o p s a (b.before p l))
@@ -214,8 +221,10 @@ module _ (g : Graph) where
   -- and in each other case both are the first of their kind
   alike : (fault other : RuleFault) → rank_of_fault fault ≡ rank_of_fault other → 0 < rank_of_fault fault →
       rank_of_fault fault < 6 → IsFirstCause g fault → IsFirstCause g other → fault ≡ other
+  -- cycles have rank 0, and memory that runs out has rank 6: neither is asked for
   alike (Cycle walk) other e l m h k = absurd (omega (arith, l))
   alike OutOfMemory other e l m h k = absurd (omega (arith, m))
+  -- too many tracks: there is nothing to tell apart
   alike TooManyTracks TooManyTracks e l m h k = refl
   alike TooManyTracks (Cycle walk) e l m h k = absurd (omega (arith, e))
   alike TooManyTracks (TwoAlternatives q t) e l m h k = absurd (omega (arith, e))
@@ -223,6 +232,7 @@ module _ (g : Graph) where
   alike TooManyTracks (TooBig b) e l m h k = absurd (omega (arith, e))
   alike TooManyTracks (BadOrder r) e l m h k = absurd (omega (arith, e))
   alike TooManyTracks OutOfMemory e l m h k = absurd (omega (arith, e))
+  -- two joins: both are the least, each with its least scenario
   alike (TwoAlternatives p s) (TwoAlternatives q t) e l m h k = same_two p q s t h.2 k.2
   alike (TwoAlternatives p s) (Cycle walk) e l m h k = absurd (omega (arith, e))
   alike (TwoAlternatives p s) TooManyTracks e l m h k = absurd (omega (arith, e))
@@ -230,6 +240,7 @@ module _ (g : Graph) where
   alike (TwoAlternatives p s) (TooBig b) e l m h k = absurd (omega (arith, e))
   alike (TwoAlternatives p s) (BadOrder r) e l m h k = absurd (omega (arith, e))
   alike (TwoAlternatives p s) OutOfMemory e l m h k = absurd (omega (arith, e))
+  -- two nodes: both are the least without a slot
   alike (NoSlot node) (NoSlot other) e l m h k =
       ap NoSlot (one_first (lacks_slot g) node other h.3.lacks h.3.before k.3.lacks k.3.before)
   alike (NoSlot node) (Cycle walk) e l m h k = absurd (omega (arith, e))
@@ -238,6 +249,7 @@ module _ (g : Graph) where
   alike (NoSlot node) (TooBig b) e l m h k = absurd (omega (arith, e))
   alike (NoSlot node) (BadOrder r) e l m h k = absurd (omega (arith, e))
   alike (NoSlot node) OutOfMemory e l m h k = absurd (omega (arith, e))
+  -- two edges: both are the least whose message is too big
   alike (TooBig a) (TooBig b) e l m h k =
       ap TooBig (one_first (is_too_big g) a b h.4.above h.4.before k.4.above k.4.before)
   alike (TooBig a) (Cycle walk) e l m h k = absurd (omega (arith, e))
@@ -246,6 +258,7 @@ module _ (g : Graph) where
   alike (TooBig a) (NoSlot node) e l m h k = absurd (omega (arith, e))
   alike (TooBig a) (BadOrder r) e l m h k = absurd (omega (arith, e))
   alike (TooBig a) OutOfMemory e l m h k = absurd (omega (arith, e))
+  -- two processes: the order that is given has one that shows that it is bad
   alike (BadOrder p) (BadOrder q) e l m h k = ap BadOrder (one_bad g p q h.5 k.5)
   alike (BadOrder p) (Cycle walk) e l m h k = absurd (omega (arith, e))
   alike (BadOrder p) TooManyTracks e l m h k = absurd (omega (arith, e))

@@ -71,7 +71,8 @@ IsOver ms fault = (what : What) × (fault ≡ OverLimit what) × IsOverLimit ms 
 low_is_within : (low high : ℕ) → nat_le low high ≡ true → is_within low high (pos low) ≡ true
 low_is_within low high h = and_from (nat_le low low) (nat_le low high) (le-leb low low (omega arith)) h
 
--- a number out of range stands in the document, since the default is in range
+-- A number out of range stands in the document, since the default is in range.
+-- By what stands at the key: anything but an integer counts as the default.
 outside : (low high : ℕ) (o : Option Data) → nat_le low high ≡ true →
     is_within low high (unwrap_or (option_and_then as_integer o) (pos low)) ≡ false →
     (z : ℤ) × (o ≡ Some (integer z)) ×
@@ -85,11 +86,11 @@ outside low high (Some (datetime t)) h e = absurd (true≢false (sym (low_is_wit
 outside low high (Some (array ds)) h e = absurd (true≢false (sym (low_is_within low high h) ∙ e))
 outside low high (Some (table m)) h e = absurd (true≢false (sym (low_is_within low high h) ∙ e))
 
--- whether a range has a number
+-- whether the least of a range is no more than its greatest
 abbrev is_range : Range → Bool
 is_range r = nat_le r.low r.high
 
--- each range of a table has a number
+-- in each range of a table the least is no more than the greatest
 ranges_are : (t : Table) → list_all is_range (ranges_of t) ≡ true
 ranges_are tables.Top = refl
 ranges_are tables.Node = refl
@@ -179,7 +180,8 @@ is_flag_there : (key : Key) (o : Option Data) → is_good_value (flag key) o ≡
 is_flag_there key None e = refl
 is_flag_there key (Some d) e = e
 
--- the sources of the conditional edges are those of the tables with the key `when`
+-- The sources of the conditional edges are those of the tables with the key `when`.
+-- By induction on the edges: both keep the first or both leave it out.
 edges_are_conditional : (es : List Members) →
     ((e : Members) → Contains es e → is_some (value_in as_bool e When) ≡ is_some (get_member (text_of When) e)) →
     sources (map edge_in es) ≡ map source_of (filter (λ e. is_some (get_member (text_of When) e)) es)
@@ -188,6 +190,7 @@ edges_are_conditional (e ∷ es) h =
     by (is_some (value_in as_bool e When)) (is_some (get_member (text_of When) e)) (h e (Contains-first e es))
     (edges_are_conditional es (λ x c. h x (Contains-rest e es x c)))
   where
+    -- by whether the edge has a `when`, in the graph and in the document
     by : (b c : Bool) → b ≡ c →
         sources (map edge_in es) ≡ map source_of (filter (λ e. is_some (get_member (text_of When) e)) es) →
         map (λ (x : RawEdge). x.from) (cond b (edge_in e ∷ filter (λ x. is_some x.when) (map edge_in es))
@@ -199,7 +202,7 @@ edges_are_conditional (e ∷ es) h =
     by true false same rest = absurd (true≢false same)
     by false true same rest = absurd (true≢false (sym same))
 
--- the same of all edges of a document with good fields
+-- the sources of the conditional edges of a document with good fields are those of its tables with the key `when`
 sources_are : (ms : Members) → HasGoodFields ms →
     sources (map edge_in (elements ms Edge)) ≡ map source_of (conditional_edges ms)
 sources_are ms good = edges_are_conditional (elements ms Edge) (λ e c.
@@ -236,7 +239,7 @@ module _ (ms : Members) (good : HasGoodFields ms) where
             (leb-false (length (different [] (sources (map edge_in (elements ms Edge))))) MOST_CONDITIONS e),
       ))))))))))
 
-  -- the parts of the limits
+  -- the fault of too many nodes
   abbrev node_count : List ReadFault
   node_count = too_many MOST_NODES Nodes (map node_in (elements ms Node))
 
@@ -295,7 +298,8 @@ module _ (ms : Members) (good : HasGoodFields ms) where
     past_processes : Contains (edge_part ++ last_part) fault → Contains (limit_faults (graph_in ms)) fault
     past_processes c = past_slots (Contains-append_right process_part (edge_part ++ last_part) fault c)
 
-    -- what stands in the numbers of a table stands in the limits of the document
+    -- What stands in the numbers of a table stands in the limits of the document.
+    -- By the table, each with its part of the list.
     numbers_are_there : (t : Table) (i : ℕ) (row : Members) → table_at ms t i ≡ Some row →
         Contains (out_of_range t i (numbers_in row (ranges_of t))) fault →
         Contains (limit_faults (graph_in ms)) fault
@@ -320,7 +324,8 @@ module _ (ms : Members) (good : HasGoodFields ms) where
         (map edge_in (elements ms Edge)) (edge_in row)
         (slice_get-map edge_in (elements ms Edge) i ∙ ap (option_map edge_in) at) c))
 
-  -- each thing in the document beyond its limit is in the list of limit faults
+  -- Each thing in the document beyond its limit is in the list of limit faults.
+  -- By what it is, each with its part of the list.
   pub limit_there : (what : What) → IsOverLimit ms what → Contains (limit_faults (graph_in ms)) (OverLimit what)
   limit_there Nodes l =
       Contains-append_left node_count _ (OverLimit Nodes) (too_many_there node_in MOST_NODES Nodes (elements ms Node) l)

@@ -40,7 +40,8 @@ name_by : (s : List ℕ) (b : Bool) → is_some (cond b (Some s) None) ≡ true 
 name_by s true e = refl
 name_by s false e = absurd (true≢false (sym e))
 
--- a good name stands in the document as it is read
+-- A good name stands in the document as it is read.
+-- Only a string can be a good name.
 said : (o : Option Data) → is_good_value (needed_name Name) o ≡ true →
     o ≡ Some (string (unwrap_or (option_and_then as_name o) []))
 said None e = absurd (true≢false (sym e))
@@ -58,7 +59,7 @@ mapped_parts : {S T : Type 0} (f : S → T) (o : Option S) (y : T) → option_ma
 mapped_parts f None y e = cc
 mapped_parts f (Some x) y e = (x, refl, cc)
 
--- nothing is no value
+-- an option without a value has none
 nothing : {T : Type 0} (x : T) → None ≡ Some x → ⊥
 nothing x e = cc
 
@@ -181,6 +182,7 @@ module _ (ms : Members) (t : Table) (key : Key) (own : is_own_name t key ≡ tru
       (doubles_are_twice (i + 1) (before ++ name ∷ []) names
       (λ other e. more other (among_more other before name e)) stand.1)
     where
+      -- a name before the next place stood before this one, or is the name here
       more : (other : List ℕ) → (list_any (bytes_eq other) before ≡ true) ⊎ (other ≡ name) → StandsBefore (i + 1) other
       more other (inl h) = let (j, l, found) = seen other h in (j, omega (arith, l), found)
       more other (inr same) = (i, omega arith, stand.0 ∙ ap (λ n. Some (string n)) (sym same))
@@ -207,6 +209,7 @@ module _ (t : Table) (key : Key) where
       (subst (λ at. Contains (doubles_from t key (i + 1) (before ++ n ∷ []) names) (DoubleName (place t at key)))
       (onward i k) (double_from (i + 1) k (before ++ n ∷ []) names name e (more seen)))
     where
+      -- the name stands before, or is the first one, which is before from here on, or stands further on
       more : (list_any (bytes_eq name) before ≡ true) ⊎
           ((j : ℕ) × (j < suc k) × (slice_get (n ∷ names) j ≡ Some name)) →
           (list_any (bytes_eq name) (before ++ n ∷ []) ≡ true) ⊎
@@ -242,11 +245,13 @@ below_length [] k x e = cc
 below_length (z ∷ xs) zero x e = omega arith
 below_length (z ∷ xs) (suc k) x e = omega (arith, below_length xs k x e)
 
--- names that don't differ from each other and from those before have one that stands twice
+-- Names that don't differ from each other and from those before have one that stands twice.
+-- By induction on the names: the first is among those before, or it is put to them.
 two_from : (before names : List (List ℕ)) → differ_from before names ≡ false → HasTwice (before ++ names)
 two_from before [] e = absurd (true≢false e)
 two_from before (name ∷ names) e = by (list_any (bytes_eq name) before) refl (two_from (before ++ name ∷ []) names) e
   where
+    -- by whether the first name is among those before
     by : (b : Bool) → list_any (bytes_eq name) before ≡ b →
         (differ_from (before ++ name ∷ []) names ≡ false → HasTwice ((before ++ name ∷ []) ++ names)) →
         (not b && differ_from (before ++ name ∷ []) names) ≡ false → HasTwice (before ++ name ∷ names)
@@ -266,13 +271,15 @@ two_from before (name ∷ names) e = by (list_any (bytes_eq name) before) refl (
 stand_in_two : (names : List (List ℕ)) → differ_from [] names ≡ false → HasTwice names
 stand_in_two names e = two_from [] names e
 
--- names that differ have no double
+-- Names that differ have no double.
+-- By induction on the names: none is among those before it.
 none_double : (t : Table) (key : Key) (i : ℕ) (before names : List (List ℕ)) → differ_from before names ≡ true →
     doubles_from t key i before names ≡ []
 none_double t key i before [] e = refl
 none_double t key i before (name ∷ names) e =
     by (list_any (bytes_eq name) before) (none_double t key (i + 1) (before ++ name ∷ []) names) e
   where
+    -- by whether the first name is among those before, which it isn't
     by : (b : Bool) →
         (differ_from (before ++ name ∷ []) names ≡ true → doubles_from t key (i + 1) (before ++ name ∷ []) names ≡ []) →
         (not b && differ_from (before ++ name ∷ []) names) ≡ true →
@@ -287,12 +294,14 @@ two_differ_not names (name, i, here, j, l, there) = false_from_ne_true (differ_f
     (subst (λ faults. Contains faults (DoubleName (place tables.Node i Name)))
     (none_double tables.Node Name 0 [] names e) (double_at tables.Node Name i j names name here l there)))
 
--- if a test doesn't pass for all, it fails for one
+-- If a test doesn't pass for all, it fails for one.
+-- By induction on the list.
 some_fails : (test : List ℕ → Bool) (xs : List (List ℕ)) → list_all test xs ≡ false →
     (x : List ℕ) × Contains xs x × (test x ≡ false)
 some_fails test [] e = absurd (true≢false e)
 some_fails test (x ∷ xs) e = by (test x) refl (some_fails test xs) e
   where
+    -- by whether the first element passes
     by : (b : Bool) → test x ≡ b → (list_all test xs ≡ false → (y : List ℕ) × Contains xs y × (test y ≡ false)) →
         (b && list_all test xs) ≡ false → (y : List ℕ) × Contains (x ∷ xs) y × (test y ≡ false)
     by true is later h = let (y, c, fails) = later h in (y, Contains-rest x xs y c, fails)
@@ -344,7 +353,8 @@ module _ (ms : Members) (good : HasGoodFields ms) where
       (doubles_are_twice ms t key own 0 [] (map (λ row. name_in row key) rows) (λ name e. absurd (true≢false (sym e)))
       (names_stand ms good t key rows are field))
 
-  -- each fault in the list of double names is a name that stands twice in the document
+  -- Each fault in the list of double names is a name that stands twice in the document.
+  -- List by list: nodes, slots, processes, and then the order.
   pub doubles_stand : Each (IsTwice ms) (double_faults (graph_in ms))
   doubles_stand =
       each_joined (IsTwice ms) _ _
@@ -397,7 +407,8 @@ module _ (ms : Members) (good : HasGoodFields ms) where
       (process_names (map process_in (elements ms Process))) processes_named i j name here l there)))
   double_in t key own i j name here l there = absurd (true≢false (sym own))
 
-  -- each name that stands twice in the document is in the list of double names
+  -- Each name that stands twice in the document is in the list of double names.
+  -- It is one of a table, which has its part of the list, or one of the order, which comes last.
   pub double_there : (at : Place) → IsDouble ms at → Contains (double_faults (graph_in ms)) (DoubleName at)
   double_there at (inl (own, name, here, j, l, there)) = double_in at.table at.key own at.index j name here l there
   double_there at (inr (same, twice)) = subst (λ p. Contains (double_faults (graph_in ms)) (DoubleName p)) (sym same)
@@ -444,7 +455,7 @@ module _ (ms : Members) (good : HasGoodFields ms) where
   process_missing name none = ap (λ names. is_some (position (bytes_eq name) names)) (processes_named ms good) ∙
       name_missing ms good tables.Process Name (elements ms Process) (λ i. refl) (0, omega arith, refl) name none
 
-  -- one name of a table
+  -- if the name at a key of a table is unknown, it names nothing in the table in which it has to be found
   nameless : (t : Table) (key : Key) (others : Table) (names : List (List ℕ)) (i : ℕ) (row : Members) →
       table_at ms t i ≡ Some row →
       Contains (fields_of t) (needed_name key) →
@@ -463,7 +474,8 @@ module _ (ms : Members) (good : HasGoodFields ms) where
   abbrev stands_in : Key → ℕ → Members → Type 0
   stands_in key i row = slice_get (elements ms key) i ≡ Some row
 
-  -- each fault in the list of unknown names is a name in the document that names nothing
+  -- Each fault in the list of unknown names is a name in the document that names nothing.
+  -- List by list: slots, processes, edges, and then the order.
   pub unknowns_stand : Each (IsNameless ms) (unknown_faults (graph_in ms))
   unknowns_stand =
       each_joined (IsNameless ms) _ _ (subst (Each (IsNameless ms)) (sym
@@ -492,7 +504,7 @@ module _ (ms : Members) (good : HasGoodFields ms) where
       (λ e. let (name, c, not_known) = some_fails (is_known process_texts) (order_names ms) e in
       (order_place, refl, inr (refl, (name, c, no_process name not_known)))))))
 
-  -- the parts of the unknown names
+  -- the unknown nodes of slots
   abbrev slots_part : List ReadFault
   slots_part =
       of_each (λ i s. unknown (node_names ms good) s.node tables.Slot i Node) 0 (map slot_in (elements ms Slot))
@@ -579,7 +591,8 @@ module _ (ms : Members) (good : HasGoodFields ms) where
   -- no other key refers to a table
   unknown_in t key others named i name found none = absurd (nothing others named)
 
-  -- each name in the document that names nothing is in the list of unknown names
+  -- Each name in the document that names nothing is in the list of unknown names.
+  -- It is one of a table, which has its part of the list, or one of the order, which comes last.
   pub unknown_there : (at : Place) → IsUnknown ms at → Contains (unknown_faults (graph_in ms)) (UnknownName at)
   unknown_there at (inl (others, named, name, found, none)) =
       unknown_in at.table at.key others named at.index name found none

@@ -35,7 +35,8 @@ use Rattle.cpg_laws.proofs.GraphFiles.{graph_files_show_first_faults}
 
 -- ---- the order
 
--- what is earlier than an earlier rank is earlier
+-- What is earlier than an earlier rank is earlier.
+-- By induction on the three lists: the first number that differs in either step decides.
 earlier_than_both : (a b c : List ℕ) → IsEarlier a b → IsEarlier b c → IsEarlier a c
 earlier_than_both a b [] h k = absurd k
 earlier_than_both a [] (z ∷ c) h k = absurd h
@@ -51,18 +52,20 @@ not_itself [] h = h
 not_itself (x ∷ a) (inl h) = omega (arith, h)
 not_itself (x ∷ a) (inr h) = not_itself a h.1
 
--- what orders faults: their kind, and then their place
+-- The rank of a fault: its kind, and then what it is compared by in its kind. So `1 ∷ table ∷ element ∷ key` is a bad field,
+-- `2 ∷ what` a limit, with `4 ∷ table ∷ element ∷ key` for a number, and 3 and 4 are names, twice and unknown. A shorter list
+-- comes before those that go on after it, so it is a bound below them.
 abbrev rank_of : ReadFault → List ℕ
 rank_of fault = kind_of fault ∷ place_of_fault fault
 
 -- ---- faults that rise between two bounds
 
--- the ranks of faults rise, from above a low one to below a high one
+-- these faults come one after another by their ranks, all above a low one and below a high one
 abbrev Rise : List ℕ → List ReadFault → List ℕ → Type 0
 Rise low [] high = IsEarlier low high
 Rise low (fault ∷ faults) high = IsEarlier low (rank_of fault) × Rise (rank_of fault) faults high
 
--- they do so from any lower one too
+-- faults that rise from above one rank do so from above any lower one
 from_below : (lower low high : List ℕ) (faults : List ReadFault) → IsEarlier lower low → Rise low faults high →
     Rise lower faults high
 from_below lower low high [] l h = earlier_than_both lower low high l h
@@ -116,7 +119,8 @@ are_in_order table p (key ∷ keys) =
 after : (p q : ℕ) → p + 1 ≤ q → p < q
 after p q l = omega (arith, l)
 
--- the faults of one row, from a bound before its keys from position p on
+-- The faults of one row, from a bound before its keys from position p on.
+-- By induction on the fields: each has a higher position than the one before it, and unknown keys come last.
 fields_rise : (row : DocumentRow) (keys : List Key) (low : List ℕ) (p : ℕ) (fields : List Field) →
     ((q : ℕ) → p ≤ q → IsEarlier low (1 ∷ table_number row.table ∷ row.index ∷ q ∷ [])) →
     are_in_order row.table p (map (λ f. f.key) fields) ≡ true →
@@ -142,7 +146,8 @@ row_rises : (row : DocumentRow) (fields : List Field) → are_in_order row.table
 row_rises row fields order = fields_rise row (map (λ f. f.key) fields)
     (1 ∷ table_number row.table ∷ row.index ∷ []) 0 fields (λ q l. inr (refl, inr (refl, inr (refl, tt)))) order
 
--- the faults of the numbers of a row rise, from a bound before its keys from position p on
+-- The faults of the numbers of a row rise, from a bound before its keys from position p on.
+-- By induction on the numbers: each has a higher position than the one before it.
 numbers_rise : (table : Table) (i : ℕ) (low : List ℕ) (p : ℕ) (numbers : List BoundedField) →
     ((q : ℕ) → p ≤ q → IsEarlier low (2 ∷ 4 ∷ table_number table ∷ i ∷ q ∷ [])) →
     are_in_order table p (map (λ n. n.key) numbers) ≡ true →
@@ -170,7 +175,8 @@ number_row_rises table i numbers order = numbers_rise table i (2 ∷ 4 ∷ table
 
 -- ---- the kinds
 
--- the bad fields of a table's elements rise, element by element
+-- The bad fields of a table's elements rise, element by element.
+-- Those of each row rise below the next element's number.
 elements_rise : (table : Table) (fields : List Field) (members : List Members) →
     are_in_order table 0 (map (λ f. f.key) fields) ≡ true →
     Rise (1 ∷ table_number table ∷ []) (bad_elements table fields members) (1 ∷ (table_number table + 1) ∷ [])
@@ -182,15 +188,20 @@ elements_rise table fields members order = from_below (1 ∷ table_number table 
     (λ i ms. row_rises (record { table = table; index = i; members = ms }) fields order)
     (λ i. inr (refl, inl (omega arith))) 0 members)
 
--- all bad fields of a document rise, table by table
+-- All bad fields of a document rise, table by table.
+-- The top, nodes, slots, processes and edges, joined at the bounds between them.
 field_faults_rise : (ms : Members) → Rise (1 ∷ []) (field_faults ms) (2 ∷ [])
 field_faults_rise ms =
+    -- the top, whose bad fields begin with 1 ∷ 0
     joined (1 ∷ []) (1 ∷ 1 ∷ []) (2 ∷ []) _ _
     (from_below (1 ∷ []) (1 ∷ 0 ∷ 0 ∷ []) (1 ∷ 1 ∷ []) (bad_in top_fields (top_of ms)) (inr (refl, tt))
     (to_above (1 ∷ 0 ∷ 0 ∷ []) (1 ∷ 0 ∷ 1 ∷ []) (1 ∷ 1 ∷ []) (bad_in top_fields (top_of ms))
     (row_rises (top_of ms) top_fields refl) (inr (refl, inl (omega arith)))))
+    -- then nodes, with 1 ∷ 1
     (joined (1 ∷ 1 ∷ []) (1 ∷ 2 ∷ []) (2 ∷ []) _ _ (elements_rise tables.Node node_fields (elements ms Node) refl)
+    -- then slots, with 1 ∷ 2
     (joined (1 ∷ 2 ∷ []) (1 ∷ 3 ∷ []) (2 ∷ []) _ _ (elements_rise tables.Slot slot_fields (elements ms Slot) refl)
+    -- then processes, and last edges
     (joined (1 ∷ 3 ∷ []) (1 ∷ 4 ∷ []) (2 ∷ []) _ _
     (elements_rise tables.Process process_fields (elements ms Process) refl)
     (to_above (1 ∷ 4 ∷ []) (1 ∷ 5 ∷ []) (2 ∷ []) _ (elements_rise tables.Edge edge_fields (elements ms Edge) refl)
@@ -207,10 +218,11 @@ number_rows_rise table numbers xs order = from_below (2 ∷ 4 ∷ table_number t
     (λ i x. out_of_range table i (numbers x)) (λ i x. number_row_rises table i (numbers x) (order x))
     (λ i. inr (refl, inr (refl, inl (omega arith)))) 0 xs)
 
--- the limit faults of a document come in the order of their ranks: nodes, slots, processes, edges, and then the
--- numbers out of range
+-- the limit faults of a document come in the order of their ranks: the counts, the numbers out of range, and then the
+-- count of conditions
 limit_faults_rise : (g : RawGraph) → Rise (2 ∷ []) (limit_faults g) (3 ∷ [])
 limit_faults_rise g =
+    -- the four counts
     one_more (nat_le (length g.nodes) MOST_NODES) (OverLimit Nodes) _ (2 ∷ []) (3 ∷ []) (inr (refl, tt))
     (one_more (nat_le (length g.slots) MOST_NODES) (OverLimit Slots) _ (2 ∷ 0 ∷ []) (3 ∷ [])
     (inr (refl, inl (omega arith)))
@@ -218,22 +230,27 @@ limit_faults_rise g =
     (inr (refl, inl (omega arith)))
     (one_more (nat_le (length g.edges) MOST_EDGES) (OverLimit Edges) _ (2 ∷ 2 ∷ []) (3 ∷ [])
     (inr (refl, inl (omega arith)))
+    -- the numbers of the top
     (joined (2 ∷ 3 ∷ []) (2 ∷ 4 ∷ 2 ∷ []) (3 ∷ []) _ _
     (from_below (2 ∷ 3 ∷ []) (2 ∷ 4 ∷ 0 ∷ 0 ∷ []) (2 ∷ 4 ∷ 2 ∷ []) (out_of_range tables.Top 0 (top_numbers g))
     (inr (refl, inl (omega arith)))
     (to_above (2 ∷ 4 ∷ 0 ∷ 0 ∷ []) (2 ∷ 4 ∷ 0 ∷ 1 ∷ []) (2 ∷ 4 ∷ 2 ∷ []) (out_of_range tables.Top 0 (top_numbers g))
     (number_row_rises tables.Top 0 (top_numbers g) refl)
     (inr (refl, inr (refl, inl (omega arith))))))
+    -- those of slots
     (joined (2 ∷ 4 ∷ 2 ∷ []) (2 ∷ 4 ∷ 3 ∷ []) (3 ∷ []) _ _
     (number_rows_rise tables.Slot slot_numbers g.slots (λ s. refl))
+    -- those of processes
     (joined (2 ∷ 4 ∷ 3 ∷ []) (2 ∷ 4 ∷ 4 ∷ []) (3 ∷ []) _ _
     (number_rows_rise tables.Process process_numbers g.processes (λ p. refl))
+    -- those of edges, and last the count of conditions
     (joined (2 ∷ 4 ∷ 4 ∷ []) (2 ∷ 4 ∷ 5 ∷ []) (3 ∷ []) _ _
     (number_rows_rise tables.Edge edge_numbers g.edges (λ e. refl))
     (one (nat_le (length (different [] (sources g.edges))) MOST_CONDITIONS) (OverLimit Conditions) (2 ∷ 4 ∷ 5 ∷ [])
     (3 ∷ []) (inr (refl, inl (omega arith))) (inl (omega arith))))))))))
 
--- the double names of a list rise by their places
+-- The double names of a list rise by their places.
+-- By induction on the names: each has a higher index than the one before it.
 doubles_rise : (table : Table) (key : Key) (i : ℕ) (before names : List (List ℕ)) →
     Rise (3 ∷ name_table table ∷ i ∷ []) (doubles_from table key i before names) (3 ∷ (name_table table + 1) ∷ [])
 doubles_rise table key i before [] = inr (refl, inl (omega arith))
@@ -245,17 +262,21 @@ doubles_rise table key i before (name ∷ names) = one_more (not (list_any (byte
     (doubles_from table key (i + 1) (before ++ name ∷ []) names) (inr (refl, inr (refl, inl (omega arith))))
     (doubles_rise table key (i + 1) (before ++ name ∷ []) names))
 
--- all double names of a document rise
+-- All double names of a document rise.
+-- Nodes, slots and processes, joined at the bounds between them, and then that of the order.
 double_faults_rise : (g : RawGraph) → Rise (3 ∷ []) (double_faults g) (4 ∷ [])
 double_faults_rise g =
+    -- nodes
     joined (3 ∷ []) (3 ∷ 2 ∷ 0 ∷ []) (4 ∷ []) _ _
     (from_below (3 ∷ []) (3 ∷ 1 ∷ 0 ∷ []) (3 ∷ 2 ∷ 0 ∷ []) (doubles_from tables.Node Name 0 [] g.nodes) (inr (refl, tt))
     (to_above (3 ∷ 1 ∷ 0 ∷ []) (3 ∷ 2 ∷ []) (3 ∷ 2 ∷ 0 ∷ []) (doubles_from tables.Node Name 0 [] g.nodes)
     (doubles_rise tables.Node Name 0 [] g.nodes) (inr (refl, inr (refl, tt)))))
+    -- then slots
     (joined (3 ∷ 2 ∷ 0 ∷ []) (3 ∷ 3 ∷ 0 ∷ []) (4 ∷ []) _ _
     (to_above (3 ∷ 2 ∷ 0 ∷ []) (3 ∷ 3 ∷ []) (3 ∷ 3 ∷ 0 ∷ []) (doubles_from tables.Slot Node 0 [] (slot_names g.slots))
     (doubles_rise tables.Slot Node 0 [] (slot_names g.slots))
     (inr (refl, inr (refl, tt))))
+    -- then processes, and last the order
     (joined (3 ∷ 3 ∷ 0 ∷ []) (3 ∷ 4 ∷ []) (4 ∷ []) _ _
     (doubles_rise tables.Process Name 0 [] (process_names g.processes))
     (one (differ_from [] (unwrap_or g.order [])) (DoubleName order_place) (3 ∷ 4 ∷ []) (4 ∷ [])
@@ -278,18 +299,22 @@ ends_rise names i e = one_more (is_some (position (bytes_eq e.from) names)) (Unk
     (4 ∷ 4 ∷ (i + 1) ∷ []) (inr (refl, inr (refl, inr (refl, inl (omega arith)))))
     (inr (refl, inr (refl, inl (omega arith)))))
 
--- all unknown names of a document rise
+-- All unknown names of a document rise.
+-- Slots, processes and edges, joined at the bounds between them, and then that of the order.
 unknown_faults_rise : (g : RawGraph) → Rise (4 ∷ []) (unknown_faults g) (5 ∷ [])
 unknown_faults_rise g =
+    -- slots
     joined (4 ∷ []) (4 ∷ 3 ∷ 0 ∷ []) (5 ∷ []) _ _
     (from_below (4 ∷ []) (4 ∷ 2 ∷ 0 ∷ []) (4 ∷ 3 ∷ 0 ∷ []) _ (inr (refl, tt))
     (each_rises (λ i. 4 ∷ 2 ∷ i ∷ []) (4 ∷ 3 ∷ 0 ∷ []) (λ i s. unknown g.nodes s.node tables.Slot i Node)
     (λ i s. unknown_rises g.nodes s.node tables.Slot Node i)
     (λ i. inr (refl, inl (omega arith))) 0 g.slots))
+    -- then processes
     (joined (4 ∷ 3 ∷ 0 ∷ []) (4 ∷ 4 ∷ 0 ∷ []) (5 ∷ []) _ _
     (each_rises (λ i. 4 ∷ 3 ∷ i ∷ []) (4 ∷ 4 ∷ 0 ∷ []) (λ i p. unknown g.nodes p.node tables.Process i Node)
     (λ i p. unknown_rises g.nodes p.node tables.Process Node i)
     (λ i. inr (refl, inl (omega arith))) 0 g.processes)
+    -- then edges, and last the order
     (joined (4 ∷ 4 ∷ 0 ∷ []) (4 ∷ 5 ∷ []) (5 ∷ []) _ _
     (each_rises (λ i. 4 ∷ 4 ∷ i ∷ []) (4 ∷ 5 ∷ []) (unknown_ends (process_names g.processes))
     (ends_rise (process_names g.processes)) (λ i. inr (refl, inl (omega arith))) 0 g.edges)
@@ -394,7 +419,8 @@ told_is_first low high [] r h told fault e = absurd (let ok = told.1 in cc)
 told_is_first low high (f ∷ faults) r h told fault e =
     subst (IsFirstOf (Contains (f ∷ faults))) (let same : f ≡ fault = cc in same) (head_is_first low high f faults h)
 
--- a reading that is refused by the first of rising faults is refused by whichever is the first of all
+-- A reading that is refused by the first of rising faults is refused by whichever is the first of all.
+-- The first of the list comes before any other, so the first of all is it.
 first_is_told : {T : Type 0} (low high : List ℕ) (faults : List ReadFault) (r : Reading T) → Rise low faults high →
     IsFirst faults r → (fault : ReadFault) →
     IsFirstOf (Contains faults) fault →
@@ -402,12 +428,14 @@ first_is_told : {T : Type 0} (low high : List ℕ) (faults : List ReadFault) (r 
 first_is_told low high [] r h told fault first = absurd (let l = first.stands.1 in omega (arith, l))
 first_is_told low high (f ∷ faults) r h told fault first = by (first_or_same low high f faults h fault first.stands)
   where
+    -- by whether the fault that is told is the first one, or comes before it, which none does
     by : (f ≡ fault) ⊎ ComesBefore f fault → r ≡ Err fault
     by (inl same) = subst (λ z. r ≡ Err z) same told
     by (inr (inl less)) = absurd (let le = first.kinds f (here f faults) in omega (arith, less, le))
     by (inr (inr l)) = absurd (first.places f (here f faults) l.0 l.1)
 
--- a graph file is rejected by the one fault that stands before all others
+-- A graph file is rejected by the one fault that stands before all others.
+-- It is refused by the first in the list, and the list rises.
 pub refusals_are_first : RefusalsAreFirst
 refusals_are_first bytes =
     let rise = document_faults_rise (document_of bytes) in

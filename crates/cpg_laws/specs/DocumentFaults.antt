@@ -27,11 +27,11 @@ use Rattle.cpg_laws.specs.GraphFiles.{Field, is_good_value, top_fields, node_fie
 use Rattle.cpg_laws.specs.GraphFiles.{edge_fields, elements, order_place, faults_of}
 use Rattle.cpg_laws.specs.Refusals.{IsFirstOf}
 
--- the document that the bytes are, if they are one
+-- the document that the bytes are: they have to be UTF-8 and TOML, and are none otherwise
 abbrev pub document : List ℕ → Option Members
 document bytes = if is_utf8 bytes then parse_document bytes else None
 
--- a table of the document, if it is there
+-- a table of the document, if it is there: the top has index 0 alone, and any other is an element of its list
 abbrev pub table_at : Members → Table → ℕ → Option Members
 table_at ms tables.Top zero = Some ms
 table_at ms tables.Top (suc i) = None
@@ -54,17 +54,17 @@ fields_of tables.Slot = slot_fields
 fields_of tables.Process = process_fields
 fields_of tables.Edge = edge_fields
 
--- the table has this key, and its value doesn't fit, or is needed and missing
+-- the table has a field of this key whose value doesn't fit, or is missing although it is needed
 abbrev pub HasBadValue : Members → List Field → Key → Type 0
 HasBadValue members fields key =
     (f : Field) × Contains fields f × (f.key ≡ key) × (is_good_value f (get_member (text_of key) members) ≡ false)
 
--- something stands at a key that the table doesn't have
+-- something stands at a key that is none of these fields
 abbrev pub HasOtherKey : Members → List Field → Type 0
 HasOtherKey members fields = (text : List ℕ) × (d : Data) × (get_member text members ≡ Some d) ×
     ((f : Field) → Contains fields f → text_of f.key ≢ text)
 
--- a table of the document has a bad value at the key, or a key that isn't one of the table's
+-- the place's table has a bad value at the place's key, or the key is `Unknown` and the table has a key of no field
 abbrev pub IsBadField : Members → Place → Type 0
 IsBadField ms place = (members : Members) × (table_at ms place.table place.index ≡ Some members)
     × (HasBadValue members (fields_of place.table) place.key ⊎
@@ -76,13 +76,16 @@ HasGoodFields ms = (place : Place) → IsBadField ms place → ⊥
 
 -- ---- what is beyond its limit
 
--- a number of a table, and the least and the greatest that it may be
+-- which numbers may stand at a key
 pub record Range : Type 0 where
+  -- the key
   pub key : Key
+  -- the least number
   pub low : ℕ
+  -- the greatest number
   pub high : ℕ
 
--- the range of a number between the least and the greatest
+-- the numbers from `low` to `high`, at this key
 abbrev pub range : Key → ℕ → ℕ → Range
 range key low high = record { key = key; low = low; high = high }
 
@@ -96,20 +99,21 @@ ranges_of tables.Process =
     ∷ range Release 0 LONGEST ∷ range Deadline 0 LONGEST ∷ []
 ranges_of tables.Edge = range Bytes 1 LARGEST ∷ []
 
--- an integer stands there that is outside its range
+-- an integer outside its range stands at the place
 abbrev pub IsOutOfRange : Members → Place → Type 0
 IsOutOfRange ms place = (r : Range) × Contains (ranges_of place.table) r × (r.key ≡ place.key) × (z : ℤ) ×
     (found_at ms place.table place.index place.key ≡ Some (integer z)) × (is_within r.low r.high z ≡ false)
 
--- the edges that have a `when`, and what they say at `from`
+-- the edges of the document that have a `when`
 abbrev pub conditional_edges : Members → List Members
 conditional_edges ms = filter (λ e. is_some (get_member (text_of When) e)) (elements ms Edge)
 
--- the name at an edge's `from`, and the empty one if there is none
+-- the name at an edge's `from`, and the empty name if there is none
 abbrev pub source_of : Members → List ℕ
 source_of e = unwrap_or (option_and_then as_name (get_member (text_of From) e)) []
 
--- there are too many of something in the document, or a number is out of its range
+-- There are too many of something in the document, or a number is out of its range. There are as many conditions as
+-- different sources of edges with a `when`.
 abbrev pub IsOverLimit : Members → What → Type 0
 IsOverLimit ms Nodes = MOST_NODES < length (elements ms Node)
 IsOverLimit ms Slots = MOST_NODES < length (elements ms Slot)
@@ -120,14 +124,14 @@ IsOverLimit ms Conditions = MOST_CONDITIONS < length (different [] (map source_o
 
 -- ---- names
 
--- the names that are different in their kind
+-- whether no two names at this key of a table may be equal: those of nodes and processes, and the nodes of slots
 abbrev pub is_own_name : Table → Key → Bool
 is_own_name tables.Node Name = true
 is_own_name tables.Slot Node = true
 is_own_name tables.Process Name = true
 is_own_name table key = false
 
--- the names of the order, if the document has one
+-- the names of the order, and none if the document has no order
 abbrev pub order_names : Members → List (List ℕ)
 order_names ms = unwrap_or (option_and_then as_names (get_member (text_of Order) ms)) []
 
@@ -136,17 +140,17 @@ abbrev pub HasTwice : List (List ℕ) → Type 0
 HasTwice names =
     (name : List ℕ) × (i : ℕ) × (slice_get names i ≡ Some name) × (j : ℕ) × (j < i) × (slice_get names j ≡ Some name)
 
--- the name stands earlier in its kind
+-- the name at the place also stands at the same key of an earlier element
 abbrev pub IsDoubleName : Members → Place → Type 0
 IsDoubleName ms place = (is_own_name place.table place.key ≡ true) × (name : List ℕ) ×
     (found_at ms place.table place.index place.key ≡ Some (string name)) × (j : ℕ) × (j < place.index) ×
     (found_at ms place.table j place.key ≡ Some (string name))
 
--- the name stands earlier in its kind, or some name stands twice in the order
+-- the name at the place stands earlier too, or the place is that of the order, which has some name twice
 abbrev pub IsDouble : Members → Place → Type 0
 IsDouble ms place = IsDoubleName ms place ⊎ ((place ≡ order_place) × HasTwice (order_names ms))
 
--- the table that has what a name names
+-- in which table the name at this key has to be found, if in one: nodes for slots and processes, processes for edges
 abbrev pub named_in : Table → Key → Option Table
 named_in tables.Slot Node = Some tables.Node
 named_in tables.Process Node = Some tables.Node
@@ -154,7 +158,7 @@ named_in tables.Edge From = Some tables.Process
 named_in tables.Edge To = Some tables.Process
 named_in table key = None
 
--- no element of the table that has what the name names has the name
+-- the name at the place is that of no element of the table in which it has to be found
 abbrev pub IsUnknownName : Members → Place → Type 0
 IsUnknownName ms place = (others : Table) × (named_in place.table place.key ≡ Some others) × (name : List ℕ) ×
     (found_at ms place.table place.index place.key ≡ Some (string name)) ×
@@ -165,13 +169,13 @@ abbrev pub HasUnknown : Members → Type 0
 HasUnknown ms = (name : List ℕ) × Contains (order_names ms) name ×
     ((j : ℕ) → found_at ms tables.Process j Name ≢ Some (string name))
 
--- the name at the place names nothing, or the order has a name that no process has
+-- the name at the place names nothing, or the place is that of the order, which has a name that no process has
 abbrev pub IsUnknown : Members → Place → Type 0
 IsUnknown ms place = IsUnknownName ms place ⊎ ((place ≡ order_place) × HasUnknown ms)
 
 -- ---- all
 
--- a fault of a document: its limits and names are looked at only if its fields are good
+-- The document has this fault. Limits and names are judged only if all fields are good.
 abbrev pub IsFaultOf : Members → ReadFault → Type 0
 IsFaultOf ms NotToml = ⊥
 IsFaultOf ms (BadField place) = IsBadField ms place
@@ -180,7 +184,7 @@ IsFaultOf ms (DoubleName place) = HasGoodFields ms × IsDouble ms place
 IsFaultOf ms (UnknownName place) = HasGoodFields ms × IsUnknown ms place
 IsFaultOf ms OutOfMemory = ⊥
 
--- a fault of bytes: they are no document, or a document that has the fault
+-- the fault of bytes that are no document is `NotToml` alone; otherwise it is one of the document
 abbrev pub IsFaultIn : Option Members → ReadFault → Type 0
 IsFaultIn None fault = fault ≡ NotToml
 IsFaultIn (Some ms) fault = IsFaultOf ms fault

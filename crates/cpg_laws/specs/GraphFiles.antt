@@ -26,24 +26,27 @@ use Rattle.cpg_reader.specs.Ranges.{different}
 use Rattle.cpg_reader.specs.Names.{place, slot_names, process_names}
 use Rattle.cpg_reader.specs.Document.{document_of, problem_of}
 
--- a fault, if something isn't so
+-- the one fault if the test fails, and none if it passes
 abbrev pub unless : Bool → ReadFault → List ReadFault
 unless b fault = if b then [] else fault ∷ []
 
--- the faults of each element of a list, with its index
+-- the faults of all elements of a list, in order; the first has index i
 abbrev pub of_each : {T : Type 0} → (ℕ → T → List ReadFault) → ℕ → List T → List ReadFault
 of_each faults i [] = []
 of_each faults i (x ∷ xs) = faults i x ++ of_each faults (i + 1) xs
 
 -- ---- bad fields
 
--- a field of a table: its key, whether it has to stand there, and what may stand there
+-- what a table of the document may have at one key
 pub record Field : Type 0 where
+  -- the key
   pub key : Key
+  -- whether it has to be there
   pub needed : Bool
+  -- whether a value may stand at the key
   pub fits : Data → Bool
 
--- whether a value fits a field, or may be missing
+-- whether what stands at a field's key is good: a value fits, and a missing one isn't needed
 abbrev pub is_good_value : Field → Option Data → Bool
 is_good_value f None = not f.needed
 is_good_value f (Some d) = f.fits d
@@ -68,27 +71,27 @@ are_tables d = is_some (as_tables d)
 abbrev pub are_names : Data → Bool
 are_names d = is_some (as_names d)
 
--- a field with a name, which has to stand there
+-- a field that has to be there and has a name
 abbrev pub needed_name : Key → Field
 needed_name key = record { key = key; needed = true; fits = is_name }
 
--- a field with an integer, which has to stand there
+-- a field that has to be there and has an integer
 abbrev pub needed_integer : Key → Field
 needed_integer key = record { key = key; needed = true; fits = is_integer }
 
--- a field with an integer, which may be missing
+-- a field that may be missing, and otherwise has an integer
 abbrev pub integer : Key → Field
 integer key = record { key = key; needed = false; fits = is_integer }
 
--- a field that is true or false, and may be missing
+-- a field that may be missing, and otherwise is true or false
 abbrev pub flag : Key → Field
 flag key = record { key = key; needed = false; fits = is_flag }
 
--- a field with a list of tables, which may be missing
+-- a field that may be missing, and otherwise has a list of tables
 abbrev pub list : Key → Field
 list key = record { key = key; needed = false; fits = are_tables }
 
--- a field with a list of names, which may be missing
+-- a field that may be missing, and otherwise has a list of names
 abbrev pub name_list : Key → Field
 name_list key = record { key = key; needed = false; fits = are_names }
 
@@ -115,13 +118,13 @@ process_fields =
 abbrev pub edge_fields : List Field
 edge_fields = needed_name From ∷ needed_name To ∷ integer Bytes ∷ flag When ∷ flag Frozen ∷ []
 
--- the fields that aren't good, and then a key that is none of theirs
+-- the faults of these fields in order, and last one fault if the row has a key that isn't listed in `keys`
 abbrev pub bad_fields : DocumentRow → List Key → List Field → List ReadFault
 bad_fields row keys [] = unless (are_listed keys row.members) (BadField (place_in row Unknown))
 bad_fields row keys (f ∷ fs) =
     unless (is_good_value f (value_at row f.key)) (BadField (place_in row f.key)) ++ bad_fields row keys fs
 
--- the bad fields of one table of the document
+-- the bad fields of one table of the document, which may have the keys of these fields and no others
 abbrev pub bad_in : List Field → DocumentRow → List ReadFault
 bad_in fields row = bad_fields row (map (λ f. f.key) fields) fields
 
@@ -129,11 +132,11 @@ bad_in fields row = bad_fields row (map (λ f. f.key) fields) fields
 abbrev pub top_of : Members → DocumentRow
 top_of ms = record { table = tables.Top; index = 0; members = ms }
 
--- the elements of a list of the document, if it is one
+-- the elements of the list at a key of the document; none if there is no list of tables there
 abbrev pub elements : Members → Key → List Members
 elements ms key = unwrap_or (option_and_then as_tables (value_at (top_of ms) key)) []
 
--- the bad fields of each element of a list
+-- the bad fields of these elements of a list, element by element
 abbrev pub bad_elements : Table → List Field → List Members → List ReadFault
 bad_elements table fields members =
     of_each (λ i ms. bad_in fields (record { table = table; index = i; members = ms })) 0 members
@@ -148,21 +151,21 @@ field_faults ms = bad_in top_fields (top_of ms)
 
 -- ---- what is beyond its limit
 
--- the fault of more elements than the limit, if there are more
+-- the fault that a list has more elements than the limit; none if it hasn't
 abbrev pub too_many : {T : Type 0} → ℕ → What → List T → List ReadFault
 too_many limit what xs = unless (nat_le (length xs) limit) (OverLimit what)
 
--- the numbers of an element that are out of their ranges
+-- the faults of those of an element's numbers that are out of their ranges
 abbrev pub out_of_range : Table → ℕ → List BoundedField → List ReadFault
 out_of_range table i [] = []
 out_of_range table i (n ∷ ns) = unless (is_within n.low n.high n.value)
     (OverLimit (Number (record { table = table; index = i; key = n.key }))) ++ out_of_range table i ns
 
--- the numbers of each element of a list that are out of their ranges
+-- the faults of the numbers of all elements of a list
 abbrev pub all_out_of_range : {T : Type 0} → Table → (T → List BoundedField) → List T → List ReadFault
 all_out_of_range table numbers_of xs = of_each (λ i x. out_of_range table i (numbers_of x)) 0 xs
 
--- all limits that a graph is beyond: counts, numbers, and then conditions
+-- all limits that a graph breaks: first the counts, then the numbers, and last the number of conditions
 abbrev pub limit_faults : RawGraph → List ReadFault
 limit_faults g = too_many MOST_NODES Nodes g.nodes
     ++ (too_many MOST_NODES Slots g.slots
@@ -176,23 +179,23 @@ limit_faults g = too_many MOST_NODES Nodes g.nodes
 
 -- ---- names that stand twice
 
--- a name that stands among those before it
+-- the faults of those names that stand among the ones before them: `earlier`, and in this list; the first has index i
 abbrev pub doubles_from : Table → Key → ℕ → List (List ℕ) → List (List ℕ) → List ReadFault
 doubles_from table key i earlier [] = []
 doubles_from table key i earlier (name ∷ names) =
     unless (not (list_any (bytes_eq name) earlier)) (DoubleName (place table i key))
     ++ doubles_from table key (i + 1) (earlier ++ name ∷ []) names
 
--- no name stands among those before it
+-- whether no name stands among the ones before it: `earlier`, and in this list
 abbrev pub differ_from : List (List ℕ) → List (List ℕ) → Bool
 differ_from earlier [] = true
 differ_from earlier (name ∷ names) = not (list_any (bytes_eq name) earlier) && differ_from (earlier ++ name ∷ []) names
 
--- the place of all names of the order
+-- the place that a fault of the order names, whichever of its names it is
 abbrev pub order_place : Place
 order_place = place tables.Top 0 Order
 
--- the fault of an order with a name twice, if it has one
+-- the fault of an order that has a name twice
 abbrev pub order_doubles : List (List ℕ) → List ReadFault
 order_doubles order = unless (differ_from [] order) (DoubleName order_place)
 
@@ -205,7 +208,7 @@ double_faults g = doubles_from tables.Node Name 0 [] g.nodes
 
 -- ---- names that name nothing
 
--- the fault of a name that isn't among those that it may be, if it isn't
+-- the fault of a name that isn't among these names
 abbrev pub unknown : List (List ℕ) → List ℕ → Table → ℕ → Key → List ReadFault
 unknown names name table i key = unless (is_some (position (bytes_eq name) names)) (UnknownName (place table i key))
 
@@ -217,7 +220,7 @@ unknown_ends names i e = unknown names e.from tables.Edge i From ++ unknown name
 abbrev pub is_known : List (List ℕ) → List ℕ → Bool
 is_known names name = is_some (position (bytes_eq name) names)
 
--- the fault of an order with a name that no process has, if it has one
+-- the fault of an order that has a name that no process has; `names` are those of the processes
 abbrev pub order_unknowns : List (List ℕ) → List (List ℕ) → List ReadFault
 order_unknowns names order = unless (list_all (is_known names) order) (UnknownName order_place)
 
@@ -230,12 +233,12 @@ unknown_faults g = of_each (λ i s. unknown g.nodes s.node tables.Slot i Node) 0
 
 -- ---- all
 
--- what a document says is judged further if its fields are good
+-- the faults of limits and names; a document whose fields aren't good isn't read that far
 abbrev pub graph_faults : Reading RawGraph → List ReadFault
 graph_faults (Err fault) = []
 graph_faults (Ok g) = limit_faults g ++ (double_faults g ++ unknown_faults g)
 
--- a document is judged if the bytes are one
+-- the faults of a document: first those of its fields; bytes that are no document have one fault
 abbrev pub document_faults : Reading Members → List ReadFault
 document_faults (Err fault) = fault ∷ []
 document_faults (Ok ms) = field_faults ms ++ graph_faults (read_raw ms)
@@ -244,7 +247,7 @@ document_faults (Ok ms) = field_faults ms ++ graph_faults (read_raw ms)
 abbrev pub faults_of : List ℕ → List ReadFault
 faults_of bytes = document_faults (document_of bytes)
 
--- a reading is refused by the first of these faults, and if there are none it gives something
+-- a reading is refused with the first of these faults, and succeeds if there are none
 abbrev pub IsFirst : {T : Type 0} → List ReadFault → Reading T → Type 0
 IsFirst {T} [] reading = (x : T) × (reading ≡ Ok x)
 IsFirst (fault ∷ faults) reading = reading ≡ Err fault

@@ -4,16 +4,18 @@ use Rattle.cpg_table.specs.Lawful.{Tables}
 use Rattle.cpg_codec.specs.Packs.{AreLawful, IsBadPack}
 use Rattle.cpg_codec.specs.Spelling.{spelling}
 
--- bytes are a pack, or no pack, and then so from one place on
+-- the bytes are a pack, the spelling of lawful tables, or are no pack and are refused at some place, the only one
 pub record ArePackOrRefused (bytes : List ℕ) : Type 0 where
+  -- they are a pack, or are refused at some place
   pub some : ((t : Tables) × AreLawful t × (bytes ≡ spelling t)) ⊎ ((n : ℕ) × IsBadPack bytes n)
+  -- they are refused at one place at most
   pub one : (n m : ℕ) → IsBadPack bytes n → IsBadPack bytes m → n ≡ m
 
--- any bytes are a pack, or no pack, and then so from one place on
+-- this holds of any bytes
 abbrev pub PacksAreRefusedAtOnePlace : Type 0
 PacksAreRefusedAtOnePlace = (bytes : List ℕ) → ArePackOrRefused bytes
 
--- A proper front of a pack is no pack, and it is refused where it ends.
+-- the first n bytes of a pack, if these aren't all, are no pack and are refused at their end
 abbrev pub FrontsOfPacksAreRefused : Type 0
 FrontsOfPacksAreRefused =
     (t : Tables) (n : ℕ) → AreLawful t → n < length (spelling t) → IsBadPack (take n (spelling t)) n

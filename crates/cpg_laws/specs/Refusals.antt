@@ -15,7 +15,8 @@ use Rattle.cpg_reader.specs.declared.place.ReadFault.TheVariants.{OutOfMemory}
 use Rattle.cpg_reader.specs.Document.{problem_of}
 use Rattle.cpg_laws.specs.GraphFiles.{faults_of}
 
--- the kinds, each asked of the whole document before the next
+-- The number of a fault's kind. The whole document is judged for one kind before the next. `OutOfMemory` isn't a fault of
+-- the document, and has the last number so that each has one.
 abbrev pub kind_of : ReadFault → ℕ
 kind_of NotToml = 0
 kind_of (BadField place) = 1
@@ -24,7 +25,7 @@ kind_of (DoubleName place) = 3
 kind_of (UnknownName place) = 4
 kind_of OutOfMemory = 5
 
--- the top, then the lists
+-- the place of a table in the order in which tables are judged: the top, then the lists
 abbrev pub table_number : Table → ℕ
 table_number tables.Top = 0
 table_number tables.Node = 1
@@ -32,8 +33,10 @@ table_number tables.Slot = 2
 table_number tables.Process = 3
 table_number tables.Edge = 4
 
--- where a key stands in its table; a key that the table doesn't have comes last
+-- The place of a key in its table, in the order in which its fields are judged. A key that the table doesn't have comes
+-- last, with the number of keys that the table has.
 abbrev pub position_of : Table → Key → ℕ
+-- the top of the document
 position_of tables.Top Faults = 0
 position_of tables.Top Deadline = 1
 position_of tables.Top Node = 2
@@ -42,12 +45,15 @@ position_of tables.Top Process = 4
 position_of tables.Top Edge = 5
 position_of tables.Top Order = 6
 position_of tables.Top key = 7
+-- a node
 position_of tables.Node Name = 0
 position_of tables.Node key = 1
+-- a slot
 position_of tables.Slot Node = 0
 position_of tables.Slot Length = 1
 position_of tables.Slot Bytes = 2
 position_of tables.Slot key = 3
+-- a process
 position_of tables.Process Name = 0
 position_of tables.Process Node = 1
 position_of tables.Process Wcet = 2
@@ -60,6 +66,7 @@ position_of tables.Process Frozen = 8
 position_of tables.Process Release = 9
 position_of tables.Process Deadline = 10
 position_of tables.Process key = 11
+-- an edge
 position_of tables.Edge From = 0
 position_of tables.Edge To = 1
 position_of tables.Edge Bytes = 2
@@ -67,20 +74,20 @@ position_of tables.Edge When = 3
 position_of tables.Edge Frozen = 4
 position_of tables.Edge key = 5
 
--- places go by table, then by element, then by key
+-- what places are compared by: first the table, then the element, then the key
 abbrev pub numbers_of : Place → List ℕ
 numbers_of place = table_number place.table ∷ place.index ∷ position_of place.table place.key ∷ []
 
--- names go by table, too, but those of the top come last
+-- the place of a table in the order in which names are judged: those of the top, which are in the order, come last
 abbrev pub name_table : Table → ℕ
 name_table tables.Top = 5
 name_table table = table_number table
 
--- places of names go by table, then by element, then by key
+-- what places of names are compared by: the table in that order, then the element, then the key
 abbrev pub name_numbers_of : Place → List ℕ
 name_numbers_of place = name_table place.table ∷ place.index ∷ position_of place.table place.key ∷ []
 
--- limits: how many there are of something, then the numbers by their places, then the conditions
+-- what limits are compared by: the counts come first, then numbers by their places, then the count of conditions
 abbrev pub limit_of : What → List ℕ
 limit_of Nodes = 0 ∷ []
 limit_of Slots = 1 ∷ []
@@ -89,7 +96,7 @@ limit_of Edges = 3 ∷ []
 limit_of (Number place) = 4 ∷ numbers_of place
 limit_of Conditions = 5 ∷ []
 
--- where a fault stands among those of its kind
+-- what a fault is compared by with others of its kind
 abbrev pub place_of_fault : ReadFault → List ℕ
 place_of_fault NotToml = []
 place_of_fault (BadField place) = numbers_of place
@@ -98,13 +105,13 @@ place_of_fault (DoubleName place) = name_numbers_of place
 place_of_fault (UnknownName place) = name_numbers_of place
 place_of_fault OutOfMemory = []
 
--- the first number that differs decides, and a list comes before those that go on after it
+-- the first list comes before the second: at the first place at which they differ it has the lesser number, or has ended
 abbrev pub IsEarlier : List ℕ → List ℕ → Type 0
 IsEarlier ns [] = ⊥
 IsEarlier [] (m ∷ ms) = ⊤
 IsEarlier (n ∷ ns) (m ∷ ms) = (n < m) ⊎ ((n ≡ m) × IsEarlier ns ms)
 
--- a fault is of an earlier kind than another, or at an earlier place in its kind
+-- the first fault comes before the other: it is of an earlier kind, or of the same kind and at an earlier place
 abbrev pub ComesBefore : ReadFault → ReadFault → Type 0
 ComesBefore fault other = (kind_of fault < kind_of other) ⊎
     ((kind_of fault ≡ kind_of other) × IsEarlier (place_of_fault fault) (place_of_fault other))
@@ -120,11 +127,11 @@ pub record IsFirstOf (Stands : ReadFault → Type 0) (fault : ReadFault) : Type 
   pub places : (other : ReadFault) → Stands other → kind_of other ≡ kind_of fault →
       IsEarlier (place_of_fault other) (place_of_fault fault) → ⊥
 
--- the fault is the first of those of the bytes
+-- the fault is the first of those that a graph file with these bytes has
 abbrev pub IsFirstRefusal : List ℕ → ReadFault → Type 0
 IsFirstRefusal bytes fault = IsFirstOf (Contains (faults_of bytes)) fault
 
--- a graph file is refused with a fault exactly if that is its first one, and no two of its faults stand at one place
+-- a graph file is refused with a fault exactly if that is its first one; its faults are listed in this order
 pub record RefusesFirst (bytes : List ℕ) : Type 0 where
   -- the refusal names the first fault
   pub first : (fault : ReadFault) → (problem_of bytes ≡ Err fault) ↔ IsFirstRefusal bytes fault

@@ -11,14 +11,13 @@ use Rattle.cpg_table.specs.declared.rule.Rule.{Rule}
 use Rattle.cpg_run.specs.Exact.{IsFormed}
 use Rattle.cpg_run.specs.Laws.{Keeps}
 
--- each literal that a node has heard by a time is true of the scenario
+-- each literal that a node has heard in a scenario by a time holds in that scenario, whatever the tables are
 abbrev pub HeardLiteralsAreTrue : Type 0
 HeardLiteralsAreTrue =
     (g : Graph) (tables : List NodeTable) (node time : ℕ) (s : Scenario) (l : Literal) → IsScenario g s →
     is_heard g.faults (facts g tables node s time) l ≡ true → holds s l ≡ true
 
--- if the literals of columns are on active processes and no two columns of a row match, a formed row has at most as
--- many columns as there are views of its variables
+-- If tables keep V1 and V2, a formed row has at most as many columns as its variables have views.
 abbrev pub FormedRowsHaveFewColumns : Type 0
 FormedRowsHaveFewColumns =
     (g : Graph) (tables : List NodeTable) (urgency reached : List ℕ) (x : ℕ) → process_count g ≤ 128 →

@@ -29,34 +29,34 @@ pub fn files_are_refused_by_document()
     ensures { FilesAreRefusedByDocument }
 {}
 
-/// A graph is refused for a cycle exactly if it has one, and is shown a cycle then.
+/// A graph is refused for a cycle exactly if it has one, unless memory runs out; and the refusal shows one of its cycles.
 pub fn cycles_are_refused_first()
     ensures { CyclesAreRefusedFirst }
 {}
 
-/// A graph is refused for its first cause. It has at most one, except that it may have several cycles: a cycle, too many
-/// tracks, two live inputs of a join, a node without its slot, a message that is too big, a given order that isn't topological.
+/// A graph is refused for its first cause, in this order: a cycle, too many tracks, two live inputs of a join, a sender
+/// without a slot, a message that is too big, a given order that isn't topological. There is one first cause at most,
+/// except that a graph may have several cycles.
 pub fn graphs_show_first_causes()
     ensures { GraphsShowFirstCauses }
 {}
 
-/// Bytes are a pack, or are no pack from one place on, at which they are refused.
+/// Bytes are a pack, or are refused at one place, and no other.
 pub fn packs_are_refused_at_one_place()
     ensures { PacksAreRefusedAtOnePlace }
 {}
 
-/// A proper front of a pack is no pack, and it is refused where it ends.
+/// The first bytes of a pack, if these aren't all, are no pack, and are refused at their end.
 pub fn fronts_of_packs_are_refused()
     ensures { FrontsOfPacksAreRefused }
 {}
 
-/// Each literal that a node has heard is true of the scenario, whatever the tables are.
+/// Each literal that a node has heard in a scenario holds in it, whatever the tables are.
 pub fn heard_literals_are_true()
     ensures { HeardLiteralsAreTrue }
 {}
 
-/// In tables that keep V1 and V2, a formed row has no more columns than there are ways in which the variables that it rests
-/// on can stand.
+/// In tables that keep V1 and V2, a formed row has at most as many columns as the variables that it depends on have views.
 pub fn formed_rows_have_few_columns()
     ensures { FormedRowsHaveFewColumns }
 {}

@@ -1,4 +1,5 @@
--- Cubes that are narrowed by literals: they are the cubes of the earlier literals and of these, in any order.
+-- Cubes that are narrowed by literals: if a cube is that of some literals, the narrowed one is that of those and these, in
+-- any order.
 use Rattle.std.proofs.Common.{◌≡◌, ◌≢◌, ◌∙◌, ℕ, ◌<◌, ◌≤◌, max, min, List, [], ◌∷◌, ◌++◌, get_or, Contains, All, arith}
 use Rattle.std.proofs.Common.{refl, sym, ap, ap₂, inl, inr, subst, append_assoc}
 use Rattle.std.proofs.lemmas.Bool.{cases_eq}
@@ -26,7 +27,7 @@ use Rattle.cpg_run.specs.Rows.{IsCubeOf}
 
 -- given two lists of literals and a variable
 module _ (xs ys : List Literal) (v : ℕ) where
-  -- the greatest low on the variable in both lists is the greater of theirs
+  -- the low that two lists leave together is the greater of theirs: it bounds the lows of each list, and is bounded by both
   kept_low-append : kept_low (xs ++ ys) v ≡ max (kept_low xs v) (kept_low ys v)
   kept_low-append = omega (
     arith,
@@ -38,7 +39,7 @@ module _ (xs ys : List Literal) (v : ℕ) where
     kept_low_below ys v (kept_low (xs ++ ys) v) (λ m j e. low_kept (xs ++ ys) v m (Contains-append_right xs ys m j) e),
   )
 
-  -- the least high on the variable in both lists is the lesser of theirs
+  -- the high that two lists leave together is the lesser of theirs, in the same way
   kept_high-append : (k : ℕ) → kept_high k (xs ++ ys) v ≡ min (kept_high k xs v) (kept_high k ys v)
   kept_high-append k = omega (
     arith,
@@ -53,13 +54,13 @@ module _ (xs ys : List Literal) (v : ℕ) where
         (λ m j e. high_kept (xs ++ ys) v k m (Contains-append_right xs ys m j) e),
   )
 
--- the element of a list of one
+-- the only element of a list of one
 only : (l m : Literal) → Contains (l ∷ []) m → l ≡ m
 only l m j = elim (Contains-cases l [] m j) [ inl e ↦ e | inr n ↦ absurd (Contains-nil m n) ]
 
 -- given a literal and the bound k on faults
 module _ (k : ℕ) (l : Literal) where
-  -- the low of one literal is its own
+  -- the low that one literal leaves on its variable is its own
   one_low : kept_low (l ∷ []) l.variable ≡ l.low
   one_low = omega (
     arith,
@@ -67,7 +68,7 @@ module _ (k : ℕ) (l : Literal) where
     kept_low_below (l ∷ []) l.variable l.low (λ m j e. omega (arith, ap (λ (x : Literal). x.low) (only l m j))),
   )
 
-  -- the high of one literal is its own, if it doesn't go past the top
+  -- the high that one literal leaves on its variable is its own, if it isn't past the greatest number
   one_high : l.high ≤ top k l.variable → kept_high k (l ∷ []) l.variable ≡ l.high
   one_high w = omega (
     arith,
@@ -75,14 +76,14 @@ module _ (k : ℕ) (l : Literal) where
     kept_high_above (l ∷ []) l.variable k l.high w (λ m j e. omega (arith, ap (λ (x : Literal). x.high) (only l m j))),
   )
 
-  -- the literal says nothing of another variable's low
+  -- on another variable one literal leaves the low 0
   none_low : (v : ℕ) → l.variable ≢ v → kept_low (l ∷ []) v ≡ 0
   none_low v n = omega (
     arith,
     kept_low_below (l ∷ []) v 0 (λ m j e. absurd (n (ap (λ (x : Literal). x.variable) (only l m j) ∙ e))),
   )
 
-  -- the literal says nothing of another variable's high
+  -- on another variable one literal leaves the greatest number as the high
   none_high : (v : ℕ) → l.variable ≢ v → kept_high k (l ∷ []) v ≡ top k v
   none_high v n = omega (
     arith,
@@ -91,7 +92,7 @@ module _ (k : ℕ) (l : Literal) where
         (λ m j e. absurd (n (ap (λ (x : Literal). x.variable) (only l m j) ∙ e))),
   )
 
--- the variables of a narrowed cube are those of the cube and the literal's
+-- each literal of a narrowed cube is on the variable of some literal of the cube, or on that of the literal it is narrowed by
 spoken_narrowed : (l : Literal) (cube : List Literal) (x : Literal) → Contains (narrowed_by l cube) x →
     (y : Literal) × Contains (cube ++ l ∷ []) y × (y.variable ≡ x.variable)
 spoken_narrowed l cube x j = elim (variables_of_narrowed l cube x j) [
@@ -111,8 +112,8 @@ module _ (k : ℕ) where
     high = λ v. refl;
   }
 
-  -- A cube narrowed by one literal more is that of the literals and this one. The low and high of the literal's
-  -- variable are met, and those of another variable are as before.
+  -- If a cube is that of some known literals, narrowed by one more it is that of those and this one. On the literal's variable
+  -- both ranges are met; on any other the range is as before.
   narrowed_cube : (known cube : List Literal) (l : Literal) → l.high ≤ top k l.variable → IsCubeOf k known cube →
       IsCubeOf k (known ++ l ∷ []) (narrowed_by l cube)
   narrowed_cube known cube l w is = record {
@@ -157,7 +158,7 @@ module _ (k : ℕ) where
     ];
   }
 
-  -- a cube met with literals is that of the known ones and these, literal by literal
+  -- a cube that is narrowed by literals one after another is the cube of its own and of these: by induction on them
   met_cube : (known cube literals : List Literal) → ((l : Literal) → Contains literals l → l.high ≤ top k l.variable) →
       IsCubeOf k known cube →
       IsCubeOf k (known ++ literals) (met cube literals)
@@ -167,13 +168,14 @@ module _ (k : ℕ) where
       (met_cube (known ++ l ∷ []) (narrowed_by l cube) ls (λ m j. w m (Contains-rest l ls m j))
       (narrowed_cube known cube l (w l (Contains-first l ls)) is))
 
-  -- meeting a cube with literals that don't go past the top narrows it by them
+  -- a cube met with literals, none of whose highs is past the greatest number of its variable, is narrowed by them
   pub met_narrowed : (literals cube : List Literal) →
       ((l : Literal) → Contains literals l → l.high ≤ top k l.variable) →
       IsNarrowed k literals cube (met cube literals)
   met_narrowed literals cube w = record { by = λ known is. met_cube known cube literals w is }
 
-  -- the order of the literals, and how often they come, makes no difference
+  -- a cube of some literals is that of others too, if each of the one list is in the other: the ranges that both leave are the
+  -- same
   pub same_literals : (xs ys cube : List Literal) → Within xs ys → Within ys xs → IsCubeOf k xs cube →
       IsCubeOf k ys cube
   same_literals xs ys cube to from is = record {
@@ -195,7 +197,7 @@ module _ (k : ℕ) where
         subst (λ ls. IsCubeOf k ls c) (append_assoc known xs ys) (second.by (known ++ xs) (first.by known is));
   }
 
-  -- narrowing by literals narrows by others that are the same but for order and number
+  -- a cube narrowed by some literals is narrowed by others too, if each of the one list is in the other
   pub narrowed_same : (xs ys a b : List Literal) → Within xs ys → Within ys xs → IsNarrowed k xs a b →
       IsNarrowed k ys a b
   narrowed_same xs ys a b to from n = record {
@@ -211,21 +213,21 @@ module _ (k : ℕ) where
         (n.by known is);
   }
 
--- ---- two rising cubes met are walked through together
+-- ---- two rising cubes are met by one walk through both
 
--- two rising cubes met have rising variables
+-- a rising cube met with any literals has rising variables: by induction on the literals
 pub rising_met : (a b : List Literal) → IsRising a → IsRising (met a b)
 rising_met a [] r = r
 rising_met a (m ∷ ms) r = rising_met (narrowed_by m a) ms (rising-narrowed m a r)
 
--- a literal on a lower variable than all of the second cube stays in front
+-- a first literal on a lower variable than all of the second cube stays first: by induction on the second cube
 met-first : (l : Literal) (ls b : List Literal) → ((m : Literal) → Contains b m → l.variable < m.variable) →
     met (l ∷ ls) b ≡ l ∷ met ls b
 met-first l ls [] h = refl
 met-first l ls (m ∷ ms) h = ap (λ c. met c ms) (narrowed-after m l ls (h m (Contains-first m ms)))
     ∙ met-first l (narrowed_by m ls) ms (λ x j. h x (Contains-rest m ms x j))
 
--- the cube without literals met with a rising one is the latter
+-- the cube without literals met with a rising one is that one: by induction on it
 pub met-nil : (b : List Literal) → IsRising b → met [] b ≡ b
 met-nil [] r = refl
 met-nil (m ∷ ms) r =
@@ -239,7 +241,7 @@ module _ (l : Literal) (ls : List Literal) (m : Literal) (ms : List Literal) (r 
     | inr d ↦ omega (arith, h, rising_first m x ms r d)
   ])
 
-  -- first literals on one variable are met
+  -- if both first literals are on one variable, their meet comes first
   pub met-here : l.variable ≡ m.variable → met (l ∷ ls) (m ∷ ms) ≡ meet_literal m l ∷ met ls ms
   met-here e = ap (λ c. met c ms) (narrowed-here m l ls (sym e))
       ∙ met-first (meet_literal m l) ls ms (λ x j. omega (arith, e, rising_first m x ms r j))
@@ -248,17 +250,19 @@ module _ (l : Literal) (ls : List Literal) (m : Literal) (ms : List Literal) (r 
   pub met-after : m.variable < l.variable → met (l ∷ ls) (m ∷ ms) ≡ m ∷ met (l ∷ ls) ms
   met-after h = ap (λ c. met c ms) (narrowed-before m l ls h) ∙ met-first m (l ∷ ls) ms (λ x j. rising_first m x ms r j)
 
--- ---- a cube met with one of some literals
+-- ---- a cube met with another cube
 
--- a rising cube whose literals don't go past the top is the cube of its literals
+-- a rising cube, none of whose highs is past the greatest number of its variable, is the cube of its own literals
 pub rising_cube : (k : ℕ) (b : List Literal) → IsRising b → ((l : Literal) → Contains b l → l.high ≤ top k l.variable) →
     IsCubeOf k b b
 rising_cube k b r w = subst (IsCubeOf k b) (met-nil b r) ((met_narrowed k b [] w).by [] (whole_cube k))
 
--- meeting a cube with that of some literals narrows it by these literals
+-- A cube met with the cube b of some literals is narrowed by those literals. It is narrowed by the literals of b, which leave
+-- the same ranges and are on the same variables.
 pub cube_narrowed : (k : ℕ) (literals b cube : List Literal) → IsCubeOf k literals b →
     IsNarrowed k literals cube (met cube b)
 cube_narrowed k literals b cube is =
+    -- b is also the cube of its own literals, so it leaves the ranges that the given literals leave
     let highs = cube_within k literals b is in
     let own = rising_cube k b is.rising highs in
     record {
@@ -266,12 +270,14 @@ cube_narrowed k literals b cube is =
           let n = (met_narrowed k b cube highs).by known was in
           record {
             rising = n.rising;
+            -- a literal is on a variable of a known literal, or on one of b and so of the given ones
             spoken = λ l j.
                 let r = n.spoken l j in
                 elim (Contains-append_cases known b r.0 r.1) [
                   | inl i ↦ (r.0, Contains-append_left known literals r.0 i, r.2)
                   | inr i ↦ let s = is.spoken r.0 i in (s.0, Contains-append_right known literals s.0 s.1, s.2 ∙ r.2)
                 ];
+            -- lows and highs are those of the known literals with those of b, which are those of the given ones
             low = λ v. omega
                 (arith, n.low v, kept_low-append known b v, own.low v, is.low v, kept_low-append known literals v);
             high = λ v. omega (
@@ -287,7 +293,7 @@ cube_narrowed k literals b cube is =
 
 -- ---- a literal that can be pushed
 
--- the literals in front are on lower variables, one by one
+-- each literal before a place of a rising list is on a lower variable than the one at the place: by induction on those before
 front_lower : (xs : List Literal) (l : Literal) (rest : List Literal) → IsRising (xs ++ l ∷ rest) → (m : Literal) →
     Contains xs m →
     m.variable < l.variable
@@ -298,16 +304,16 @@ front_lower (x ∷ xs) l rest r m j = elim (Contains-cases x xs m j) [
   | inr i ↦ front_lower xs l rest (rising_rest x (xs ++ l ∷ rest) r) m i
 ]
 
--- the literals before a place of a rising list are on lower variables
+-- all literals before a place of a rising list are on lower variables than the one at the place
 pub all_lower : (xs : List Literal) (l : Literal) (rest : List Literal) → IsRising (xs ++ l ∷ rest) →
     All (λ m. m.variable < l.variable) xs
 all_lower xs l rest r = λ k d h. front_lower xs l rest r (get_or xs k d) (Contains-get_or xs k d h)
 
 -- ---- on the way through two cubes, up to the literal l of the one and m of the other
 
--- The literals of two rising cubes that are met so far, and those that are left of each.
--- `rises`: the whole rises. `rest`: what is left of the second cube rises. `all`: the whole is the cube so far
--- followed by what is left of both met. `one`, `other`: the first literals that are left, and those behind them.
+-- Given the literals of two rising cubes that are met so far, and those that are left of each.
+-- `rises`: the whole rises. `rest`: what is left of the second cube rises. `all`: the whole is the cube so far and then
+-- what is left of both, met. `one`, `other`: the first literal that is left of each, and those behind it.
 module _ (start cube first second ones others : List Literal) (l : Literal) (ls : List Literal) (m : Literal)
     (ms : List Literal)
     (rises : IsRising (start ++ met first second)) (rest : IsRising others)
@@ -317,7 +323,7 @@ module _ (start cube first second ones others : List Literal) (l : Literal) (ls 
   rest_rises : IsRising (m ∷ ms)
   rest_rises = subst IsRising other rest
 
-  -- the whole is the cube so far followed by what is left of both met, seen by their first literals
+  -- `all`, with the first literals that are left of each
   here : start ++ met first second ≡ cube ++ met (l ∷ ls) (m ∷ ms)
   here = all ∙ ap₂ (λ a b. cube ++ met a b) one other
 
@@ -327,36 +333,36 @@ module _ (start cube first second ones others : List Literal) (l : Literal) (ls 
   push x new left e is =
       here ∙ ap (λ c. cube ++ c) e ∙ sym (append_assoc cube (x ∷ []) left) ∙ ap (λ c. c ++ left) (sym is)
 
-  -- the literals so far are on variables below the next literal x
+  -- the literals so far are on variables below that of the next literal x, as the whole rises
   lower : (x : Literal) (left : List Literal) → met (l ∷ ls) (m ∷ ms) ≡ x ∷ left →
       All (λ y. y.variable < x.variable) cube
   lower x left e = all_lower cube x left (subst IsRising (here ∙ ap (λ c. cube ++ c) e) rises)
 
-  -- the next literal to be added is on a variable above all that were added
+  -- if the first cube's literal is on the lower variable, it is above all that were added
   pub lower_before : l.variable < m.variable → All (λ y. y.variable < l.variable) cube
   lower_before h = lower l (met ls (m ∷ ms)) (met-before l ls m ms rest_rises h)
 
-  -- if the second cube's literal is the next, it is on a variable above all that were added
+  -- if the second cube's literal is on the lower variable, it is above all that were added
   pub lower_after : m.variable < l.variable → All (λ y. y.variable < m.variable) cube
   lower_after h = lower m (met (l ∷ ls) ms) (met-after l ls m ms rest_rises h)
 
-  -- and if both are on one variable
+  -- if both are on one variable, that is above all that were added
   pub lower_here : l.variable ≡ m.variable → All (λ y. y.variable < l.variable) cube
   lower_here e = lower (meet_literal m l) (met ls ms) (met-here l ls m ms rest_rises e)
 
-  -- adding it, the rest of both cubes is still to be met
+  -- once the first cube's literal is added, the whole is the new cube and then what is left of both, met
   pub push_before : (new : List Literal) → l.variable < m.variable → new ≡ cube ++ l ∷ [] →
       start ++ met first second ≡ new ++ met ls others
   push_before new h is =
       push l new (met ls (m ∷ ms)) (met-before l ls m ms rest_rises h) is ∙ ap (λ b. new ++ met ls b) (sym other)
 
-  -- so it is after adding the second cube's literal
+  -- once the second cube's literal is added, the whole is the new cube and then what is left of both, met
   pub push_after : (new : List Literal) → m.variable < l.variable → new ≡ cube ++ m ∷ [] →
       start ++ met first second ≡ new ++ met ones ms
   push_after new h is =
       push m new (met (l ∷ ls) ms) (met-after l ls m ms rest_rises h) is ∙ ap (λ a. new ++ met a ms) (sym one)
 
-  -- and after adding what both have in common
+  -- once the meet of both literals is added, the whole is the new cube and then what is left of both, met
   pub push_here : (new : List Literal) → l.variable ≡ m.variable → new ≡ cube ++ meet_literal m l ∷ [] →
       start ++ met first second ≡ new ++ met ls ms
   push_here new e is = push (meet_literal m l) new (met ls ms) (met-here l ls m ms rest_rises e) is
@@ -365,6 +371,6 @@ module _ (start cube first second ones others : List Literal) (l : Literal) (ls 
 pub rising_left : (ls : List Literal) (l : Literal) (left : List Literal) → IsRising ls → ls ≡ l ∷ left → IsRising left
 rising_left ls l left r e = rising_rest l left (subst IsRising e r)
 
--- once one of the cubes is used up, the rest of the other is added as it is
+-- if nothing is left of the first cube, what is left of both, met, is the rest of the second
 pub nothing_left : (ls : List Literal) → IsRising ls → (none : List Literal) → none ≡ [] → met none ls ≡ ls
 nothing_left ls r none e = ap (λ a. met a ls) e ∙ met-nil ls r

@@ -1,4 +1,5 @@
--- Before the first place no row is made and nothing is carried on; after the last all rows are made.
+-- The ends of the walk along the order: before the first place no row is made and nothing is carried on, after the last
+-- place all rows are made.
 use Rattle.std.proofs.Common.{◌≡◌, ◌∙◌, ℕ, zero, suc, Bool, true, false, ltb, ◌&&◌, ◌==◌, List, [], ◌∷◌, length, get_or}
 use Rattle.std.proofs.Common.{map, replicate, Option, arith, refl, sym, ap, subst, le-ltb}
 use Rattle.std.proofs.lemmas.List.{length-map, length-replicate, get_or-replicate}
@@ -25,24 +26,25 @@ use Rattle.cpg_list.proofs.CodeMade.{count_of}
 abbrev pub blank : ℕ → Row
 blank x = record { item = x; columns = [] }
 
--- blank rows are rows of the items that they are made for
+-- the blank rows of some items are rows of those items, in their order
 items_blank : (xs : List ℕ) → items_of (map blank xs) ≡ xs
+-- by induction on the list
 items_blank [] = refl
 items_blank (x ∷ xs) = ap (λ ys. x ∷ ys) (items_blank xs)
 
--- a blank row has no columns
+-- every row is without columns, one past the end too
 columns_blank : (xs : List ℕ) (i : ℕ) → get_or (columns_of_rows (map blank xs)) i [] ≡ []
 columns_blank [] i = refl
 columns_blank (x ∷ xs) zero = refl
 columns_blank (x ∷ xs) (suc i) = columns_blank xs i
 
--- nothing is true together with false
+-- b && false is false
 and_false : (b : Bool) → (b && false) ≡ false
 and_false true = refl
 and_false false = refl
 
 module _ (g : Graph) (order : List ℕ) where
-  -- before the first place, no row is made
+  -- before the first place no item is done, so blank rows are what has to be made
   pub none_made : (urgency : List ℕ) (frozen : List (Option ℕ)) (rows : List Row) →
       rows ≡ map blank (numbers_below (item_count g)) →
       AreMade g urgency order frozen (IsBefore g order 0) rows
@@ -60,7 +62,7 @@ module _ (g : Graph) (order : List ℕ) where
       (λ y j. ap (λ b. is_sent g y && (home g y == node) && b) (le-ltb (place order (producer g y)) 0 (omega arith))
       ∙ and_false (is_sent g y && (home g y == node)))
 
-  -- if nothing is carried in any scenario, the whole cube is what is carried
+  -- if there are no literals in any scenario, cubes without literals are the cubes of them
   wholes : (k : ℕ) (scenarios : List Scenario) (literals : Scenario → List Literal) (cubes : List (List Literal)) →
       ((s : Scenario) → literals s ≡ []) →
       cubes ≡ replicate (length scenarios) [] →
@@ -72,7 +74,7 @@ module _ (g : Graph) (order : List ℕ) where
         (whole_cube k));
   }
 
-  -- before the first place, nothing is carried on and nothing is in a queue
+  -- before the first place no process and no item has left anything, so each node's cubes are without literals
   pub none_carried : (rows : List (List Column)) (scenarios : List Scenario) (known sent : List (List (List Literal))) →
       known ≡ replicate (length g.nodes) (replicate (length scenarios) []) →
       sent ≡ replicate (length g.nodes) (replicate (length scenarios) [])
@@ -90,7 +92,7 @@ module _ (g : Graph) (order : List ℕ) where
         ∙ get_or-replicate (length g.nodes) node (replicate (length scenarios) []) [] l);
   }
 
-  -- after the last place, all rows are made
+  -- after the last place each item has its row, since its process is before that place
   pub all_rows : (topological : IsTopological g order) (urgency : List ℕ) (frozen : List (Option ℕ)) (rows : List Row) →
       AreMade g urgency order frozen (IsBefore g order (process_count g)) rows →
       AreRows g urgency order frozen (columns_of_rows rows)

@@ -25,7 +25,7 @@ module _ (v : ℕ) where
   stops : (l : Literal) (ls : List Literal) → v ≤ l.variable → from_variable v (l ∷ ls) ≡ l ∷ ls
   stops l ls h = cond-false _ _ _ (le-ltb l.variable v h)
 
-  -- the literals from a variable on rise if all do
+  -- if all literals rise, so do those from the variable on: by induction on them
   pub from-rising : (ls : List Literal) → IsRising ls → IsRising (from_variable v ls)
   from-rising [] r = r
   from-rising (l ∷ ls) r = elim (cases_lt l.variable v) [
@@ -33,7 +33,7 @@ module _ (v : ℕ) where
     | inr h ↦ subst IsRising (sym (stops l ls h)) r
   ]
 
-  -- they give the lows of all variables from that on
+  -- the literals from the variable v on give the lows of v and of all variables above: by induction, a skipped literal is below
   pub from-low : (ls : List Literal) (w : ℕ) → v ≤ w → low_in (from_variable v ls) w ≡ low_in ls w
   from-low [] w h = refl
   from-low (l ∷ ls) w h = elim (cases_lt l.variable v) [
@@ -42,7 +42,8 @@ module _ (v : ℕ) where
     | inr k ↦ ap (λ c. low_in c w) (stops l ls k)
   ]
 
-  -- the first of them gives the low of the variable
+  -- The first of those from v on gives the low of v: by induction on the literals. If the first that stays is on v, it has the
+  -- low; if it is above, no later one is on v, and the low is 0.
   pub from-front : (ls : List Literal) → IsRising ls → front_low v (from_variable v ls) ≡ low_in ls v
   from-front [] r = refl
   from-front (l ∷ ls) r = elim (cases_lt l.variable v) [
@@ -58,12 +59,12 @@ module _ (v : ℕ) where
 
 -- ---- numbers
 
--- a value with the number 0 or 1 that a low stands for says whether the low is above 0
+-- if the number of a value is a low cut to 1, the value is true exactly if the low isn't 0
 value_is : (b : Bool) (n : ℕ) → number_of_value b ≡ min n 1 → b ≡ ltb 0 n
 value_is true n e = sym (lt-ltb 0 n (omega (arith, e)))
 value_is false n e = sym (le-ltb 0 n (omega (arith, e)))
 
--- the number of whether a low is above 0 is the low, or 1 if that is more
+-- the value "the low isn't 0" has the low, cut to 1, as its number
 number_is : (n : ℕ) → number_of_value (ltb 0 n) ≡ min n 1
 number_is n = elim (cases_lt 0 n) [
   | inl h ↦ ap number_of_value (lt-ltb 0 n h) ∙ omega (arith, h)
@@ -71,25 +72,26 @@ number_is n = elim (cases_lt 0 n) [
 ]
 
 module _ (s : Scenario) where
-  -- the number of a count's variable is the count of faults
+  -- the number of a variable below 128 is the fault count of that process
   count_number : (p : ℕ) → p < 128 → number_of s p ≡ fault_of s p
   count_number p h = cond-true _ _ _ (lt-ltb p 128 h)
 
-  -- the number of a value's variable is that of the value
+  -- the number of a condition's variable is that of its value
   value_number : (c : ℕ) → number_of s (value_variable c) ≡ number_of_value (get_or s.values c false)
   value_number c = cond-false _ _ _ (le-ltb (value_variable c) 128 (omega arith))
       ∙ ap (λ d. number_of_value (get_or s.values d false)) (let e : value_variable c - 128 ≡ c = omega arith in e)
 
--- the low of a count stands for itself
+-- of a variable below 128 a low is taken as it is
 count_as : (p low : ℕ) → p < 128 → as_number p low ≡ low
 count_as p low h = cond-true _ _ _ (lt-ltb p 128 h)
 
--- the low of a value stands for 0 or 1
+-- of a variable from 128 on a low is cut to 1
 value_as : (v low : ℕ) → 128 ≤ v → as_number v low ≡ min low 1
 value_as v low h = cond-false _ _ _ (le-ltb v 128 h)
 
 module _ (g : Graph) (few : process_count g ≤ 128) (cube : List Literal) (s : Scenario) where
-  -- a scenario whose counts and values are the lows is the least of the cube
+  -- a scenario in which each fault count and each value is the low of its variable is the least of the cube: both of its lists
+  -- are, element by element
   pub lows_are : IsScenario g s
       → ((v : ℕ) → 0 ≤ v → v < process_count g → number_of s v ≡ as_number v (low_in cube v))
       → ((v : ℕ) → 128 ≤ v → v < value_variable (condition_count g) → number_of s v ≡ as_number v (low_in cube v))
@@ -106,13 +108,13 @@ module _ (g : Graph) (few : process_count g ≤ 128) (cube : List Literal) (s : 
       ∙ value_as (value_variable c) (low_in cube (value_variable c)) (omega arith))) in
       λ i. record { values = sym truths i; faults = sym faults i }
 
-  -- in the least scenario of a cube, each count is the low
+  -- in the least scenario of a cube each fault count is the low of its variable
   pub counts_are : lows g cube ≡ s → (v : ℕ) → 0 ≤ v → v < process_count g → number_of s v ≡ as_number v (low_in cube v)
   counts_are e v z h = count_number s v (omega (arith, few, h)) ∙ ap (λ (t : Scenario). get_or t.faults v 0) (sym e)
       ∙ get_or-map-below (low_in cube) (process_count g) v 0 h
       ∙ sym (count_as v (low_in cube v) (omega (arith, few, h)))
 
-  -- in the least scenario of a cube, each value is the low
+  -- in the least scenario of a cube each value is the low of its variable
   pub values_are : lows g cube ≡ s → (v : ℕ) → 128 ≤ v → v < value_variable (condition_count g) →
       number_of s v ≡ as_number v (low_in cube v)
   values_are e v z h =

@@ -1,4 +1,4 @@
--- Rows that are made one after another: what holds of those that are there, and of one more.
+-- Rows that are made one after another: the entries of the next item can be merged, and with its row one item more is made.
 use Rattle.std.proofs.Common.{◌≡◌, ◌≢◌, ◌∙◌, ℕ, ◌<◌, ◌≤◌, ◌⊎◌, true, false, List, [], length, get_or, set, All, Bool}
 use Rattle.std.proofs.Common.{Option, Some, arith, refl, sym, ap, inl, inr, subst, get_or-set_same}
 use Rattle.std.proofs.Common.{get_or-set_other}
@@ -37,7 +37,7 @@ use Rattle.cpg_run.proofs.BuiltTables.{admitted_under}
 use Rattle.cpg_run.proofs.EntriesMerge.{entries_have_times}
 use Rattle.cpg_run.proofs.RowsTimed.{row_alike, entries_alike, rows_before}
 
--- with its orders and frozen times an admitted graph has the runs that the laws speak of
+-- an admitted graph, a topological order and the frozen times are what the laws on rows ask for
 pub timed_of : (g : Graph) (urgency order : List ℕ) (trees : Guards) (frozen : List (Option ℕ)) →
     IsAdmitted g urgency trees → IsTopological g order →
     AreFrozenTimes g order frozen →
@@ -53,7 +53,7 @@ count_of rows n e = sym (length-map rows (λ (r : Row). r.item)) ∙ ap length e
 
 -- ---- one row set
 
--- rows in which the columns of one item are set
+-- given rows, and the next ones, in which the columns of the item x are set
 module _ (rows next : List Row) (x : ℕ) (columns : List Column) (l : x < length rows)
     (is : next ≡ set rows x (record { item = x; columns = columns })) where
   -- the columns of the next rows are those before, but for the item's
@@ -69,7 +69,7 @@ module _ (rows next : List Row) (x : ℕ) (columns : List Column) (l : x < lengt
   pub row_other : (y : ℕ) → y ≢ x → row_at (columns_of_rows next) y ≡ row_at (columns_of_rows rows) y
   row_other y other = ap (λ cs. row_at cs y) columns_set ∙ get_or-set_other (columns_of_rows rows) x y columns [] other
 
-  -- the rows are of the same items
+  -- the next rows are of the same items, since the row at the place x is that of the item x
   pub items_set : (n : ℕ) → items_of rows ≡ numbers_below n → items_of next ≡ numbers_below n
   items_set n e =
       let blank : Row = record { item = 0; columns = [] } in
@@ -81,17 +81,17 @@ module _ (rows next : List Row) (x : ℕ) (columns : List Column) (l : x < lengt
 
 -- ---- one more item made
 
--- rows of which those of some items are made
+-- given rows of which those of the items `made` are made
 module _ (g : Graph) (urgency order : List ℕ) (frozen : List (Option ℕ)) (timed : IsTimed g urgency order frozen)
     (made : ℕ → Type 0) (rows : List Row)
     (are : AreMade g urgency order frozen made rows) where
-  -- the rows of earlier items are there
+  -- if all items from processes below a bound are made, their rows have cubes of the graph and the times of the runs
   before_are : (bound : ℕ) → ((y : ℕ) → place order (producer g y) < bound → made y) →
       AreRowsBefore g order frozen bound (columns_of_rows rows)
   before_are bound there =
       rows_before g urgency order frozen timed (columns_of_rows rows) bound (λ y e. are.each y e.0 (there y e.1))
 
-  -- if the rows of all items from earlier processes are made, they have the times of the run
+  -- if all items from processes before p are made, their rows have the times of each run
   pub told_from : (p : ℕ) → ((y : ℕ) → place order (producer g y) < place order p → made y) →
       (s : Scenario) (t : Times) → IsScenario g s →
       IsRun g order frozen s t →
@@ -106,7 +106,7 @@ module _ (g : Graph) (urgency order : List ℕ) (frozen : List (Option ℕ)) (ti
   module _ (x : ℕ) (l : x < item_count g)
       (earlier : (y : ℕ) → place order (producer g y) < place order (producer g x) → made y)
       (entries : List Column) (found : AreEntriesOf g order frozen (columns_of_rows rows) x entries) where
-    -- the entries of the item can be merged
+    -- the entries of the item can be merged, as they have the times of the runs
     pub mergeable : AreMergeable g entries
     mergeable = (entries_have_times g urgency order frozen (columns_of_rows rows) x entries timed l
         (before_are (place order (producer g x)) earlier) found).0
@@ -124,9 +124,8 @@ module _ (g : Graph) (urgency order : List ℕ) (frozen : List (Option ℕ)) (ti
       same_before bound h y e = sym (row_other rows next x is.columns inside is.set y
           (λ same. omega (arith, e.1, h, ap (λ z. place order (producer g z)) same)))
 
-      -- The item is made, too, with those before.
-      -- Items made before keep their rows, as all that their entries depend on is from earlier processes. The item
-      -- has its entries merged, and the others are still empty.
+      -- With the item x one item more is made. An item that was made before keeps its row, as what its entries depend on comes
+      -- from earlier processes, whose rows stay. The row of x has its entries, merged. Other rows are still empty.
       pub one_made : AreMade g urgency order frozen (λ y. made y ⊎ (y ≡ x)) next
       one_made = record {
         items = items_set rows next x is.columns inside is.set (item_count g) are.items;
@@ -146,7 +145,8 @@ module _ (g : Graph) (urgency order : List ℕ) (frozen : List (Option ℕ)) (ti
             ∙ are.none y (λ old. other (inl old));
       }
 
--- rows that are made stay so if the same items are described in another way
+-- if two properties hold of the same items, rows of which those with the one are made are rows of which those with the
+-- other are
 pub made_same : (g : Graph) (urgency order : List ℕ) (frozen : List (Option ℕ)) (made also : ℕ → Type 0)
     (rows : List Row) → AreMade g urgency order frozen made rows →
     ((x : ℕ) → also x → made x) →
@@ -160,11 +160,11 @@ made_same g urgency order frozen made also rows are to from = record {
 
 -- ---- an item that isn't sent has no column
 
--- an empty list has any property
+-- any property holds of all elements of an empty list
 no_elements : {X : Type 0} (P : X → Type 0) → All P []
 no_elements P = λ k d l. absurd (omega (arith, l))
 
--- no columns are what no entries are merged to
+-- no entries are merged to no columns
 no_merge : (g : Graph) (urgency : List ℕ) → IsMergeOf g urgency [] []
 no_merge g urgency = record {
   times = λ s law. refl;
@@ -178,10 +178,12 @@ no_merge g urgency = record {
   spoken = λ c m j i. absurd (Contains-nil c j);
 }
   where
+    -- an empty row has a column at no place
     no_column : (i : ℕ) (c : Column) → slice_get [] i ≡ Some c → ⊥
     no_column i c a = cc
 
--- an item that isn't sent has its row without any columns
+-- The row without columns is that of an item which is no start and isn't sent: it is active in no scenario, so it has no
+-- entry.
 pub unsent_row : (g : Graph) (urgency order : List ℕ) (frozen : List (Option ℕ)) (rows : List (List Column)) (x : ℕ) →
     x < item_count g → process_count g ≤ x →
     is_sent g x ≡ false →
@@ -201,6 +203,7 @@ unsent_row g urgency order frozen rows x l above off none = record {
   merge = subst (IsMergeOf g urgency []) (sym none) (no_merge g urgency);
 }
   where
+    -- an active message is an item that is sent
     of_message : (values : List Bool) (i : Item) (e : ℕ) → i ≡ Message e → item_active g values i ≡ true →
         is_sent_item g i ≡ true
     of_message values i f e h = subst (λ k. is_sent_item g k ≡ true) (sym e)

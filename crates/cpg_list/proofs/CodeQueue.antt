@@ -1,4 +1,4 @@
--- The rows that are made and the cubes that are carried on, process by process, and item by item of its queue.
+-- What is made and carried on at one place of the order: item by item of a process's queue, and then for all nodes.
 use Rattle.std.proofs.Common.{◌≡◌, ◌≢◌, ◌∙◌, ℕ, ◌+◌, ◌<◌, ◌≤◌, ◌⊎◌, true, false, ◌&&◌, ◌==◌, ltb, List, [], ◌∷◌, ◌++◌}
 use Rattle.std.proofs.Common.{length, get_or, set, take, filter, flat_map, Contains, Option, arith, refl, sym}
 use Rattle.std.proofs.Common.{ap, inl, inr, subst, append_assoc, eq-eqb, eqb-true, ne_eqb, lt-ltb, ltb-true}
@@ -40,7 +40,7 @@ use Rattle.cpg_list.proofs.CodeTold.{within_flat_map}
 use Rattle.cpg_run.proofs.SameInRows.{only_one}
 use Rattle.cpg_run.proofs.Sends.{Contains-take}
 
--- a sent item from a process before a place
+-- given an item y, a node and a place i
 module _ (g : Graph) (order : List ℕ) (node i y : ℕ) where
   -- the item is one of the graph, is sent by the node, and comes from a process before the place i
   record Stands : Type 0 where
@@ -49,7 +49,7 @@ module _ (g : Graph) (order : List ℕ) (node i y : ℕ) where
     at : home g y ≡ node
     early : place order (producer g y) < i
 
-  -- an item of the list stands so
+  -- this holds of each item of the list `sent_before`
   stands : Contains (sent_before g order node i) y → Stands
   stands j =
       let r = Contains-filter_parts (λ y. is_sent g y && (home g y == node) && ltb (place order (producer g y)) i)
@@ -58,7 +58,7 @@ module _ (g : Graph) (order : List ℕ) (node i y : ℕ) where
       let b = and_parts (is_sent g y) _ a.0 in
       record { within = r.0; sent = b.0; at = eqb-true _ _ b.1; early = ltb-true _ _ a.1 }
 
-  -- an item that stands so is in the list
+  -- each item of which `Stands` holds is in the list
   stood : Stands → Contains (sent_before g order node i) y
   stood h = Contains-filter (λ y. is_sent g y && (home g y == node) && ltb (place order (producer g y)) i)
       (numbers_below (item_count g)) y
@@ -69,7 +69,7 @@ module _ (g : Graph) (order : List ℕ) (node i y : ℕ) where
 -- given cubes of what some items leave to their queue
 module _ (k : ℕ) (g : Graph) (order : List ℕ) (rows : List (List Column)) (scenarios : List Scenario)
     (cubes : List (List Literal)) where
-  -- the literals in a queue depend on the items in it, whatever their order
+  -- cubes of what some items leave are cubes of what others leave, if both lists have the same items, in any order
   pub queued_members : (xs ys : List ℕ) → ((y : ℕ) → Contains xs y → Contains ys y) →
       ((y : ℕ) → Contains ys y → Contains xs y) →
       AreCubesOf k scenarios (queued_by g order rows xs) cubes →
@@ -83,16 +83,16 @@ module _ (k : ℕ) (g : Graph) (order : List ℕ) (rows : List (List Column)) (s
 
 -- given a process of the graph
 module _ (g : Graph) (order : List ℕ) (topological : IsTopological g order) (p : ℕ) (l : p < process_count g) where
-  -- the process stands in the order
+  -- the process p is in the order
   in_order : Contains order p
   in_order = Contains-order (process_count g) order topological.all p l
 
-  -- the producer of each item stands in the order
+  -- the producer of each item is in the order
   produced : (y : ℕ) → Contains (numbers_below (item_count g)) y → Contains order (producer g y)
   produced y j = Contains-order (process_count g) order topological.all (producer g y)
       (producer_in_range g order topological y (numbers-Contains (item_count g) y j))
 
-  -- a process is the producer of its start
+  -- the start of p comes from the place of p
   pub start_by : place order (producer g p) ≡ place order p
   start_by = ap (λ i. place order (producer_of_item g i)) (item_at-start g p l)
 
@@ -112,11 +112,12 @@ module _ (g : Graph) (order : List ℕ) (topological : IsTopological g order) (p
     nth_by : producer g nth ≡ p
     nth_by = (in_queue g p nth nth_queued).by
 
-    -- its producer stands at the place of the process
+    -- its producer is at the place of the process
     pub nth_place : place order (producer g nth) ≡ place order p
     nth_place = ap (place order) nth_by
 
-    -- the items before it in the node's queue are those of earlier processes and the first m of the process
+    -- Each item before it in the node's queue comes from an earlier process or is one of the first m of p: the queue is by the
+    -- places of producers, and for one producer by rank.
     pub before_to : (y : ℕ) → Contains (queued_before g order nth) y →
         Contains (sent_before g order (node_of g p) (place order p) ++ take m (queue_of g p)) y
     before_to y j =
@@ -125,6 +126,7 @@ module _ (g : Graph) (order : List ℕ) (topological : IsTopological g order) (p
         let b = and_parts (is_sent g y) _ a.0 in
         let at : home g y ≡ node_of g p = eqb-true _ _ b.1 ∙ ap (node_of g) nth_by in
         elim (or_cases (comes_before order (producer g y) (producer g nth)) _ a.1) [
+          -- its producer comes before p, so it is sent before p's place
           | inl c ↦ Contains-append_left (sent_before g order (node_of g p) (place order p)) (take m (queue_of g p)) y
               (stood g order (node_of g p) (place order p) y (record {
                 within = r.0;
@@ -133,6 +135,7 @@ module _ (g : Graph) (order : List ℕ) (topological : IsTopological g order) (p
                 early = omega
                     (arith, places_from_comes_before order (producer g y) (producer g nth) c, ap (place order) nth_by);
               }))
+          -- p is its producer, and its rank is below that of the m-th item
           | inr c ↦
               let d = and_parts (producer g y == producer g nth) _ c in
               let same : producer g y ≡ p = eqb-true _ _ d.0 ∙ nth_by in
@@ -141,7 +144,7 @@ module _ (g : Graph) (order : List ℕ) (topological : IsTopological g order) (p
               (queue-Contains g p y (numbers-Contains (item_count g) y r.0) b.0 same) (ltb-true _ _ d.1))
         ]
 
-    -- the items of earlier processes and the first m of the process are before the m-th item
+    -- the items of earlier processes of the node and the first m of p are before the m-th item
     pub before_from : (y : ℕ) →
         Contains (sent_before g order (node_of g p) (place order p) ++ take m (queue_of g p)) y →
         Contains (queued_before g order nth) y
@@ -162,7 +165,7 @@ module _ (g : Graph) (order : List ℕ) (topological : IsTopological g order) (p
               (Contains-numbers (item_count g) y q.within)
         ]
 
-    -- an item before the m-th, or the m-th itself, is before the next
+    -- each item before the m-th, and the m-th itself, comes from an earlier process or is one of the first m + 1 of p
     pub next_to : (y : ℕ) → Contains (queued_before g order nth ++ nth ∷ []) y →
         Contains (sent_before g order (node_of g p) (place order p) ++ take (m + 1) (queue_of g p)) y
     next_to y j = subst (λ ys. Contains (sent_before g order (node_of g p) (place order p) ++ ys) y)
@@ -176,7 +179,7 @@ module _ (g : Graph) (order : List ℕ) (topological : IsTopological g order) (p
               (nth ∷ []) y i
         ]))
 
-    -- with the m-th item, these are the items up to it
+    -- each of the items of earlier processes of the node and the first m + 1 of p is before the m-th item, or is that item
     pub next_from : (y : ℕ) →
         Contains (sent_before g order (node_of g p) (place order p) ++ take (m + 1) (queue_of g p)) y →
         Contains (queued_before g order nth ++ nth ∷ []) y
@@ -191,7 +194,7 @@ module _ (g : Graph) (order : List ℕ) (topological : IsTopological g order) (p
           | inr i ↦ Contains-append_right (queued_before g order nth) (nth ∷ []) y i
         ]
 
-    -- ---- it isn't made yet, and comes from no earlier a process than what is
+    -- ---- the m-th item isn't made yet, and no item that is made comes from a later process
 
     -- the m-th item is one of the graph
     pub nth_within : nth < item_count g
@@ -201,7 +204,7 @@ module _ (g : Graph) (order : List ℕ) (topological : IsTopological g order) (p
     pub nth_earlier : (y : ℕ) → place order (producer g y) < place order (producer g nth) → IsSent g order p m y
     nth_earlier y h = inl (inl (omega (arith, h, ap (place order) nth_by)))
 
-    -- an item that was started is from no later process
+    -- no item from an earlier process, and no start of p, is from a later place than p
     started_late : (y : ℕ) → IsStarted g order p y → place order (producer g y) ≤ place order p
     started_late y (inl h) = omega (arith, h)
     started_late y (inr e) = omega (arith, ap (λ z. place order (producer g z)) e, start_by)
@@ -212,13 +215,13 @@ module _ (g : Graph) (order : List ℕ) (topological : IsTopological g order) (p
     nth_late y (inr c) = omega
         (arith, ap (place order) ((in_queue g p y (Contains-take m (queue_of g p) y c)).by), ap (place order) nth_by)
 
-    -- the m-th item hasn't been made
+    -- the m-th item hasn't been made: it is from p, no start, and not among the first m of the queue
     pub nth_new : IsSent g order p m nth → ⊥
     nth_new (inl (inl h)) = omega (arith, h, ap (place order) nth_by)
     nth_new (inl (inr e)) = omega (arith, e, l, (in_queue g p nth nth_queued).above)
     nth_new (inr c) = omega (arith, below_first (rank_at g) (queue_of g p) (queue_rises g p) m inside nth c)
 
-    -- with the m-th item, one item more of the process has been made
+    -- what was made so far, and the m-th item, are among what is made with the first m + 1 items
     pub sent_next : (y : ℕ) → IsSent g order p m y ⊎ (y ≡ nth) → IsSent g order p (m + 1) y
     sent_next y (inl (inl h)) = inl h
     sent_next y (inl (inr c)) = inr (subst (λ ys. Contains ys y) (sym (take_more (queue_of g p) m 0 inside))
@@ -227,7 +230,7 @@ module _ (g : Graph) (order : List ℕ) (topological : IsTopological g order) (p
         (Contains-append_right (take m (queue_of g p)) (nth ∷ []) y
         (subst (Contains (nth ∷ [])) (sym e) (Contains-first nth []))))
 
-    -- what has been made then is the m-th item or was made before
+    -- what is made with the first m + 1 items was made before, or is the m-th
     pub sent_back : (y : ℕ) → IsSent g order p (m + 1) y → IsSent g order p m y ⊎ (y ≡ nth)
     sent_back y (inl h) = inl (inl h)
     sent_back y (inr c) = elim (Contains-append_cases (take m (queue_of g p)) (nth ∷ []) y
@@ -236,14 +239,14 @@ module _ (g : Graph) (order : List ℕ) (topological : IsTopological g order) (p
           | inr i ↦ inr (sym (only_one nth y i))
         ]
 
-  -- ---- where nothing of it is sent yet, and where all is
+  -- ---- before the first item of the queue, and after the last
 
   -- before the first item of the process, the earlier ones and its start have been made
   pub sent_first : (y : ℕ) → IsSent g order p 0 y → IsStarted g order p y
   sent_first y (inl h) = h
   sent_first y (inr c) = absurd (Contains-nil y c)
 
-  -- the items of earlier processes and all of this one are those up to the next place
+  -- the items that the node sends for earlier processes, and all of p's queue, are among those it sends before the next place
   pub all_to : (y : ℕ) → Contains (sent_before g order (node_of g p) (place order p) ++ queue_of g p) y →
       Contains (sent_before g order (node_of g p) (place order p + 1)) y
   all_to y j = elim (Contains-append_cases (sent_before g order (node_of g p) (place order p)) (queue_of g p) y j) [
@@ -255,7 +258,7 @@ module _ (g : Graph) (order : List ℕ) (topological : IsTopological g order) (p
         (record { within = Contains-numbers (item_count g) y q.within; sent = q.sent; at = ap (node_of g) q.by; early = omega (arith, ap (place order) q.by) })
   ]
 
-  -- what comes from an earlier process, or from this one
+  -- what comes from a place before the next comes from an earlier process or from p
   by_place : (y : ℕ) → Contains (numbers_below (item_count g)) y → place order (producer g y) < place order p + 1 →
       (place order (producer g y) < place order p) ⊎ (producer g y ≡ p)
   by_place y j h = elim (cases_lt (place order (producer g y)) (place order p)) [
@@ -263,7 +266,7 @@ module _ (g : Graph) (order : List ℕ) (topological : IsTopological g order) (p
     | inr k ↦ inr (same_place order (producer g y) p (produced y j) in_order (omega (arith, h, k)))
   ]
 
-  -- the items up to the next place are those of earlier processes and all of this one
+  -- what the node sends before the next place is what it sends for earlier processes, or is in p's queue
   pub all_from : (y : ℕ) → Contains (sent_before g order (node_of g p) (place order p + 1)) y →
       Contains (sent_before g order (node_of g p) (place order p) ++ queue_of g p) y
   all_from y j = let h = stands g order (node_of g p) (place order p + 1) y j in elim (by_place y h.within h.early) [
@@ -274,14 +277,14 @@ module _ (g : Graph) (order : List ℕ) (topological : IsTopological g order) (p
         (queue-Contains g p y (numbers-Contains (item_count g) y h.within) h.sent e)
   ]
 
-  -- another node's queue stays as it is
+  -- what another node sends before the place of p it sends before the next place too
   pub other_to : (node : ℕ) (y : ℕ) → Contains (sent_before g order node (place order p)) y →
       Contains (sent_before g order node (place order p + 1)) y
   other_to node y j = let h = stands g order node (place order p) y j in
       stood g order node (place order p + 1) y
       (record { within = h.within; sent = h.sent; at = h.at; early = omega (arith, h.early) })
 
-  -- nothing is added to the queue of another node
+  -- another node sends no more before the next place than before the place of p, as p sends on its own node alone
   pub other_from : (node : ℕ) → node ≢ node_of g p → (y : ℕ) →
       Contains (sent_before g order node (place order p + 1)) y →
       Contains (sent_before g order node (place order p)) y
@@ -290,9 +293,10 @@ module _ (g : Graph) (order : List ℕ) (topological : IsTopological g order) (p
     | inr e ↦ absurd (n (sym h.at ∙ ap (node_of g) e))
   ]
 
-  -- ---- all of an earlier place is made once the queue is
+  -- ---- once the queue of p is made, all before the next place is
 
-  -- once all items of the process are made, all before the next place are
+  -- Once all items of p are made, all items before the next place are. Such an item comes from an earlier process, or from p;
+  -- then it is the start of p, or is in its queue, or isn't sent and has no column.
   pub made_next : (urgency : List ℕ) (frozen : List (Option ℕ)) (rows : List Row) →
       AreMade g urgency order frozen (IsSent g order p (length (queue_of g p))) rows →
       AreMade g urgency order frozen (IsBefore g order (place order p + 1)) rows
@@ -309,7 +313,7 @@ module _ (g : Graph) (order : List ℕ) (topological : IsTopological g order) (p
     none = λ x other. are.none x (λ h. other (below x h));
   }
     where
-      -- an item that has been made is from a process before the next place
+      -- what is made comes from a process before the next place
       below : (x : ℕ) → IsSent g order p (length (queue_of g p)) x → place order (producer g x) < place order p + 1
       below x (inl (inl h)) = omega (arith, h)
       below x (inl (inr e)) = omega (arith, ap (λ z. place order (producer g z)) e, start_by)
@@ -351,37 +355,37 @@ module _ (g : Graph) (order : List ℕ) (topological : IsTopological g order) (p
   split node = ap (filter (λ q. node_of g q == node)) up_to
       ∙ filter-append (λ q. node_of g q == node) (take (place order p) order) (p ∷ [])
 
-  -- the processes of the node before the next place are those before the process, and the process
+  -- on the node of p the processes before the next place are those before p, and p
   pub node_own : node_before g order (node_of g p) (place order p + 1) ≡ before_on_node g order p ++ p ∷ []
   node_own = split (node_of g p)
       ∙ ap (λ qs. before_on_node g order p ++ qs) (cond-true _ _ _ (eq-eqb (node_of g p) (node_of g p) refl))
 
-  -- those of another node are the same
+  -- on another node the processes before the next place are those before the place of p
   pub node_other : (node : ℕ) → node ≢ node_of g p →
       node_before g order node (place order p + 1) ≡ node_before g order node (place order p)
   node_other node n = split node ∙ ap (λ qs. node_before g order node (place order p) ++ qs)
       (cond-false _ _ _ (ne_eqb (node_of g p) node (λ e. n (sym e)))) ∙
       append-nil (node_before g order node (place order p))
 
-  -- the processes of a node before the place stand no later than the process
+  -- no process of a node before the place of p is later than p
   node_early : (node q : ℕ) → Contains (node_before g order node (place order p)) q → place order q ≤ place order p
   node_early node q j =
       let r = Contains-filter_parts (λ q. node_of g q == node) (take (place order p) order) q j in
       omega (arith, (from_before order q p r.0).1)
 
-  -- the processes of the node up to this one stand no later than it
+  -- the processes of the node up to this one are no later than it
   pub own_early : (q : ℕ) → Contains (before_on_node g order p ++ p ∷ []) q → place order q ≤ place order p
   own_early q j = elim (Contains-append_cases (before_on_node g order p) (p ∷ []) q j) [
     | inl i ↦ node_early (node_of g p) q i
     | inr i ↦ omega (arith, ap (place order) (only_one p q i))
   ]
 
-  -- the items in a queue so far come from processes that stand no later than this one
+  -- no item that a node sends before the place of p comes from a later process than p
   pub sent_early : (node y : ℕ) → Contains (sent_before g order node (place order p)) y →
       place order (producer g y) ≤ place order p
   sent_early node y j = let h = stands g order node (place order p) y j in omega (arith, h.early)
 
-  -- and so do those with the first m items of the process
+  -- no item that the node of p sends before the place of p, and none of the first m items of p, comes from a later process
   pub queue_early : (m y : ℕ) →
       Contains (sent_before g order (node_of g p) (place order p) ++ take m (queue_of g p)) y →
       place order (producer g y) ≤ place order p
@@ -393,7 +397,8 @@ module _ (g : Graph) (order : List ℕ) (topological : IsTopological g order) (p
 
   -- ---- all nodes at the next place
 
-  -- the cubes carried on up to a process, its node's cubes after it and its node's queue with its items
+  -- given the cubes that all nodes carry before the place of p, and the new ones of its node: `own` of what its processes up
+  -- to p leave, `queue` of what its items up to those of p leave
   module _ (rows others : List (List Column)) (same : SameRowsBefore g order (place order p) rows others)
       (scenarios : List Scenario) (known sent : List (List (List Literal)))
       (are : AreCarried g order rows scenarios (place order p) known sent) (on : node_of g p < length g.nodes)
@@ -401,7 +406,8 @@ module _ (g : Graph) (order : List ℕ) (topological : IsTopological g order) (p
       (own_are : AreCubesOf g.faults scenarios (passed_by g others (before_on_node g order p ++ p ∷ [])) own)
       (queue_are : AreCubesOf g.faults scenarios
       (queued_by g order others (sent_before g order (node_of g p) (place order p + 1))) queue) where
-    -- with the node's cubes and queue replaced, all nodes carry what they do before the next place
+    -- With the cubes of p's node replaced, all nodes carry what they carry before the next place. Another node has no process
+    -- and sends no item there, and the rows on which its cubes rest stay.
     pub carried_next : AreCarried g order others scenarios (place order p + 1) (set known (node_of g p) own)
         (set sent (node_of g p) queue)
     carried_next = record {
@@ -456,7 +462,8 @@ regroup e d h r c = sym (append_assoc e (d ++ h) (r ++ c)) ∙ ap (λ z. z ++ (r
 -- given a cube for each scenario
 module _ (g : Graph) (order : List ℕ) (rows : List (List Column)) (scenarios : List Scenario) (p : ℕ)
     (cubes : List (List Literal)) where
-  -- at the end of a process that isn't frozen, its node carries what it passes on
+  -- At the end of a process that isn't frozen all is carried that its node passes on up to it. For an active process what it
+  -- passes on ends with what it received and its count, so both sides have the same literals in the same order.
   pub ends_plain : (process_at g p).frozen ≡ false →
       AreCubesOf g.faults scenarios (passed_by g rows (before_on_node g order p ++ p ∷ [])) cubes →
       AreEndsOf g order rows scenarios p cubes

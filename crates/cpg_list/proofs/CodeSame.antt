@@ -1,4 +1,4 @@
--- What processes pass on and leave in queues depends only on the rows of earlier processes.
+-- What processes pass on and what items leave in queues depends only on the rows of items from earlier processes.
 use Rattle.std.proofs.Common.{ℕ, ◌≤◌, List, [], get_or, Contains, subst}
 use Rattle.cpg_base.specs.Graph.{Graph, producer}
 use Rattle.cpg_base.proofs.Lists.{same_flat_map}
@@ -13,11 +13,11 @@ use Rattle.cpg_run.specs.RowLaws.{SameRowsBefore}
 use Rattle.cpg_run.specs.Rows.{IsCubeOf}
 use Rattle.cpg_run.proofs.CarriedBefore.{passed_same, queued_same, end_same}
 
--- rows that are the same for items from processes before a place
+-- given two lists of rows that are the same for items from processes before the place `bound`
 module _ (g : Graph) (order : List ℕ) (topological : IsTopological g order) (rows others : List (List Column))
     (bound : ℕ) (same : SameRowsBefore g order bound rows others) where
   module _ (k : ℕ) (scenarios : List Scenario) (cubes : List (List Literal)) where
-    -- cubes of what earlier processes pass on stay cubes of it
+    -- cubes of what processes up to the place pass on by the one rows are cubes of what they pass on by the others
     pub passed_cubes : (processes : List ℕ) → ((q : ℕ) → Contains processes q → place order q ≤ bound) →
         AreCubesOf k scenarios (passed_by g rows processes) cubes →
         AreCubesOf k scenarios (passed_by g others processes) cubes
@@ -29,7 +29,7 @@ module _ (g : Graph) (order : List ℕ) (topological : IsTopological g order) (r
           (are.each i d l);
     }
 
-    -- cubes of what items of earlier processes leave stay cubes of it
+    -- the cubes of what items from processes up to the place leave in queues are the same by both lists of rows
     pub queued_cubes : (items : List ℕ) → ((y : ℕ) → Contains items y → place order (producer g y) ≤ bound) →
         AreCubesOf k scenarios (queued_by g order rows items) cubes →
         AreCubesOf k scenarios (queued_by g order others items) cubes
@@ -42,7 +42,7 @@ module _ (g : Graph) (order : List ℕ) (topological : IsTopological g order) (r
           (are.each i d l);
     }
 
-  -- cubes of what is carried at the ends of a process stay cubes of it
+  -- the cubes of what is carried at the ends of a process up to the place are the same by both lists of rows
   pub ends_cubes : (scenarios : List Scenario) (p : ℕ) (cubes : List (List Literal)) → place order p ≤ bound →
       AreEndsOf g order rows scenarios p cubes →
       AreEndsOf g order others scenarios p cubes

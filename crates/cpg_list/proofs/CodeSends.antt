@@ -1,4 +1,4 @@
--- One scenario of a send: what it adds to the queue, and the entry of the send.
+-- One scenario of a send: what the item leaves in the queue, and what is carried beside its time.
 use Rattle.std.proofs.Common.{◌≡◌, ◌∙◌, ℕ, ◌+◌, ◌-◌, ◌<◌, ◌≤◌, Bool, true, false, not, ◌&&◌, if◌then◌else◌, List, []}
 use Rattle.std.proofs.Common.{◌∷◌, ◌++◌, length, get_or, map, flat_map, Contains, Option, Some, None, is_some}
 use Rattle.std.proofs.Common.{option_to_list, arith, sym, ap, ap₂, inl, inr, subst}
@@ -41,7 +41,7 @@ module _ (g : Graph) (p x : ℕ) (queued : Contains (queue_of g p) x) where
 
 -- ---- the value that decides whether it is sent
 
--- if a message is sent for one value only, the condition of its source decides whether it is sent
+-- if the edge of a message has a `when`, the condition of its source decides whether it is sent
 pub value_of : (g : Graph) (x e p : ℕ) → item_at g x ≡ Message e → source g e ≡ p → is_some (edge_at g e).when ≡ true →
     (o : Option ℕ) → condition_of g p ≡ o →
     IsSentValue g x o
@@ -51,6 +51,7 @@ value_of g x e p at from on o is =
     ap (λ r. map value_variable (option_to_list r)) is in
     by_option o is v
   where
+    -- by whether the source has a condition: without one no value decides
     by_option : (o : Option ℕ) → condition_of g p ≡ o →
         sent_value g (item_at g x) ≡ map value_variable (option_to_list o) →
         IsSentValue g x o
@@ -60,7 +61,7 @@ value_of g x e p at from on o is =
 -- ---- what it leaves in the queue
 
 module _ (g : Graph) (s : Scenario) (p x : ℕ) (by : producer g x ≡ p) (ends : List Literal) where
-  -- what is left of an item in the queue, by whether the process and the item are active
+  -- what the item x leaves in the queue, by whether p is active (`acts`), and whether x is sent and isn't frozen (`is_free`)
   left : (acts is_free : Bool) → active g s.values p ≡ acts →
       (item_active g s.values (item_at g x) && not (is_frozen g x)) ≡ is_free
       → queued_after g s x ends ≡ decided g s p ++ (if acts then sent_by_value g s x else [])
@@ -81,7 +82,7 @@ module _ (g : Graph) (s : Scenario) (p x : ℕ) (by : producer g x ≡ p) (ends 
   left_skipped a i =
       left true false a (ap (λ b. b && not (is_frozen g x)) i) ∙ append-nil (decided g s p ++ sent_by_value g s x)
 
-  -- so does a frozen item that is sent
+  -- a frozen item that is sent leaves only what decides its producer and the value by which it is sent
   pub left_frozen : active g s.values p ≡ true → item_active g s.values (item_at g x) ≡ true → is_frozen g x ≡ true →
       queued_after g s x ends ≡ decided g s p ++ sent_by_value g s x
   left_frozen a i f =
@@ -104,7 +105,7 @@ module _ (g : Graph) (s : Scenario) (p x : ℕ) (by : producer g x ≡ p) (ends 
   sends_plain queue f =
       ap (λ ls. ls ++ sent_by_value g s x) (cond-false (is_frozen g x) (decided g s (producer g x)) (queue ++ ends) f)
 
--- if what decides the producer is carried at its end already
+-- if the literals `ds` are among `es`, a cube narrowed by `es` and `vs` is narrowed by `ds`, `vs` and `es`
 pub end_with_value : (k : ℕ) (ds vs es a b : List Literal) → Within ds es → IsNarrowed k (es ++ vs) a b →
     IsNarrowed k (ds ++ vs ++ es) a b
 end_with_value k ds vs es a b in_ends is = narrowed_same k (es ++ vs) (ds ++ vs ++ es) a b
@@ -124,7 +125,7 @@ end_with_value k ds vs es a b in_ends is = narrowed_same k (es ++ vs) (ds ++ vs 
 
 module _ (g : Graph) (order : List ℕ) (rows : List (List Column)) (s : Scenario) (p x : ℕ)
     (queued_here : Contains (queue_of g p) x) where
-  -- the literals beside a send in a row are those that the queue and the producer's end give
+  -- what is carried beside the item x is `send_after` of what the queue before it leaves and what is carried at the end of p
   pub carried_send : carried g order rows s x
       ≡ send_after g s x (queued_by g order rows (queued_before g order x) s) (carried_at_end g order rows s p)
   carried_send = let q = in_queue g p x queued_here in elim (item_cases g x q.within) [
@@ -135,11 +136,11 @@ module _ (g : Graph) (order : List ℕ) (rows : List (List Column)) (s : Scenari
         send_after g s x (queued_by g order rows (queued_before g order x) s) (carried_at_end g order rows s r)) q.by
   ]
 
-  -- the literals that an item leaves are those that the producer's end gives
+  -- what the item x leaves in the queue is `queued_after` of what is carried at the end of p
   pub queued_is : queued g order rows s x ≡ queued_after g s x (carried_at_end g order rows s p)
   queued_is = ap (λ r. queued_after g s x (carried_at_end g order rows s r)) (in_queue g p x queued_here).by
 
--- what decides a process is carried at its end
+-- what decides a process is carried at its end: it is part of what is carried at the start, frozen or not
 pub decided_at_end : (g : Graph) (order : List ℕ) (rows : List (List Column)) (s : Scenario) (p : ℕ) →
     Within (decided g s p) (carried_at_end g order rows s p)
 decided_at_end g order rows s p l j = Contains-append_left (carried_at_start g order rows s p) (number_known s p ∷ []) l
@@ -154,7 +155,7 @@ decided_at_end g order rows s p l j = Contains-append_left (carried_at_start g o
           (Contains-append_right (flat_map (passed g rows s) (before_on_node g order p)) (decided g s p) l j)))
     ])
 
--- the cube of a scenario among the ends of a process is that of its end there
+-- the cube at the place n of the ends of p is that of its end in the n-th scenario
 pub end_here : (g : Graph) (order : List ℕ) (rows : List (List Column)) (scenarios : List Scenario) (p : ℕ)
     (cubes : List (List Literal)) →
     AreEndsOf g order rows scenarios p cubes

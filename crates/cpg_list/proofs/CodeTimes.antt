@@ -1,4 +1,4 @@
--- Finding a column by its time.
+-- The search of a column by its time: it goes from the first entry of the time on, and finds a column if one matches.
 use Rattle.std.proofs.Common.{◌≡◌, ◌≢◌, ◌∙◌, ℕ, ◌+◌, ◌<◌, ◌≤◌, false, List, [], ◌∷◌, ◌++◌, length, length-append}
 use Rattle.std.proofs.Common.{get_or, IsPermutation, None, arith, sym, ap, inl, inr, subst}
 use Rattle.std.proofs.lemmas.Bool.{cases_lt}
@@ -13,17 +13,19 @@ use Rattle.cpg_cube.specs.Cube.{matches}
 use Rattle.cpg_cube.specs.declared.column.Column.{Column}
 use Rattle.cpg_list.specs.TimeOrder.{TimedColumn, IsTimeOrder, StartsAt, FindsHit}
 
--- those from the first on and before a place have the time, and their columns don't match
+-- the entries from `first` on and before `at` all have the time, and their columns don't match
 abbrev pub ArePassed : List Column → List TimedColumn → ℕ → Scenario → ℕ → ℕ → Type 0
 ArePassed columns by_time time s first at =
     (i : ℕ) (d : TimedColumn) (c : Column) → first ≤ i → i < at → ((get_or by_time i d).time ≡ time) ×
     (matches (get_or columns (get_or by_time i d).place c).cube s ≡ false)
 
--- a search of a time order that started at the first place of a time and passed columns that don't match
+-- given the entries of a row by time, and a search that began at `first`, the first entry of the time, and has passed those
+-- before `at`
 module _ (columns : List Column) (by_time : List TimedColumn) (is : IsTimeOrder columns by_time) (time : ℕ)
     (s : Scenario) (first : ℕ) (starts : StartsAt by_time time first) (at : ℕ)
     (passed : ArePassed columns by_time time s first at) where
-  -- if no column from the place on has the time, none is found
+  -- If no entry from `at` on has the time, no column of the time matches: each has an entry, which is before `first` and earlier,
+  -- or was passed, or comes later and has another time.
   missed : ((i : ℕ) (d : TimedColumn) → at ≤ i → i < length by_time → (get_or by_time i d).time ≡ time → ⊥) →
       FindsHit columns time s None
   missed later k c l same =
@@ -58,7 +60,7 @@ module _ (columns : List Column) (by_time : List TimedColumn) (is : IsTimeOrder 
 
 -- ---- the times of columns, sorted
 
--- each of the first n columns has its time and place
+-- `made` has the time and place of each of the first n columns, in the order of the row
 pub record AreTimes (columns : List Column) (n : ℕ) (made : List TimedColumn) : Type 0 where
   pub count : length made ≡ n
   pub each : (i : ℕ) (d : TimedColumn) (c : Column) → i < n →
@@ -66,8 +68,7 @@ pub record AreTimes (columns : List Column) (n : ℕ) (made : List TimedColumn) 
 
 -- given the columns of a row
 module _ (columns : List Column) where
-  -- With the next column's time and place, the times are those of one column more.
-  -- `is`, `time`, `place` say that the next entry is added, with the column's time and place.
+  -- If t, the time and place of the n-th column x, is added, `next` has those of the first n + 1 columns.
   pub one_timed : (n : ℕ) (made next : List TimedColumn) (x : Column) (t : TimedColumn) → n < length columns →
       AreTimes columns n made → x ≡ get_or columns n x →
       next ≡ made ++ t ∷ [] →
@@ -90,14 +91,15 @@ module _ (columns : List Column) where
         ]);
   }
 
-  -- Sorted by time, they are the columns in time order.
-  -- Sorting only changes the order, so each entry is still one of a column, and each column has its entry.
+  -- The times and places of all columns, sorted by time, are the columns in time order. Sorting only changes the order, so each
+  -- entry is still one of a column, and each column has its entry.
   pub time_order : (made sorted : List TimedColumn) → AreTimes columns (length columns) made →
       IsPermutation made sorted →
       IsNonDecreasingBy (λ (t : TimedColumn). t.time) sorted
       → IsTimeOrder columns sorted
   time_order made sorted are same up = record {
     rising = λ i j d h l. up i j d h l;
+    -- an entry of the sorted list is one of the list before, which has a column's time and place
     each = λ i d c l.
         let x = get_or sorted i d in
         let r =
@@ -107,6 +109,7 @@ module _ (columns : List Column) where
           omega (arith, place, r.1, are.count),
           ap (λ (k : ℕ). (get_or columns k c).time) place ∙ sym e.1 ∙ ap (λ (t : TimedColumn). t.time) r.2,
         );
+    -- the entry of column k is somewhere in the sorted list
     all = λ k c l.
         let blank : TimedColumn = record { time = 0; place = 0 } in
         let y = get_or made k blank in
@@ -121,7 +124,7 @@ module _ (columns : List Column) where
         );
   }
 
--- with one more column of the time that doesn't match, the search has passed one place more
+-- if the entry at `at` has the time and its column y doesn't match, the search has passed one entry more
 pub passed_more : (columns : List Column) (by_time : List TimedColumn) (time : ℕ) (s : Scenario) (first at : ℕ) →
     ArePassed columns by_time time s first at → (x : TimedColumn) →
     at < length by_time →

@@ -1,4 +1,4 @@
--- The literals of the column that matches, and cubes that are narrowed by one list of literals after another.
+-- The literals of the column of a row that matches, and cubes that are narrowed by the literals of one element after another.
 use Rattle.std.proofs.Common.{◌≡◌, ◌≢◌, ◌∙◌, ℕ, ◌+◌, ◌<◌, ◌≤◌, true, false, List, [], ◌∷◌, ◌++◌, length, get_or, take}
 use Rattle.std.proofs.Common.{map, filter, flat_map, Contains, arith, refl, sym, ap, subst, eq-eqb, ne_eqb}
 use Rattle.std.proofs.lemmas.Bool.{both_ways, cond-true, cond-false}
@@ -34,7 +34,7 @@ module _ (columns : List Column) (s : Scenario) where
   told_none e = ap (flat_map (λ (c : Column). c.cube))
       (no_element (λ (c : Column). c.time) (filter (λ (c : Column). matches c.cube s) columns) e)
 
-  -- the literals that are carried don't go past the top
+  -- none of the literals that are carried has a high past the greatest number of its variable, as none of the row has
   pub told_highs : (k : ℕ) → AreWithin k columns → (l : Literal) → Contains (carried_in_columns columns s) l →
       l.high ≤ top k l.variable
   told_highs k within l j =
@@ -46,7 +46,7 @@ module _ (columns : List Column) (s : Scenario) where
       (get_or c.cube i d).high ≤ top k (get_or c.cube i d).variable) columns r.0 within q.0) r.2
 
   module _ (time : ℕ) (one : times_in columns s ≡ time ∷ []) where
-    -- a column that matches carries its own literals, and no other does
+    -- if only one column matches, what is carried are its literals
     pub told_found : (i : ℕ) (c : Column) → i < length columns → c ≡ get_or columns i c → matches c.cube s ≡ true →
         carried_in_columns columns s ≡ c.cube
     told_found i c l is hit =
@@ -55,7 +55,7 @@ module _ (columns : List Column) (s : Scenario) where
         ap (flat_map (λ (c : Column). c.cube))
         (the_one f c (omega (arith, length-map f (λ (c : Column). c.time), ap length one)) k) ∙ append-nil c.cube
 
-    -- if an item has a time, some column of that time matches
+    -- if the columns that match have just one time, it can't be that no column of that time matches
     pub told_missing : ((k : ℕ) (c : Column) → k < length columns → (get_or columns k c).time ≡ time →
         matches (get_or columns k c).cube s ≡ false) → ⊥
     told_missing none =
@@ -69,14 +69,15 @@ module _ (columns : List Column) (s : Scenario) where
 -- ---- narrowing by one list after another
 
 module _ (k : ℕ) (a b c : List Literal) where
-  -- with the next element's literal, the cube is narrowed by those of one element more
+  -- a cube narrowed by the literals of the first i elements, and then by that of the next, is narrowed by those of i + 1
   pub narrowed_map : (f : ℕ → Literal) (xs : List ℕ) (i d : ℕ) → i < length xs → IsNarrowed k (map f (take i xs)) a b →
       IsNarrowed k (f (get_or xs i d) ∷ []) b c →
       IsNarrowed k (map f (take (i + 1) xs)) a c
   narrowed_map f xs i d l first then = subst (λ ls. IsNarrowed k ls a c) (sym (map_more f xs i d l))
       (narrowed_then k (map f (take i xs)) (f (get_or xs i d) ∷ []) a b c first then)
 
-  -- with the next element's literals, the cube is narrowed by those of one element more
+  -- a cube narrowed by the lists of literals of the first i elements, and then by that of the next, is narrowed by those of
+  -- i + 1
   pub narrowed_flat_map : (f : ℕ → List Literal) (xs : List ℕ) (i d : ℕ) → i < length xs →
       IsNarrowed k (flat_map f (take i xs)) a b →
       IsNarrowed k (f (get_or xs i d)) b c →
@@ -88,13 +89,13 @@ module _ (k : ℕ) (a b c : List Literal) where
       subst (λ ls. IsNarrowed k ls a c) (sym e)
       (narrowed_then k (flat_map f (take i xs)) (f (get_or xs i d)) a b c first then)
 
--- lists over the same elements
+-- given two lists, each element of the first of which is in the second
 module _ (xs ys : List ℕ) (to : (x : ℕ) → Contains xs x → Contains ys x) where
-  -- the literals of some elements are among those of more elements
+  -- the literals of the first list's elements are among those of the second's
   pub within_map : (f : ℕ → Literal) → Within (map f xs) (map f ys)
   within_map f l j = let r = Contains-map_parts f xs l j in
       subst (Contains (map f ys)) r.2 (Contains-map f ys r.0 (to r.0 r.1))
 
-  -- the lists of literals of some elements are among those of more elements
+  -- the lists of literals of the first list's elements are within those of the second's
   pub within_flat_map : (f : ℕ → List Literal) → Within (flat_map f xs) (flat_map f ys)
   within_flat_map f l j = let r = Contains-flat_map_parts f xs l j in Contains-flat_map f ys r.0 l (to r.0 r.1) r.2

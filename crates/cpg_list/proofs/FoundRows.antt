@@ -1,4 +1,4 @@
--- Rows of listed scenarios are rows that a builder finds.
+-- The rows of merged entries are found rows.
 use Rattle.std.specs.Prelude.{ℕ, ◌≡◌, List, Option}
 use Rattle.cpg_base.specs.Numbers.{numbers_below}
 use Rattle.cpg_base.specs.Graph.{Graph, item_count}
@@ -10,7 +10,8 @@ use Rattle.cpg_run.specs.RowLaws.{IsTimed}
 use Rattle.cpg_run.specs.Rows.{AreRows}
 use Rattle.cpg_run.proofs.ListedRows.{listed_rows_carry}
 
--- rows of all items, by the entries of all scenarios, are the rows that a builder has to find
+-- the rows of merged entries of all items, with the frozen times, are what a builder has to find: by `listed_rows_carry` a
+-- column says no more than is carried
 pub found_rows : (g : Graph) (urgency order : List ℕ) (frozen : List (Option ℕ)) (rows : List Row) →
     IsTimed g urgency order frozen → AreEarly frozen →
     items_of rows ≡ numbers_below (item_count g) →

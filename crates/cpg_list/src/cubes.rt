@@ -1,4 +1,4 @@
-//! Cubes narrowed by literals.
+//! Narrows cubes by literals.
 ghost use Rattle.std.specs.Prelude.{◌≡◌, ◌++◌, ◌∷◌, [], ℕ, List, OnOk};
 ghost use Rattle.cpg_base.specs.Scenario.{IsScenario};
 ghost use Rattle.cpg_cube.specs.Cube.{IsRising};
@@ -11,7 +11,7 @@ use cpg_base::{OutOfMemory, Problem, Scenario};
 use cpg_cube::{Cube, Literal};
 use std::alloc::Global;
 
-/// What the ranges of two literals on one variable have in common.
+/// Returns the literal of the numbers that two literals on one variable both allow.
 fn both(literal: Literal, other: Literal) -> Literal
     ensures { result ≡ meet_literal literal other }
 {
@@ -22,7 +22,7 @@ fn both(literal: Literal, other: Literal) -> Literal
     }
 }
 
-/// Adds literals on variables above all others.
+/// Adds literals to a cube, in the order of their variables, which are above those of the cube.
 fn push_all(cube: &mut Cube, literals: &[Literal]) -> Result<(), OutOfMemory>
     requires { IsRising (cube.old ++ literals.now) }
     ensures { OnOk result (cube.new ≡ cube.old ++ literals.now) }
@@ -33,7 +33,8 @@ fn push_all(cube: &mut Cube, literals: &[Literal]) -> Result<(), OutOfMemory>
     Ok(())
 }
 
-/// Adds the literals of two cubes, those on one variable met.
+/// Adds to `cube` the literals of two cubes, in the order of their variables; of two on one variable it adds what both
+/// allow.
 fn push_met(cube: &mut Cube, first: &[Literal], second: &[Literal]) -> Result<(), OutOfMemory>
     requires first { IsRising first.now }
     requires second { IsRising second.now }
@@ -43,7 +44,7 @@ fn push_met(cube: &mut Cube, first: &[Literal], second: &[Literal]) -> Result<()
     let mut ones = first;
     let mut others = second;
     loop {
-        // one of the cubes is used up: the rest of the other follows as it is
+        // if one cube is used up, the rest of the other follows as it is
         let Some((one, ones_left)) = ones.split_first() else {
             push_all(cube, others)?;
             return Ok(());
@@ -52,7 +53,7 @@ fn push_met(cube: &mut Cube, first: &[Literal], second: &[Literal]) -> Result<()
             push_all(cube, ones)?;
             return Ok(());
         };
-        // the literal on the lower variable comes first, and two on one variable are met
+        // the literal on the lower variable comes first
         if one.variable < other.variable {
             cube.push(*one)?;
             ones = ones_left;
@@ -67,7 +68,7 @@ fn push_met(cube: &mut Cube, first: &[Literal], second: &[Literal]) -> Result<()
     }
 }
 
-/// Narrows a cube by the literals of another.
+/// Narrows a cube by literals in the order of their variables, such as those of another cube.
 pub(crate) fn narrow(
     alloc: Global,
     cube: &mut Cube,
@@ -105,7 +106,7 @@ pub(crate) fn narrow_to_number(
     Ok(())
 }
 
-/// Narrows a cube by another that is one of some literals.
+/// Narrows a cube by another one.
 pub(crate) fn narrow_by_cube(
     alloc: Global,
     other: &Cube,

@@ -1,4 +1,4 @@
-//! The rows of items.
+//! The rows of items, by number.
 ghost use Rattle.std.specs.Prelude.{◌≡◌, ◌<◌, [], IfOk, length, map};
 ghost use Rattle.cpg_base.specs.Numbers.{numbers_below};
 ghost use Rattle.cpg_base.specs.Graph.{item_count};
@@ -9,7 +9,7 @@ use crate::timed::TimedRow;
 use cpg_base::{OutOfMemory, Problem};
 use std::alloc::Global;
 
-/// The row of an item.
+/// Returns the row of an item, which is at the place of its number.
 pub(crate) fn row_of(rows: &[TimedRow], item: u32) -> &TimedRow
     requires { item < length rows.now }
     ensures { result.now.columns ≡ row_at (columns_of_rows rows.now) item }
@@ -17,7 +17,7 @@ pub(crate) fn row_of(rows: &[TimedRow], item: u32) -> &TimedRow
     &rows[item as usize]
 }
 
-/// A row without columns for each item.
+/// Returns a row without columns for each item of a graph.
 pub(crate) fn empty_rows(alloc: Global, problem: &Problem) -> Result<Vec<TimedRow>, OutOfMemory>
     ensures { IfOk result (λ rows. rows.items ≡ map (λ x. record { item = x; columns = [] }) (numbers_below (item_count problem.now))) }
 {

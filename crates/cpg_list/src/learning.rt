@@ -1,4 +1,5 @@
-//! Cubes narrowed by what a node learns in a scenario: of what decides its processes, and from the frames that it hears.
+//! Narrows cubes by what a node learns in a scenario: of what decides its processes, and from the frames that it hears.
+//! Throughout, `hints` says for each item where the search of its row begins, and notes where it ended.
 ghost use Rattle.std.specs.Prelude.{◌≡◌, ◌<◌, ◌==◌, ◌&&◌, ◌∷◌, [], ℕ, Contains, IfOk, OnOk, map, position};
 ghost use Rattle.std.specs.List.{flat_map};
 ghost use Rattle.std.specs.Option.{option_to_list};
@@ -22,17 +23,22 @@ use cpg_rules::Admitted;
 use cpg_run::RunTimes;
 use std::alloc::Global;
 
-/// What frames carry in a scenario, by the rows that are made so far and the scenario's run.
+/// A scenario with its run, and the rows made so far, which tell the literals that frames carry in it.
 #[derive(Clone, Copy)]
 pub(crate) struct Frames<'a> {
+    /// The graph.
     pub(crate) problem: &'a Problem,
+    /// The plan of the graph.
     pub(crate) plan: &'a Plan,
+    /// The row of each item, without columns if it isn't made yet.
     pub(crate) rows: &'a [TimedRow],
+    /// The scenario that literals are learnt in.
     pub(crate) scenario: &'a Scenario,
+    /// The run of the scenario.
     pub(crate) times: &'a RunTimes,
 }
 
-/// The conditions that decide a process.
+/// Returns the conditions that decide a process in a scenario.
 pub(crate) fn deciding(
     alloc: Global,
     admitted: &Admitted,
@@ -50,7 +56,7 @@ pub(crate) fn deciding(
     Ok(conditions)
 }
 
-/// Narrows a cube by the value of a condition.
+/// Narrows a cube by the value that a condition has in a scenario.
 pub(crate) fn narrow_by_value(
     alloc: Global,
     problem: &Problem,
@@ -62,6 +68,7 @@ pub(crate) fn narrow_by_value(
     requires condition { condition < condition_count problem.now }
     ensures { OnOk result (IsNarrowed problem.now.faults (number_known scenario.now (value_variable condition) ∷ []) cube.old cube.new) }
 {
+    // there are at most 32 conditions, so their numbers fit 8 bits, also after `FIRST_VALUE`, which is 128
     let conditions = problem.conditions();
     prove!(condition < conditions);
     narrow_to_number(
@@ -74,7 +81,7 @@ pub(crate) fn narrow_by_value(
     Ok(())
 }
 
-/// Narrows a cube by the values of conditions.
+/// Narrows a cube by the values that these conditions have in a scenario.
 fn narrow_by_values(
     alloc: Global,
     problem: &Problem,
@@ -92,7 +99,7 @@ fn narrow_by_values(
     Ok(())
 }
 
-/// Narrows a cube by the values that decide a process. The contract alone names `process`.
+/// Narrows a cube by the values of the conditions that decide a process. Only the contract names `process`.
 pub(crate) fn narrow_by_decided(
     alloc: Global,
     problem: &Problem,
@@ -109,7 +116,8 @@ pub(crate) fn narrow_by_decided(
     Ok(())
 }
 
-/// Narrows a cube by the column that matches, if there is one, at the time of the item.
+/// Narrows a cube by the column of an item that matches in a scenario, if one does. `time` is the time of the item in the
+/// scenario's run. The search begins at the place that `hints` has for the item, and the place that is found is noted there.
 fn narrow_by_told(
     alloc: Global,
     row: &TimedRow,
@@ -122,10 +130,11 @@ fn narrow_by_told(
     requires { times_in row.now.columns scenario.now ≡ option_to_list time }
     ensures { OnOk result (cube.new ≡ met cube.old (carried_in_columns row.now.columns scenario.now)) }
 {
-    // the item isn't sent in the scenario
+    // an item that isn't sent tells nothing
     let Some(time) = time else {
         return Ok(());
     };
+    // with a time some column matches, so this doesn't return
     let Some(place) = row.find(time, scenario, hints.last(item)) else {
         return Ok(());
     };
@@ -135,7 +144,7 @@ fn narrow_by_told(
     Ok(())
 }
 
-/// Narrows a cube by the literals that the frame of an item carries.
+/// Narrows a cube by the literals that the frame of an item carries, if the item is sent.
 fn narrow_by_frame(
     alloc: Global,
     frames: &Frames<'_>,
@@ -152,7 +161,7 @@ fn narrow_by_frame(
     Ok(())
 }
 
-/// Narrows a cube by what a node hears of a condition.
+/// Narrows a cube by the literals that a node hears with the broadcast of a condition.
 fn narrow_by_condition(
     alloc: Global,
     frames: &Frames<'_>,
@@ -166,7 +175,7 @@ fn narrow_by_condition(
     ensures { OnOk result (IsNarrowedIn frames.now (heard_in frames.now node condition) cube.old cube.new) }
 {
     let problem = frames.problem;
-    // the node computes the condition itself, so it hears no frame
+    // a node hears no frame of its own condition, so there is nothing to narrow by
     if problem.node_of(problem.process_of(condition)) == node {
         return Ok(());
     }
@@ -175,7 +184,7 @@ fn narrow_by_condition(
     Ok(())
 }
 
-/// Narrows a cube by what a node hears of conditions.
+/// Narrows a cube by the literals that a node hears with the broadcasts of these conditions.
 fn narrow_by_conditions(
     alloc: Global,
     frames: &Frames<'_>,
@@ -194,7 +203,8 @@ fn narrow_by_conditions(
     Ok(())
 }
 
-/// Narrows a cube by the literals that the broadcasts of the conditions that decide a process carry.
+/// Narrows a cube by the literals that the node of a process hears with the broadcasts of the conditions that decide the
+/// process.
 pub(crate) fn narrow_by_heard(
     alloc: Global,
     frames: &Frames<'_>,
@@ -213,7 +223,7 @@ pub(crate) fn narrow_by_heard(
     Ok(())
 }
 
-/// Narrows a cube by the literals that an input carries.
+/// Narrows a cube by the literals that come with an edge, if it is a message.
 fn narrow_by_input(
     alloc: Global,
     frames: &Frames<'_>,
@@ -226,7 +236,7 @@ fn narrow_by_input(
     ensures { OnOk result (IsNarrowedIn frames.now (received_in frames.now edge) cube.old cube.new) }
 {
     let problem = frames.problem;
-    // the edge stays on one node, so no frame carries it
+    // an edge within a node is carried by no frame
     if !problem.is_message(edge) {
         return Ok(());
     }
@@ -235,7 +245,7 @@ fn narrow_by_input(
     Ok(())
 }
 
-/// Narrows a cube by the literals that inputs carry.
+/// Narrows a cube by the literals that come with these edges.
 fn narrow_by_inputs(
     alloc: Global,
     frames: &Frames<'_>,
@@ -253,7 +263,7 @@ fn narrow_by_inputs(
     Ok(())
 }
 
-/// Narrows a cube by the literals that the messages to a process carry.
+/// Narrows a cube by the literals that come with the messages to a process.
 pub(crate) fn narrow_by_received(
     alloc: Global,
     frames: &Frames<'_>,

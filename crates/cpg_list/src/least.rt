@@ -1,4 +1,4 @@
-//! Whether a scenario is the least of a cube.
+//! Whether a scenario is the least that a cube matches: each entry is taken once, in that scenario.
 ghost use Rattle.std.specs.Prelude.{◌≡◌, ◌<◌, ◌≤◌, ◌↔◌, ◌++◌, ℕ, IsTrue, IfOk, OnOk};
 ghost use Rattle.std.specs.Option.{option_to_list};
 ghost use Rattle.cpg_base.specs.Scenario.{IsScenario, number_of};
@@ -9,7 +9,7 @@ ghost use Rattle.cpg_list.specs.Narrowing.{from_variable, front_low, as_number, 
 use cpg_base::{FIRST_VALUE, OutOfMemory, Problem, Scenario};
 use cpg_cube::{Column, Cube, Literal};
 
-/// The literals on a variable and on those above.
+/// Returns the literals from the first on whose variable is `variable` or above.
 fn from_variable(variable: u8, literals: &[Literal]) -> &[Literal]
     ensures { result.now ≡ from_variable variable literals.now }
 {
@@ -19,7 +19,7 @@ fn from_variable(variable: u8, literals: &[Literal]) -> &[Literal]
     }
 }
 
-/// The least number of a variable that the first literal allows, if it is on the variable.
+/// Returns the low of the first literal if it is on the variable, and 0 otherwise.
 fn front_low(variable: u8, literals: &[Literal]) -> u8
     ensures { result ≡ front_low variable literals.now }
 {
@@ -29,7 +29,7 @@ fn front_low(variable: u8, literals: &[Literal]) -> u8
     }
 }
 
-/// A low as the number of a variable.
+/// Returns a low as a number that the variable can have: a fault count as it is, and a value as 0 or 1.
 fn as_number(variable: u8, low: u8) -> u8
     ensures { result ≡ as_number variable low }
 {
@@ -40,12 +40,13 @@ fn as_number(variable: u8, low: u8) -> u8
     }
 }
 
-/// Whether each of the variables from `first` up to `end`, which it leaves out, has in a scenario the least number that
-/// the literals allow.
+/// Whether each variable from `first` on and below `end` has in a scenario the least number that the literals allow.
 fn has_lows(scenario: &Scenario, literals: &[Literal], first: u8, end: u8) -> bool
     requires { IsRising literals.now }
     ensures { IsTrue result ↔ ((v : ℕ) → first ≤ v → v < end → number_of scenario.now v ≡ as_number v (low_in literals.now v)) }
 {
+    // the literals are in the order of their variables, so one walk down them is enough: what is below `variable` is
+    // passed for good
     let mut rest = literals;
     for variable in first..end {
         rest = from_variable(variable, rest);
@@ -56,14 +57,15 @@ fn has_lows(scenario: &Scenario, literals: &[Literal], first: u8, end: u8) -> bo
     true
 }
 
-/// Whether a scenario is the least of a cube.
+/// Whether a scenario has the least number of each variable that a cube allows.
 fn is_least(problem: &Problem, cube: &Cube, scenario: &Scenario) -> bool
     requires { IsScenario problem.now scenario.now }
     ensures { IsTrue result ↔ (lows problem.now cube.now ≡ scenario.now) }
 {
     let literals = cube.literals();
+    // there are at most 128 processes and 32 conditions, so these casts fit
     let processes = problem.processes().len() as u8;
-    // the counts of faults first, and then the values of the conditions
+    // the fault counts of the processes first, and then the values of the conditions
     if !has_lows(scenario, literals, 0, processes) {
         return false;
     }
@@ -71,7 +73,7 @@ fn is_least(problem: &Problem, cube: &Cube, scenario: &Scenario) -> bool
     has_lows(scenario, literals, FIRST_VALUE, end)
 }
 
-/// The entry of a time and a cube, if a scenario is the least of the cube.
+/// Returns the entry of a time and a cube, or `None` if the scenario isn't the least of the cube.
 pub(crate) fn kept(
     problem: &Problem,
     scenario: &Scenario,
@@ -88,7 +90,7 @@ pub(crate) fn kept(
     Ok(Some(Column { time, cube }))
 }
 
-/// Adds an entry, if there is one.
+/// Adds an entry to `entries`, if there is one.
 pub(crate) fn push_entry(
     entries: &mut Vec<Column>,
     entry: Option<Column>,

@@ -1,5 +1,5 @@
-//! Tables by going over all scenarios of a graph: the rows of all items, with the literals beside each time from which
-//! it was computed.
+//! Builds tables by going over all scenarios of a graph: the rows of all items, with the literals beside each time that tell
+//! from which numbers it was computed.
 #![tactic(auto)]
 
 mod cubes;

@@ -1,4 +1,4 @@
-//! From an order to what a builder answers, by going over all scenarios.
+//! Builds the tables of a graph under an order, by going over all scenarios.
 ghost use Rattle.std.specs.Prelude.{◌≡◌, ◌≤◌, IfOk, IfErr, length};
 ghost use Rattle.cpg_order.specs.Urgency.{IsTopological};
 ghost use Rattle.cpg_order.specs.Scenario.{scenarios};
@@ -21,7 +21,7 @@ use cpg_run::{BuildFault, Built, FrozenTimes, RunTimes};
 use cpg_table::{Tables, tables_of};
 use std::alloc::Global;
 
-/// The tables of the rows of all items, given all scenarios and their runs.
+/// Returns the tables of the rows of all items, given all scenarios and their runs.
 fn tables(
     alloc: Global,
     admitted: &Admitted,
@@ -46,7 +46,7 @@ fn tables(
     Ok(tables)
 }
 
-/// The tables with the greatest finish and the greatest excess of all runs. The contract alone names `order`.
+/// Returns the tables with the greatest finish and the greatest excess of all runs. Only the contract names `order`.
 fn measured(
     alloc: Global,
     admitted: &Admitted,
@@ -78,7 +78,7 @@ fn measured(
     })
 }
 
-/// The tables and measures of all scenarios.
+/// Returns what `build` does, given all scenarios and the graph's plan.
 fn swept(
     alloc: Global,
     admitted: &Admitted,
@@ -103,7 +103,7 @@ fn swept(
     measured(alloc, admitted, order, frozen, tables, scenarios, runs)
 }
 
-/// The tables and measures under an order in which no item is too wide.
+/// Returns the tables, the greatest finish and the greatest excess under an order in which no item is too wide.
 fn build(alloc: Global, admitted: &Admitted, order: &Order) -> Result<Built, OutOfMemory>
     requires topological { IsTopological admitted.now.graph order.now }
     requires few { length (scenarios admitted.now.graph) ≤ MOST_SCENARIOS }
@@ -116,9 +116,9 @@ fn build(alloc: Global, admitted: &Admitted, order: &Order) -> Result<Built, Out
     swept(alloc, admitted, order, &plan, scenarios.as_slice())
 }
 
-/// The exact tables of a graph of at most 16,384 scenarios under an order, with the frozen times and, in time units, the
-/// greatest finish and the greatest excess of all runs, each with its first scenario by the urgency order. `TooWide` shows
-/// the least item whose row would have too many columns, before any scenario is listed.
+/// Returns the exact tables of a graph of at most 16,384 scenarios under an order, with the frozen times and, in time units,
+/// the greatest finish and the greatest excess of all runs, each with its least scenario by the urgency order. The error is
+/// `TooWide` with the least item that is too wide, if there is one.
 pub fn list(alloc: Global, admitted: &Admitted, order: &Order) -> Result<Built, BuildFault>
     requires topological { IsTopological admitted.now.graph order.now }
     requires few { length (scenarios admitted.now.graph) ≤ MOST_SCENARIOS }
@@ -126,6 +126,7 @@ pub fn list(alloc: Global, admitted: &Admitted, order: &Order) -> Result<Built, 
     ensures narrow { IfOk result (λ _. IsNarrow admitted.now.graph order.now) }
     ensures fault { IfErr result (ShowsBuildFault (IsLeastWide admitted.now.graph order.now)) }
 {
+    // this is asked before any scenario is listed
     if let Some(item) = too_wide(alloc, admitted, order)? {
         return Err(BuildFault::TooWide(item));
     }

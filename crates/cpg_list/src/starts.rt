@@ -22,7 +22,8 @@ use cpg_cube::{Column, Cube};
 use cpg_rules::Admitted;
 use std::alloc::Global;
 
-/// The entry of the start of a frozen process, if the scenario is the least of the cube of what decides the process.
+/// Returns the entry of the start of a frozen process at `time`: only what decides the process is carried there. `None`
+/// exactly if the scenario isn't the least of the entry's cube.
 fn frozen_start(
     alloc: Global,
     problem: &Problem,
@@ -41,9 +42,9 @@ fn frozen_start(
     Ok(entry)
 }
 
-/// The entry of the start of an active process, if the scenario is the least of the cube carried there. What the node has
-/// carried before, and learnt of what decides the process, is narrowed by what the messages to it told, but for a frozen
-/// process.
+/// Returns the entry of the start of an active process at `time`, or `None` if the scenario isn't the least of its cube.
+/// `cube` is that of what the node has carried on and learnt of what decides the process. Unless the process is frozen, it
+/// is narrowed by what the messages to the process told.
 fn started(
     alloc: Global,
     frames: &Frames<'_>,
@@ -72,8 +73,9 @@ fn started(
     Ok(entry)
 }
 
-/// The entry of the start of a process in a scenario, if it is active there and the scenario is the least of the cube carried
-/// there. The cube of what its node has carried on is narrowed by what it carries on from the process.
+/// Returns the entry of the start of a process in a scenario, or `None` if the process is inactive or the scenario isn't
+/// the least of the entry's cube. `cube` is that of what the node carries on from earlier processes, and is narrowed by
+/// what it carries on from this one. `hints` says where the search of a row begins.
 fn start_in(
     alloc: Global,
     admitted: &Admitted,
@@ -100,17 +102,19 @@ fn start_in(
     let conditions = conditions.as_slice();
     narrow_by_decided(alloc, problem, scenario, process, conditions, cube)?;
     narrow_by_heard(alloc, frames, hints, process, conditions, cube)?;
-    // the process is idle in the scenario
+    // an inactive process has no time, and leaves only what decides it and what the broadcasts told of that
     let Some(time) = frames.times.time(process) else {
         return Ok(None);
     };
     let entry = started(alloc, frames, hints, time, process, conditions, cube)?;
+    // the variable of a process's fault count is the process's number, which is below 128
     narrow_to_number(alloc, problem, scenario, process as u8, cube)?;
     Ok(entry)
 }
 
-/// The entries of the start of a process, for the scenarios that are the least of the cubes carried there. For each scenario
-/// what its node has carried on is narrowed by what it carries on from the process.
+/// Returns the entries of the start of a process, each found in the least scenario of its cube. `known` has for each
+/// scenario the cube of what the node carries on from earlier processes, and is narrowed by what it carries on from this
+/// one.
 pub(crate) fn start_entries(
     alloc: Global,
     listed: &Listed<'_>,
@@ -129,6 +133,7 @@ pub(crate) fn start_entries(
     let (problem, plan) = (admitted.problem(), listed.plan);
     let mut entries = Vec::new(alloc);
     let mut hints = Hints::new(alloc, rows.len())?;
+    // a cube of `known` belongs to the scenario at the same place
     for at in 0..scenarios.len() {
         let frames = Frames {
             problem,

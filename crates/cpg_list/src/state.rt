@@ -1,4 +1,4 @@
-//! What is carried on by nodes, for each scenario.
+//! What nodes carry on, as a cube for each scenario.
 ghost use Rattle.std.specs.Prelude.{◌≡◌, [], IfOk, replicate, length};
 
 use cpg_base::{OutOfMemory, Problem};
@@ -6,9 +6,10 @@ use cpg_cube::Cube;
 use std::alloc::Global;
 use std::marker::Model;
 
-/// A cube for each scenario, seen as the list of these.
+/// A cube for each scenario, in the order of the scenarios.
 #[derive(Drop)]
 pub(crate) struct Cubes {
+    /// The cube of each scenario.
     pub(crate) cubes: Vec<Cube>,
 }
 
@@ -22,7 +23,7 @@ impl Model for Cubes {
 }
 
 impl Cubes {
-    /// Makes `count` cubes that match every scenario.
+    /// Returns `count` cubes that match every scenario.
     fn whole(alloc: Global, count: usize) -> Result<Cubes, OutOfMemory>
         ensures { IfOk result (λ cubes. cubes ≡ replicate count []) }
     {
@@ -35,7 +36,7 @@ impl Cubes {
     }
 }
 
-/// Makes for each node `count` cubes that match every scenario.
+/// Returns for each node of a graph `count` cubes that match every scenario: at first a node carries nothing on.
 pub(crate) fn whole_by_node(
     alloc: Global,
     problem: &Problem,

@@ -1,4 +1,4 @@
-//! Rows that are searched by time.
+//! Rows whose columns are searched by time.
 ghost use Rattle.std.specs.Prelude.{◌≡◌, ◌<◌, ◌≤◌, ℕ, [], IfOk, IsTrue, Some, get_or, length, map};
 ghost use Rattle.cpg_list.specs.TimeOrder.{TimedColumn, IsTimeOrder, StartsAt, FindsHit};
 
@@ -8,21 +8,26 @@ use cpg_table::Row;
 use std::alloc::Global;
 use std::marker::Model;
 
-/// How many columns are tried before the search by time.
+/// How many columns, from the likely place on, are tried before the search by time.
 const NEAR: usize = 4;
 
 /// The time of a column, and its place in the row.
 #[derive(Clone, Copy, Debug, PartialEq, Eq, PartialOrd, Ord)]
 pub(crate) struct TimedColumn {
+    /// The time of the column. It comes first, so that an earlier time is less.
     pub(crate) time: u64,
+    /// The place of the column in the row's list.
     pub(crate) place: usize,
 }
 
-/// A row with its columns by time too, seen as the row.
+/// The row of an item, which can be searched by time.
 #[derive(Drop)]
 pub(crate) struct TimedRow {
+    /// The number of the item.
     item: u32,
+    /// The columns of the row, in the order of the row.
     columns: Vec<Column>,
+    /// The time and the place of each column, the earlier times first.
     by_time: Vec<TimedColumn>,
 }
 
@@ -34,10 +39,11 @@ impl Model for TimedRow {
 
     ghost view = { λ r. record { item = r.item; columns = r.columns.items } };
 
+    // `by_time` lists just the columns of the row, the earlier times first
     ghost invariant = { λ r. IsTimeOrder r.columns.items r.by_time.items };
 }
 
-/// The first place whose time is no less than this, if the times rise.
+/// Returns the first place of `by_time` whose time is at least `time`, or its length if there is none.
 fn first_at(by_time: &[TimedColumn], time: u64) -> usize
     requires { (i j : ℕ) (d : TimedColumn) → i ≤ j → j < length by_time.now → (get_or by_time.now i d).time ≤ (get_or by_time.now j d).time }
     ensures { StartsAt by_time.now time result }
@@ -45,7 +51,7 @@ fn first_at(by_time: &[TimedColumn], time: u64) -> usize
     by_time.partition_point(|timed| timed.time < time)
 }
 
-/// The times and places of columns, by time.
+/// Returns the time and the place of each column, the earlier times first.
 fn ordered_by_time(alloc: Global, columns: &[Column]) -> Result<Vec<TimedColumn>, OutOfMemory>
     ensures { IfOk result (λ by_time. IsTimeOrder columns.now by_time.items) }
 {
@@ -61,26 +67,27 @@ fn ordered_by_time(alloc: Global, columns: &[Column]) -> Result<Vec<TimedColumn>
     Ok(by_time)
 }
 
-/// The places at which the columns of items matched last, which are tried first.
+/// For each item the place of the column that matched last, at which a search begins. A wrong place costs time only.
 #[derive(Drop)]
 pub(crate) struct Hints {
+    /// The place to begin at, by item; 0 until a column of the item has matched.
     places: Vec<usize>,
 }
 
 impl Hints {
-    /// A place for each item.
+    /// Returns hints for `count` items, with the place 0 for each.
     pub(crate) fn new(alloc: Global, count: usize) -> Result<Hints, OutOfMemory> {
         Ok(Hints {
             places: vec![in alloc; 0usize; count]?,
         })
     }
 
-    /// Where the column of an item matched last.
+    /// Returns the place at which a column of an item matched last, or 0 if none has or the item has no hint.
     pub(crate) fn last(&self, item: u32) -> usize {
         self.places.get(item as usize).copied().unwrap_or(0)
     }
 
-    /// Notes where the column of an item matches.
+    /// Notes the place at which a column of an item matches. An item without a hint is passed over.
     pub(crate) fn note(&mut self, item: u32, place: usize) {
         if (item as usize) < self.places.len() {
             self.places[item as usize] = place;
@@ -88,7 +95,7 @@ impl Hints {
     }
 }
 
-/// Whether the column at a place has a time and matches, if there is one.
+/// Whether there is a column at a place that has this time and matches in a scenario.
 fn is_hit(columns: &[Column], place: usize, time: u64, scenario: &Scenario) -> bool
     ensures { IsTrue result → FindsHit columns.now time scenario.now (Some place) }
 {
@@ -98,7 +105,7 @@ fn is_hit(columns: &[Column], place: usize, time: u64, scenario: &Scenario) -> b
     }
 }
 
-/// The place of a column of a time that matches.
+/// Returns the place of a column that has this time and matches in a scenario, and `None` exactly if there is none.
 fn hit(columns: &[Column], by_time: &[TimedColumn], time: u64, scenario: &Scenario) -> Option<usize>
     requires { IsTimeOrder columns.now by_time.now }
     ensures { FindsHit columns.now time scenario.now result }
@@ -106,7 +113,7 @@ fn hit(columns: &[Column], by_time: &[TimedColumn], time: u64, scenario: &Scenar
     let first = first_at(by_time, time);
     for at in first..by_time.len() {
         let timed = by_time[at];
-        // past the columns of the time
+        // the entries of one time follow each other, so all of this time are tried by now
         if timed.time != time {
             return None;
         }
@@ -118,7 +125,7 @@ fn hit(columns: &[Column], by_time: &[TimedColumn], time: u64, scenario: &Scenar
 }
 
 impl TimedRow {
-    /// The row of an item with these columns.
+    /// Returns the row of an item with these columns.
     pub(crate) fn new(
         alloc: Global,
         item: u32,
@@ -134,19 +141,19 @@ impl TimedRow {
         })
     }
 
-    /// The columns.
+    /// Returns the columns of the row, in its order.
     pub(crate) fn columns(&self) -> &[Column]
         ensures { result.now ≡ self.now.columns }
     {
         self.columns.as_slice()
     }
 
-    /// The place of a column of a time that matches, those next to a likely place tried first: scenarios that follow each
-    /// other mostly match columns that do.
+    /// Returns the place of a column that has this time and matches in a scenario, and `None` exactly if there is none. It
+    /// tries the columns from a likely place on first, since scenarios that follow each other mostly match columns that do.
     pub(crate) fn find(&self, time: u64, scenario: &Scenario, likely: usize) -> Option<usize>
         ensures { FindsHit self.now.columns time scenario.now result }
     {
-        // a few places first, and then all columns of the time
+        // a sum past the greatest number would be no place anyway
         for place in likely..likely.saturating_add(NEAR) {
             if is_hit(self.columns.as_slice(), place, time, scenario) {
                 return Some(place);
@@ -160,7 +167,7 @@ impl TimedRow {
         )
     }
 
-    /// The row as tables have it.
+    /// Returns the row as tables have it, with a copy of the columns.
     pub(crate) fn to_row(&self) -> Result<Row, OutOfMemory>
         ensures { IfOk result (λ row. row ≡ self.now) }
     {
@@ -169,7 +176,7 @@ impl TimedRow {
     }
 }
 
-/// The rows as tables have them.
+/// Returns the rows as tables have them, with copies of the columns.
 pub(crate) fn to_rows(alloc: Global, rows: &[TimedRow]) -> Result<Vec<Row>, OutOfMemory>
     ensures { IfOk result (λ r. r.items ≡ rows.now) }
 {

@@ -28,17 +28,24 @@ use Rattle.cpg_live.proofs.Streams.{unclosed}
 
 -- ---- a piece
 
--- after a piece that was fed, whose lines aren't written
+-- A follower was along a stream, and a piece was fed whose lines aren't written yet: `live` is the state after all
+-- bytes that the fetch gave, `before` are the acts whose lines were written, and `lines` parts the lines of all acts
+-- there
 pub record IsFed (name : List ℕ) (past rest : List Fetch) (start now : List ℕ) (h : Head) (table : NodeTable)
     (before : List Act) (from : ℕ) (read : ℕ) (live : LiveState) : Type 0 where
+  -- the stream has been fetched without a fault
   pub fetch : Fetch
   pub named : fetch.name ≡ name
   pub sound : fetch.failed ≡ false
   pub history_is : rest ≡ fetch ∷ past
+  -- what was read of it is what the shelf gave, within the limit
   pub long : read ≡ length fetch.given
   pub few : length fetch.given ≤ STREAM_LIMIT + 1
+  -- the follower has taken all of it
   pub state : live ≡ after table fetch.given
+  -- the lines of the acts before were written
   pub wrote : Took start now (act_lines h before)
+  -- the lines of all acts are these and those of the acts from `from` on
   pub lines : act_lines h live.progress.acts ≡ act_lines h before ++ act_lines h (drop from live.progress.acts)
 
 -- more bytes of a stream only add acts
@@ -54,7 +61,9 @@ abbrev pub grown_by : List ℕ → Fetch → Fetch
 grown_by piece f =
     record { name = f.name; given = f.given ++ piece; ended = is_none piece || f.ended; failed = f.failed }
 
--- a follower along its stream that takes a piece has been fed it, and the piece's lines are still to be written
+-- a follower along its stream that takes a piece has been fed it, and the piece's lines are still to be written: the
+-- fetch has grown by the piece, the state is the one after all bytes, and the acts that the piece added come behind
+-- those that were told
 pub fed_on : (name : List ℕ) (past : List Fetch) (shelf rest : ShelfState) (count : ℕ) (start now : List ℕ)
     (f g : Follower) →
     IsAlong name past shelf.history start now f →
@@ -83,7 +92,7 @@ no_bytes : (piece : List ℕ) → length piece ≡ 0 → is_none piece ≡ true
 no_bytes [] e = refl
 no_bytes (b ∷ bs) e = absurd (omega (arith, e))
 
--- a piece of no bytes is the end
+-- if the piece has no bytes, the stream has come to its end
 pub fed_end : (name : List ℕ) (past : List Fetch) (shelf rest : ShelfState) (count : ℕ) (start now : List ℕ)
     (f g : Follower) (a : IsAlong name past shelf.history start now f)
     (t : TakesPiece shelf rest f g count) → count ≡ 0 →
@@ -96,17 +105,17 @@ fed_end name past shelf rest count start now f g a t none =
 module _ (name : List ℕ) (past rest : List Fetch) (start now out : List ℕ) (h : Head) (table : NodeTable)
     (before : List Act) (from read : ℕ) (live : LiveState)
     (k : IsFed name past rest start now h table before from read live) where
-  -- the lines of a state that is known
+  -- the lines of the acts after all bytes that came are those of `live`
   same_lines : act_lines h (after table k.fetch.given).progress.acts ≡ act_lines h live.progress.acts
   same_lines = ap (λ (s : LiveState). act_lines h s.progress.acts) (sym k.state)
 
-  -- all lines are written
+  -- if the rest of the lines was written, all lines were
   pub wrote_all : Took now out (act_lines h (drop from live.progress.acts)) →
       Took start out (act_lines h live.progress.acts)
   wrote_all whole = subst (Took start out) (sym k.lines)
       (Took-trans start now out (act_lines h before) (act_lines h (drop from live.progress.acts)) k.wrote whole)
 
-  -- if a part of the piece's lines is written, the stream's lines are cut off
+  -- if of the piece's lines only a proper prefix was written, the stream's lines are cut off
   pub fed_cut : TookPrefix now out (act_lines h (drop from live.progress.acts)) → IsCutOff h table k.fetch start out
   fed_cut part = cut_off h table k.fetch k.sound k.few start out
       (subst (TookPrefix start out) (sym (same_lines ∙ k.lines))
@@ -124,7 +133,8 @@ module _ (name : List ℕ) (past rest : List Fetch) (start now out : List ℕ) (
   fed_long e l = subst (IsRefused h table k.fetch Long) same_lines (too_long h table k.fetch k.sound k.few
       (ap (λ (s : LiveState). s.lawless) (sym k.state) ∙ e) (omega (arith, l, k.long)))
 
-  -- if the piece is lawful and within the limit, and its lines are written, the follower is along the stream
+  -- if the piece is lawful and within the limit, and its lines are written, the follower is along the stream; all acts
+  -- are told then
   pub fed_along : live.lawless ≡ None → read ≤ STREAM_LIMIT →
       Took now out (act_lines h (drop from live.progress.acts)) →
       IsAlong name past rest start out
@@ -159,7 +169,7 @@ on_ok (Err x) e p = absurd (true≢false e)
 pub rest_few : (told : ℕ) (acts : List Act) → length (take (length acts - told) (drop told acts)) ≤ length acts
 rest_few told acts = omega (arith, length-take (length acts - told) (drop told acts), length-drop told acts)
 
--- as many acts as aren't told yet, behind those that are, are all the others
+-- as many acts as there are from `told` on are all from there on
 rest_is : (told : ℕ) (acts : List Act) → take (length acts - told) (drop told acts) ≡ drop told acts
 rest_is told acts = take_all (length acts - told) (drop told acts) (omega (arith, length-drop told acts))
 
@@ -189,7 +199,8 @@ told_as shelf rest f n s count t e = sym (e ∙ ap (λ (f : Follower). record {
   read = n.read;
 }) t.state)
 
--- a piece was fed, and all its lines are written
+-- a piece was fed, and all its lines are written: `fed_on` and `fed_along`, and if the piece is empty, the stream has
+-- ended
 pub along_at : (name : List ℕ) (past : List Fetch) (shelf rest : ShelfState) (count : ℕ) (start now out : List ℕ)
     (f n s : Follower) (a : IsAlong name past shelf.history start now f)
     (t : TakesPiece shelf rest f n count) → n.live.lawless ≡ None → n.read ≤ STREAM_LIMIT →
@@ -203,7 +214,7 @@ along_at name past shelf rest count start now out f n s a t none within whole e 
     subst (IsAlongAt count name past rest.history start out) (told_as shelf rest f n s count t e)
     (record { along = along; end = fed_end name past shelf rest count start now f n a t })
 
--- with these parts, the follower is the one if the shelf meets a fault before the first byte, the stream breaks there
+-- the follower made of an equal head and table, and of the state before the first byte, is the open one
 pub opened : (h k : Head) (table made : NodeTable) (live : LiveState) → k ≡ h → made ≡ table → live ≡ open_stream made →
     record { head = k; table = live.progress.dispatcher.table; live = live; told = 0; read = 0 } ≡ open_follower h table
 opened h k table made live same is e =
@@ -221,7 +232,8 @@ opened h k table made live same is e =
 abbrev pub broken_off : Fetch → Fetch
 broken_off f = record { name = f.name; given = f.given; ended = f.ended; failed = true }
 
--- if the shelf meets a fault after some pieces, the stream breaks there, with the lines so far
+-- if the shelf meets a fault after some pieces, the stream breaks there, with the lines so far: the fetch is broken off
+-- where it was, and the lines that were written are those of all acts so far
 pub unread : (name : List ℕ) (past history rest : List Fetch) (start now : List ℕ) (f : Follower) (out : SinkState) →
     (a : IsAlong name past history start now f) →
     rest ≡ failed history →
@@ -243,7 +255,7 @@ unread name past history rest start now f out a e same = record {
   );
 }
 
--- before the first byte
+-- if the shelf meets a fault when the stream is opened, it breaks there, without a line
 pub unfetched : (name : List ℕ) (past rest : List Fetch) (h : Head) (table : NodeTable) (old : SinkState) →
     rest ≡ started name true past →
     IsStreamed (λ s. Breaks h table s Shelf) name past rest old.taken old old
@@ -260,7 +272,7 @@ unfetched name past rest h table old e = record {
 
 -- ---- the end
 
--- a follower whose stream was opened is along it before the first byte
+-- a follower whose stream was opened is along it before the first byte; no act, byte or line is there yet
 pub along_open : (name : List ℕ) (past history : List Fetch) (now : List ℕ) (h : Head) (table : NodeTable) →
     history ≡ started name false past →
     IsAlong name past history now now (open_follower h table)
@@ -296,7 +308,8 @@ module _ (name : List ℕ) (past history : List Fetch) (start now : List ℕ) (f
       (closed f.head f.table a.fetch a.sound (omega (arith, a.few, a.read)) ended lawful
       (omega (arith, a.few, a.read)) time (ap outcome (sym a.live) ∙ e))
 
-  -- the lines of a stream that is lawful to its end
+  -- if the stream is closed and the line of its close was written, it is completed: what was taken is the lines of all
+  -- acts and then that of the close
   pub ended_whole : (time : ℕ) → outcome f.live ≡ Ok time → Took now new.taken (closed_line time) →
       new.faults ≡ old.faults →
       IsStreamed (Completes f.head f.table) name past history start old new
@@ -312,7 +325,8 @@ module _ (name : List ℕ) (past history : List Fetch) (start now : List ℕ) (f
     );
   }
 
-  -- a stream that ends otherwise breaks, as its end answers
+  -- a stream that ends otherwise breaks, as its end answers: by the sink, which took a part of the last line, or
+  -- because the stream was never closed
   pub ended_broken : (broken : Broken) → Closes f old.faults new.faults now new.taken (Err broken) →
       IsStreamed (λ s. Breaks f.head f.table s broken) name past history start old new
   unfolding acts
@@ -350,7 +364,7 @@ from_first Is name past history start first old new kept b = record {
       b.is;
 }
 
--- a fault of an equal pack and table is one of a run, from an earlier state of the sink on
+-- how the stream of an equal head and table breaks is how it breaks in the run, from an earlier state of the sink on
 pub breaks_on : (f n : Follower) (name : List ℕ) (past history : List Fetch) (start : List ℕ)
     (first old new : SinkState) (broken : Broken) → IsOfSame f n →
     old.faults ≡ first.faults →
@@ -372,7 +386,8 @@ completes_on f n name past history start first old new same kept b =
     (subst (λ h. IsStreamed (Completes h f.table) name past history start old new) same.head
     (subst (λ table. IsStreamed (Completes n.head table) name past history start old new) same.table b))
 
--- after the last piece, the answer says whether the stream is complete, or how it breaks
+-- after the last piece, the answer says whether the stream is complete, or how it breaks; each answer is that of the
+-- run (`completes_on`, `breaks_on`)
 pub end_of_all : (f n : Follower) (name : List ℕ) (past history : List Fetch) (start now : List ℕ)
     (first old new : SinkState) (result : Result Unit Broken) → IsOfSame f n →
     old.faults ≡ first.faults → (at : IsAlongAt 0 name past history start now n) →

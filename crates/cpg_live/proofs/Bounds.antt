@@ -24,10 +24,11 @@ module _ (table : NodeTable) (most : ℕ) where
     same : p.dispatcher.table ≡ table
     few : length p.acts + length (entries_left p.dispatcher) ≤ most
 
-  -- turns, events and records keep this bound
+  -- a turn keeps this bound: it does no more acts than it takes entries
   turn_few : (limit : ℕ) (p : NodeProgress) → HasFew p → HasFew (turn_below limit p)
   turn_few limit p h = go (instant_below limit (next p.dispatcher)) refl
     where
+      -- by whether the next instant is below the limit
       go : (o : Option ℕ) → instant_below limit (next p.dispatcher) ≡ o → HasFew (turn_if p o)
       go None e = h
       go (Some time) e = record {
@@ -40,20 +41,21 @@ module _ (table : NodeTable) (most : ℕ) where
         );
       }
 
-  -- turns leave no more acts than entries
+  -- up to n turns keep the bound, as each does
   turns_few : (n limit : ℕ) (p : NodeProgress) → HasFew p → HasFew (turns_below n limit p)
   unfolding turns_below
   turns_few zero limit p h = h
   turns_few (suc n) limit p h = turns_few n limit (turn_below limit p) (turn_few limit p h)
 
-  -- all turns below a limit leave no more acts than entries
+  -- all turns below a limit keep the bound
   turned_few : (limit : ℕ) (p : NodeProgress) → HasFew p → HasFew (turned limit p)
   turned_few limit p h = turns_few limit limit p h
 
-  -- an event leaves no more acts than entries
+  -- an event keeps the bound, lawful or not: only the turns before it do acts
   step_few : (time : ℕ) (event : Event) (p : NodeProgress) → HasFew p → HasFew (step time event p).progress
   step_few time (Arrival f) p h = go (is_strange (turned time p).dispatcher time f) (turned_few time p h)
     where
+      -- by whether the frame is strange
       go : (b : Bool) → HasFew (turned time p) →
           HasFew (cond b (faulty (turned time p) StrangeFrame)
           (lawful (record (turned time p) { dispatcher = hear (turned time p).dispatcher f }))).progress
@@ -62,9 +64,11 @@ module _ (table : NodeTable) (most : ℕ) where
   step_few time (Ending process faults value) p h =
       go (record { process = process; faults = faults; value = value }) (turned_few time p h)
     where
+      -- for the report that the event makes
       go : (e : Ended) → HasFew (turned time p) → HasFew (ended time e (turned time p)).progress
       go e w = told (may_end (turned time p).dispatcher time e)
         where
+          -- by whether the process may end with this report
           told : (b : Bool) →
               HasFew (cond b (lawful (record (turned time p) { dispatcher = finished (turned time p).dispatcher e }))
               (faulty (turned time p) FalseEnd)).progress
@@ -72,27 +76,29 @@ module _ (table : NodeTable) (most : ℕ) where
           told false = w
   step_few time Close p h = turned_few (time + 1) p h
 
-  -- a record keeps the bound, whatever is wrong with it
+  -- whether something is wrong with a record doesn't change the node
   settled_few : (s : LiveState) (time : ℕ) (event : Event) (defect : Option Defect) → HasFew s.progress →
       HasFew (settled s time event defect).progress
   settled_few s time event None h = h
   settled_few s time event (Some defect) h = h
 
-  -- an event that is judged leaves no more acts than entries
+  -- judging a record keeps the bound
   judged_few : (s : LiveState) (time : ℕ) (event : Option Event) → HasFew s.progress →
       HasFew (judged s time event).progress
   judged_few s time None h = h
   judged_few s time (Some event) h = go (nat_lt time s.time)
     where
+      -- by whether the event comes before the last one
       go : (b : Bool) → HasFew (cond b (refused s Order) (stepped s time event (step time event s.progress))).progress
       go true = h
       go false = settled_few (record s { progress = (step time event s.progress).progress }) time event
           (step time event s.progress).fault (step_few time event s.progress h)
 
-  -- a record leaves no more acts than entries
+  -- a record keeps it too when it is taken, whatever state the stream is in
   record_few : (s : LiveState) (bytes : List ℕ) → HasFew s.progress → HasFew (take_record s bytes).progress
   record_few s bytes h = go (is_some s.lawless) s.closed
     where
+      -- by whether a record was lawless, and whether the stream is closed
       go : (b c : Bool) →
           HasFew (cond b s (cond c (refused s Length)
           (judged s (record_of bytes).time (event_of s.progress.dispatcher.table (record_of bytes))))).progress
@@ -100,15 +106,16 @@ module _ (table : NodeTable) (most : ℕ) where
       go false true = h
       go false false = judged_few s (record_of bytes).time (event_of s.progress.dispatcher.table (record_of bytes)) h
 
-  -- records one after another leave no more acts than entries
+  -- records keep the bound, one after another
   records_few : (s : LiveState) (rs : List (List ℕ)) → HasFew s.progress → HasFew (fold take_record s rs).progress
   records_few s [] h = h
   records_few s (r ∷ rs) h = records_few (take_record s r) rs (record_few s r h)
 
-  -- a rest leaves no more acts than entries
+  -- the bytes of a next record don't change the node
   rest_few : (s : LiveState) (rest : List ℕ) → HasFew s.progress → HasFew (with_rest s rest).progress
   rest_few s rest h = go (is_some s.lawless) (s.closed && nat_lt 0 (length rest))
     where
+      -- by whether a record was lawless, and whether a byte comes after the close
       go : (b c : Bool) → HasFew (cond b s (cond c (refused s Length) (record s { rest = rest }))).progress
       go true c = h
       go false true = h

@@ -16,15 +16,19 @@ use Rattle.cpg_live.specs.Stream.{with_rest}
 
 -- ---- bytes that are cut into records
 
--- bytes of this count are cut, and less than a record is left
+-- `count` bytes are cut into whole records of 14, and less than a record is left
 pub record IsCounted (c : Cut) (count : ℕ) : Type 0 where
+  -- the bytes after the whole records are less than one
   pub part : length c.rest < 14
+  -- together they are all bytes, 14 for each record
   pub all : count ≡ 14 * length c.whole + length c.rest
 
--- one byte more is counted, in a record that it completes or in the rest
+-- one byte more is counted, in a record that it completes or in the rest. If the rest has 14 bytes with it, it is a
+-- whole record; otherwise it has fewer
 byte_counted : (c : Cut) (byte count : ℕ) → IsCounted c count → IsCounted (cut_byte c byte) (count + 1)
 byte_counted c byte count h = go (length c.rest + 1 == 14) refl
   where
+    -- by whether the byte completes a record
     go : (b : Bool) → (length c.rest + 1 == 14) ≡ b →
         IsCounted (cond b (record { whole = c.whole ++ ((c.rest ++ byte ∷ []) ∷ []); rest = [] })
         (record { whole = c.whole; rest = c.rest ++ byte ∷ [] })) (count + 1)
@@ -37,6 +41,7 @@ byte_counted c byte count h = go (length c.rest + 1 == 14) refl
       all = omega (arith, h.all, length-append c.rest (byte ∷ []));
     }
       where
+        -- the rest isn't a whole record, so it has fewer than 14 bytes
         less : (length c.rest + 1 < 14) ⊎ (14 ≤ length c.rest + 1) → length (c.rest ++ byte ∷ []) < 14
         less (inl l) = omega (arith, l, length-append c.rest (byte ∷ []))
         less (inr m) = absurd (true≢false (sym (eq-eqb (length c.rest + 1) 14 (omega (arith, m, h.part))) ∙ e))
@@ -55,12 +60,12 @@ cut_counted bytes = subst (IsCounted (cut bytes)) (omega arith)
 
 -- ---- records that are lawful
 
--- the record before was lawful too, and this one is counted
+-- the stream was lawful before a record (s), and the record is counted (t)
 record IsTaken (s t : LiveState) : Type 0 where
   lawful : s.lawless ≡ None
   taken : t.taken ≡ min (s.taken + 1) (2 ^ 64 - 1)
 
--- a state that was refused is bad
+-- a state in which a record was refused has a lawless record
 refused_not : (s : LiveState) (defect : Defect) → (refused s defect).lawless ≡ None → ⊥
 refused_not s defect e = true≢false (ap is_some e)
 
@@ -78,16 +83,19 @@ judged_taken : (s : LiveState) (time : ℕ) (event : Option Event) → (judged s
 judged_taken s time None e = absurd (refused_not s Kind e)
 judged_taken s time (Some event) e = go (nat_lt time s.time) e
   where
+    -- by whether the event comes before the last one: it would be refused
     go : (b : Bool) → (cond b (refused s Order) (stepped s time event (step time event s.progress))).lawless ≡ None →
         IsTaken s (cond b (refused s Order) (stepped s time event (step time event s.progress)))
     go true e = absurd (refused_not s Order e)
     go false e = settled_taken s (record s { progress = (step time event s.progress).progress }) time event
         (step time event s.progress).fault refl refl e
 
--- a record after which the state isn't bad was taken
+-- a record after which no record is lawless was counted, and none was lawless before: the stream was neither lawless
+-- nor closed, else it would be lawless now
 record_taken : (s : LiveState) (bytes : List ℕ) → (take_record s bytes).lawless ≡ None → IsTaken s (take_record s bytes)
 record_taken s bytes e = go (is_some s.lawless) s.closed refl e
   where
+    -- by whether a record was lawless before, and whether the stream is closed
     go : (b c : Bool) → is_some s.lawless ≡ b →
         (cond b s (cond c (refused s Length)
         (judged s (record_of bytes).time (event_of s.progress.dispatcher.table (record_of bytes))))).lawless ≡ None →
@@ -119,16 +127,19 @@ record HasRest (s t : LiveState) (rest : List ℕ) : Type 0 where
   taken : t.taken ≡ s.taken
   open_still : 0 < length rest → t.closed ≡ false
 
--- a rest after which the state isn't bad was kept
+-- a rest after which no record is lawless was kept, and the stream wasn't closed if it has bytes; if it was closed,
+-- bytes would have been refused
 rest_taken : (s : LiveState) (rest : List ℕ) → (with_rest s rest).lawless ≡ None → HasRest s (with_rest s rest) rest
 rest_taken s rest e = go (is_some s.lawless) refl e
   where
+    -- by whether the stream is closed
     closing : (c : Bool) → s.closed ≡ c → s.lawless ≡ None →
         (cond (c && nat_lt 0 (length rest)) (refused s Length) (record s { rest = rest })).lawless ≡ None →
         HasRest s (cond (c && nat_lt 0 (length rest)) (refused s Length) (record s { rest = rest })) rest
     closing false c n e = record { lawful = n; taken = refl; open_still = λ some. c }
     closing true c n e = none (nat_lt 0 (length rest)) refl e
       where
+        -- by whether a byte comes after the close: it would be refused
         none : (b : Bool) → nat_lt 0 (length rest) ≡ b →
             (cond b (refused s Length) (record s { rest = rest })).lawless ≡ None →
             HasRest s (cond b (refused s Length) (record s { rest = rest })) rest
@@ -139,11 +150,12 @@ rest_taken s rest e = go (is_some s.lawless) refl e
           open_still = λ some. absurd (true≢false (sym (lt-ltb 0 (length rest) some) ∙ b));
         }
 
-    -- a state that isn't found bad is lawful
+    -- a state without a lawless record is lawful
     lawful_of : (o : Option LawlessRecord) → is_some o ≡ false → o ≡ None
     lawful_of None e = refl
     lawful_of (Some lawless) e = absurd (true≢false e)
 
+    -- by whether a record was lawless before
     go : (b : Bool) → is_some s.lawless ≡ b →
         (cond b s (cond (s.closed && nat_lt 0 (length rest)) (refused s Length) (record s { rest = rest }))).lawless
         ≡ None →
@@ -157,7 +169,8 @@ pub record IsWithinRecord (s : LiveState) (records : ℕ) : Type 0 where
   pub taken : s.taken ≡ records
   pub not_closed : s.closed ≡ false
 
--- after lawful bytes that end within a record, each whole record is counted and none is a close
+-- after lawful bytes that end within a record, each whole record is counted and none is a close: the bytes are cut into
+-- `records` whole records, and the rest isn't empty, so that the stream can't be closed
 pub within_record : (table : NodeTable) (bytes : List ℕ) (records part : ℕ) → (after table bytes).lawless ≡ None →
     length bytes ≡ 14 * records + part → 0 < part → part < 14 →
     records < 2 ^ 64 →

@@ -18,7 +18,7 @@ use Rattle.cpg_live.specs.Stream.{with_rest, after_cut}
 use Rattle.cpg_live.specs.Feeding.{take_open, take_byte, take_bytes}
 use Rattle.cpg_live.specs.Laws.{Feeds}
 
--- Records leave no bytes.
+-- No byte of a next record is held; taking records keeps this.
 
 abbrev IsEmpty : LiveState → Type 0
 IsEmpty s = s.rest ≡ []
@@ -34,6 +34,7 @@ judged_empty : (s : LiveState) (time : ℕ) (event : Option Event) → IsEmpty s
 judged_empty s time None e = e
 judged_empty s time (Some event) e = go (nat_lt time s.time)
   where
+    -- by whether the event comes before the last one
     go : (b : Bool) → IsEmpty (cond b (refused s Order) (stepped s time event (step time event s.progress)))
     go true = e
     go false = settled_empty (record s { progress = (step time event s.progress).progress }) time event
@@ -43,6 +44,7 @@ judged_empty s time (Some event) e = go (nat_lt time s.time)
 record_empty : (s : LiveState) (bytes : List ℕ) → IsEmpty s → IsEmpty (take_record s bytes)
 record_empty s bytes e = go (is_some s.lawless) s.closed
   where
+    -- by whether a record was lawless, and whether the stream is closed
     go : (b c : Bool) →
         IsEmpty (cond b s (cond c (refused s Length)
         (judged s (record_of bytes).time (event_of s.progress.dispatcher.table (record_of bytes)))))
@@ -61,16 +63,18 @@ records_empty s (r ∷ rs) e = records_empty (take_record s r) rs (record_empty 
 no_rest : (s : LiveState) → IsEmpty s → with_rest s [] ≡ s
 no_rest s e = go (is_some s.lawless) s.closed
   where
+    -- by whether a record was lawless, and whether the stream is closed
     go : (b c : Bool) → cond b s (cond (c && nat_lt 0 0) (refused s Length) (record s { rest = [] })) ≡ s
     go true c = refl
     go false true = ap (λ (r : List ℕ). record s { rest = r }) (sym e)
     go false false = ap (λ (r : List ℕ). record s { rest = r }) (sym e)
 
--- one more byte after whole records and these bytes
+-- the state after whole records (s) and these bytes of the next, which is whole if it has 14
 abbrev more : LiveState → List ℕ → LiveState
 more s rest = cond (length rest == 14) (with_rest (take_record s rest) []) (with_rest s rest)
 
--- one more byte after a lawless record
+-- after a lawless record one more byte changes nothing, nor does a record or a rest: each of them looks first whether a
+-- record is lawless
 lawless_byte : (s : LiveState) (lawless : LawlessRecord) (rest bytes : List ℕ) (byte : ℕ) → s.lawless ≡ Some lawless →
     take_byte (with_rest s rest) byte ≡ more s bytes
 lawless_byte s lawless rest bytes byte e =
@@ -83,6 +87,7 @@ lawless_byte s lawless rest bytes byte e =
     ∙ ap (λ b. cond b s (cond s.closed (refused s Length) (take_open s (s.rest ++ byte ∷ [])))) t
     ∙ sym (both (length bytes == 14) (ap (λ z. with_rest z []) taken ∙ same []) (same bytes))
   where
+    -- if both branches are the old state, so is the whole, whether the record is complete or not
     both : (b : Bool) {x y : LiveState} → x ≡ s → y ≡ s → cond b x y ≡ s
     both true p q = p
     both false p q = q
@@ -91,13 +96,14 @@ lawless_byte s lawless rest bytes byte e =
 some_length : (rest : List ℕ) (byte : ℕ) → 0 < length (rest ++ byte ∷ [])
 some_length rest byte = omega (arith, length-append rest (byte ∷ []))
 
--- one more byte after a close
+-- after a close one more byte is refused, whether some were before it or not
 closed_byte : (s : LiveState) (rest : List ℕ) (byte : ℕ) → IsEmpty s → s.lawless ≡ None → s.closed ≡ true →
     take_byte (with_rest s rest) byte ≡ more s (rest ++ byte ∷ [])
 closed_byte s rest byte e n c =
     first rest ∙ sym
     (both (length (rest ++ byte ∷ []) == 14) (ap (λ z. with_rest z []) taken ∙ no_rest (refused s Length) e) longer)
   where
+    -- if both branches are the refusal, so is the whole, whether the record is complete or not
     both : (b : Bool) {x y : LiveState} → x ≡ refused s Length → y ≡ refused s Length → cond b x y ≡ refused s Length
     both true p q = p
     both false p q = q
@@ -128,7 +134,8 @@ closed_byte s rest byte e n c =
         ∙ ap (λ b. cond b (refused s Length) (take_open s (s.rest ++ byte ∷ []))) c
     first (x ∷ xs) = ap (λ z. take_byte z byte) (with_some (x ∷ xs) (omega arith))
 
--- a byte is taken of an open stream
+-- of an open stream one more byte completes a record, which is taken, or is held: neither of the first two tests,
+-- lawless and closed, stops it
 open_byte : (s : LiveState) (rest : List ℕ) (byte : ℕ) → IsEmpty s → s.lawless ≡ None → s.closed ≡ false →
     take_byte (with_rest s rest) byte ≡ more s (rest ++ byte ∷ [])
 open_byte s rest byte e n c =
@@ -162,12 +169,13 @@ next_byte : (s : LiveState) (rest : List ℕ) (byte : ℕ) → IsEmpty s →
     take_byte (with_rest s rest) byte ≡ more s (rest ++ byte ∷ [])
 next_byte s rest byte e = go s.lawless refl
   where
+    -- by whether a record was lawless; if none was, by whether the stream is closed
     go : (o : Option LawlessRecord) → s.lawless ≡ o → take_byte (with_rest s rest) byte ≡ more s (rest ++ byte ∷ [])
     go (Some lawless) n = lawless_byte s lawless rest (rest ++ byte ∷ []) byte n
     go None n =
         elim (cases_Bool s.closed) [ inl c ↦ closed_byte s rest byte e n c | inr c ↦ open_byte s rest byte e n c ]
 
--- a byte is taken of what the bytes are cut into
+-- to take one more byte is to cut it off and take the cut; both ask whether the rest has 14 bytes with it
 cut_next : (table : NodeTable) (c : Cut) (byte : ℕ) →
     take_byte (after_cut table c) byte ≡ after_cut table (cut_byte c byte)
 cut_next table c byte =
@@ -176,6 +184,7 @@ cut_next table c byte =
     ∙ both (length (c.rest ++ byte ∷ []) == 14) (length c.rest + 1 == 14)
     (ap (λ n. n == 14) (length-append c.rest (byte ∷ [])))
   where
+    -- by whether the byte completes a record
     both : (a b : Bool) → a ≡ b →
         cond a (with_rest (take_record (fold take_record (open_stream table) c.whole) (c.rest ++ byte ∷ [])) [])
         (with_rest (fold take_record (open_stream table) c.whole) (c.rest ++ byte ∷ []))
@@ -187,7 +196,7 @@ cut_next table c byte =
     both true false e = absurd (true≢false e)
     both false true e = absurd (true≢false (sym e))
 
--- bytes after bytes are taken as all of them, cut into records
+-- to take more bytes, one by one, is to cut them off and take the cut; by induction
 cut_more : (table : NodeTable) (c : Cut) (bytes : List ℕ) →
     take_bytes (after_cut table c) bytes ≡ after_cut table (fold cut_byte c bytes)
 cut_more table c [] = refl
@@ -247,6 +256,7 @@ part_byte s byte bytes n c same l =
 pub kept : (s now : LiveState) (bytes : List ℕ) → now ≡ take_bytes s bytes → IfSome s.lawless (λ _. now ≡ s)
 kept s now bytes is = go s.lawless refl
   where
+    -- by whether a record was lawless
     go : (o : Option LawlessRecord) → s.lawless ≡ o → IfSome o (λ _. now ≡ s)
     go None e = tt
     go (Some lawless) e = is ∙ lawless_stays s lawless bytes e

@@ -210,22 +210,29 @@ module _ (t : NodeTable) (made : IsTable t) where
   abbrev prog : List Range → List (Option Running) → Option ℕ → List Act → NodeProgress
   prog h r l a = record { dispatcher = node h r l; acts = a }
 
-  -- all awaited instants are after both or none of the last turns
+  -- the last turns l and m make no difference to what a node with these executions awaits
   record Alike (r : List (Option Running)) (l m : Option ℕ) : Type 0 where
+    -- there is an execution, or none, for each own process
     count : length r ≡ length t.own
+    -- their reports tell no more faults than the table allows
     few : All (TellsFew t.faults) r
+    -- each awaited instant is after both last turns or after neither
     reached : (x : ℕ) → Contains (awaited (node [] r None)) x → is_after l x ≡ is_after m x
 
   -- both nodes are the same but for their last turns, which are before the limit, and they are alike
   record Pair (limit : ℕ) (P Q : NodeProgress) : Type 0 where
+    -- what both have heard, what runs on both, and the acts of both
     heard : List Range
     runs : List (Option Running)
     acts : List Act
+    -- their last turns
     l : Option ℕ
     m : Option ℕ
+    -- the two nodes with these fields
     one : P ≡ prog heard runs l acts
     two : Q ≡ prog heard runs m acts
     alike : Alike runs l m
+    -- both last turns are before the limit
     before : is_after l limit ≡ true
     later : is_after m limit ≡ true
 
@@ -237,7 +244,8 @@ module _ (t : NodeTable) (made : IsTable t) where
   awaited_next h r l m a x c z =
       candidate_next (node h r l) x (awaited_candidates (node h r l) made a.few x c) (a.reached x c ∙ z)
 
-  -- if the node of all turns has no instant below a limit, the other has none
+  -- if the node of all turns has no instant below a limit, the other has none: an instant that is awaited is no earlier
+  -- than the next one of all (`awaited_next`)
   none_fewer : (h : List Range) (r : List (Option Running)) (l m : Option ℕ) (limit : ℕ) → Alike r l m →
       NotBelow limit (next (node h r l)) →
       instant_below limit (next_awaited (node h r m)) ≡ None
@@ -274,7 +282,7 @@ module _ (t : NodeTable) (made : IsTable t) where
           let is : y ≡ time = omega (arith, p.1 time there, n.2, same) in
           ap Some is
 
-  -- a turn keeps what is known of what runs
+  -- a turn keeps what is known of what runs: as many executions, with few faults; both last turns are the same now
   alike_turn : (h : List Range) (r : List (Option Running)) (l : Option ℕ) (time : ℕ) → length r ≡ length t.own →
       All (TellsFew t.faults) r →
       Alike (turn (node h r l) time [] []).running (Some time) (Some time)
@@ -316,7 +324,7 @@ module _ (t : NodeTable) (made : IsTable t) where
       let q = quiet_turns (node h r l) time k.count (turns_left_out (node h r l) time out h) in
       λ i. record { dispatcher = q.0 i; acts = (ap (λ (more : List Act). a ++ more) q.1 ∙ append-nil a) i }
 
-  -- this many turns of the one and enough turns of the other leave both alike
+  -- n turns of the one node and k of the other, both enough for the limit, leave the nodes alike
   abbrev TurnsAlike : ℕ → ℕ → Type 0
   TurnsAlike n limit =
       (k : ℕ) (h : List Range) (r : List (Option Running)) (l m : Option ℕ)
@@ -343,7 +351,8 @@ module _ (t : NodeTable) (made : IsTable t) where
     later = g;
   }
 
-  -- a turn that both nodes take leaves both alike
+  -- a turn that both nodes take leaves both alike; the other has a turn left for it, as the instant is below the limit,
+  -- and after it both last turns are this instant
   both_turn : (n limit : ℕ) → TurnsAlike n limit →
       (k : ℕ) (h : List Range) (r : List (Option Running)) (l m : Option ℕ) (a : List Act) → Alike r l m →
       limit ≤ suc n + after_last l →
@@ -368,7 +377,8 @@ module _ (t : NodeTable) (made : IsTable t) where
       (a ++ acts_of_turn d b.time [] []) (alike_turn h r l b.time same.count same.few)
       (omega (arith, p, f)) (omega (arith, q, g)) (lt-ltb b.time limit b.less) (lt-ltb b.time limit b.less))
 
-  -- a turn of the node of all turns, which the other takes too or leaves out, leaves both alike
+  -- a turn of the node of all turns leaves both alike; the other takes it too if its instant is awaited, and leaves it
+  -- out if not
   next_turn : (n limit : ℕ) → TurnsAlike n limit →
       (k : ℕ) (h : List Range) (r : List (Option Running)) (l m : Option ℕ) (a : List Act) → Alike r l m →
       limit ≤ suc n + after_last l →
@@ -391,7 +401,7 @@ module _ (t : NodeTable) (made : IsTable t) where
             (lt-ltb b.time limit b.less) g)
       ]
 
-  -- the turns below a limit leave both nodes alike
+  -- that is so for each n, by induction: no instant is left below the limit, or the next turn is taken by one or both
   turns_alike : (n limit : ℕ) → TurnsAlike n limit
   unfolding turns_below
   turns_alike zero limit k h r l m a same p q f g = elim (below_or_not limit (next (node h r l))) [
@@ -437,6 +447,7 @@ module _ (t : NodeTable) (made : IsTable t) where
 
   -- what a step answers, and what it leaves
   record StepPair (limit : ℕ) (s z : Step) : Type 0 where
+    -- both steps find the same fault, or none
     fault : z.fault ≡ s.fault
     pair : Pair limit s.progress z.progress
 
@@ -499,7 +510,8 @@ module _ (t : NodeTable) (made : IsTable t) where
       subst (λ (run : Running). time ≤ run.start + get_or (own_in t.own e.process).times e.faults 0)
       (same_Some q run is) (leb-true time (q.start + time_of (node h r l) e.process e.faults) parts.1)
 
-  -- an end that may be reported leaves both nodes alike
+  -- a report that may come leaves both nodes alike: each end awaited then was awaited before (`moved`) or isn't before
+  -- the report, and so is after both last turns
   told_alike : (h : List Range) (r : List (Option Running)) (l m : Option ℕ) (time : ℕ) (e : Ended) → Alike r l m →
       is_after l time ≡ true →
       is_after m time ≡ true →

@@ -19,11 +19,11 @@ use Rattle.cpg_live.specs.Laws.{Grows}
 same : (xs : List Act) → Grows xs xs
 same xs = ([], sym (append-nil xs))
 
--- what grows twice has grown
+-- what grows from xs to ys and from ys to zs grows from xs to zs
 grow_on : (xs ys zs : List Act) → Grows xs ys → Grows ys zs → Grows xs zs
 grow_on xs ys zs p q = (p.0 ++ q.0, q.1 ∙ ap (λ (l : List Act). l ++ q.0) p.1 ∙ append_assoc xs p.0 q.0)
 
--- turns, events and records only add acts
+-- a turn adds its acts, and no turn adds none
 turn_grows : (p : NodeProgress) (o : Option ℕ) → Grows p.acts (turn_if p o).acts
 turn_grows p None = same p.acts
 turn_grows p (Some time) = (acts_of_turn p.dispatcher time [] [], refl)
@@ -40,10 +40,11 @@ turns_grow (suc n) limit p = grow_on p.acts (turn_below limit p).acts (turns_bel
 turned_grows : (limit : ℕ) (p : NodeProgress) → Grows p.acts (turned limit p).acts
 turned_grows limit p = turns_grow limit limit p
 
--- an event adds acts alone
+-- an event adds acts alone: its turns add acts, and what the event itself does adds none, whether it is lawful or not
 step_grows : (time : ℕ) (event : Event) (p : NodeProgress) → Grows p.acts (step time event p).progress.acts
 step_grows time (Arrival f) p = go (is_strange (turned time p).dispatcher time f)
   where
+    -- by whether the frame is strange
     go : (b : Bool) →
         Grows p.acts (cond b (faulty (turned time p) StrangeFrame)
         (lawful (record (turned time p) { dispatcher = hear (turned time p).dispatcher f }))).progress.acts
@@ -51,9 +52,11 @@ step_grows time (Arrival f) p = go (is_strange (turned time p).dispatcher time f
     go false = turned_grows time p
 step_grows time (Ending process faults value) p = go (record { process = process; faults = faults; value = value })
   where
+    -- for the report that the event makes
     go : (e : Ended) → Grows p.acts (ended time e (turned time p)).progress.acts
     go e = told (may_end (turned time p).dispatcher time e)
       where
+        -- by whether the process may end with this report
         told : (b : Bool) →
             Grows p.acts
             (cond b (lawful (record (turned time p) { dispatcher = finished (turned time p).dispatcher e }))
@@ -68,12 +71,14 @@ settled_acts : (s : LiveState) (time : ℕ) (event : Event) (defect : Option Def
 settled_acts s time event None = refl
 settled_acts s time event (Some defect) = refl
 
--- an event that is judged adds acts alone, whether it is taken or refused
+-- an event that is judged adds acts alone, whether it is taken or refused; one that is refused for its kind or its
+-- order takes no turns either
 judged_grows : (s : LiveState) (time : ℕ) (event : Option Event) →
     Grows s.progress.acts (judged s time event).progress.acts
 judged_grows s time None = same s.progress.acts
 judged_grows s time (Some event) = go (nat_lt time s.time)
   where
+    -- by whether the event comes before the last one
     go : (b : Bool) →
         Grows s.progress.acts
         (cond b (refused s Order) (stepped s time event (step time event s.progress))).progress.acts
@@ -89,6 +94,7 @@ judged_grows s time (Some event) = go (nat_lt time s.time)
 record_grows : (s : LiveState) (bytes : List ℕ) → Grows s.progress.acts (take_record s bytes).progress.acts
 record_grows s bytes = go (is_some s.lawless) s.closed
   where
+    -- by whether a record was lawless, and whether the stream is closed
     go : (b c : Bool) →
         Grows s.progress.acts (cond b s (cond c (refused s Length)
         (judged s (record_of bytes).time (event_of s.progress.dispatcher.table (record_of bytes))))).progress.acts
@@ -100,6 +106,7 @@ record_grows s bytes = go (is_some s.lawless) s.closed
 open_grows : (s : LiveState) (bytes : List ℕ) → Grows s.progress.acts (take_open s bytes).progress.acts
 open_grows s bytes = go (length bytes == 14)
   where
+    -- by whether the bytes are a whole record
     go : (b : Bool) →
         Grows s.progress.acts
         (cond b (take_record (record s { rest = [] }) bytes) (record s { rest = bytes })).progress.acts
@@ -110,6 +117,7 @@ open_grows s bytes = go (length bytes == 14)
 byte_grows : (s : LiveState) (byte : ℕ) → Grows s.progress.acts (take_byte s byte).progress.acts
 byte_grows s byte = go (is_some s.lawless) s.closed
   where
+    -- by whether a record was lawless, and whether the stream is closed
     go : (b c : Bool) →
         Grows s.progress.acts (cond b s (cond c (refused s Length) (take_open s (s.rest ++ byte ∷ [])))).progress.acts
     go true c = same s.progress.acts

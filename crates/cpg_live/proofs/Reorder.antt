@@ -27,7 +27,7 @@ module _ (time : ℕ) where
   abbrev IsReady : Dispatcher → Type 0
   IsReady d = instant_below time (next d) ≡ None
 
-  -- a time that isn't below the limit is left
+  -- an instant that isn't before the time isn't below it
   left : (o : Option ℕ) → IfSome o (λ t. time ≤ t) → instant_below time o ≡ None
   left None h = refl
   left (Some t) h = ap (λ b. cond b (Some t) None) (le-ltb t time h)
@@ -45,6 +45,7 @@ module _ (time : ℕ) where
       (sym (turned_last time (turned time p) (ready p)))
   settled p Close open' = absurd (no open')
     where
+      -- true isn't false
       no : true ≡ false → ⊥
       no e = subst (λ b. cond b Unit ⊥) e tt
 
@@ -130,7 +131,8 @@ module _ (time : ℕ) where
         ∙ sym (ap (λ s. follow_one s (time, Arrival x)) (notes p y r f)
         ∙ hears (with_node p (finished p.dispatcher y)) x (still_ready p.dispatcher y r) e)
 
-    -- two ends lead to the same in either order
+    -- two ends lead to the same in either order: they are of different processes, since a process reports once
+    -- (`not_again`), and so may be noted in either order (`swap`)
     two_ends : (x y : Ended) → may_end p.dispatcher time x ≡ true → may_end (finished p.dispatcher x) time y ≡ true →
         follow_one (follow_one (lawful p) (time, end_of x)) (time, end_of y)
         ≡ follow_one (follow_one (lawful p) (time, end_of y)) (time, end_of x)
@@ -293,7 +295,7 @@ from_on from to time [] le h k = le
 from_on from to time (e ∷ es) le h k = (k.0, h.1, h.2)
 
 -- Lawful events that rise in time lead to the same in every such order.
--- By induction on the second order: its first event stands in the first order behind events of its own time, so it
+-- By induction on the second order: its first event stands in the first order after events of its own time, so it
 -- goes to the front there, and the rest is in order again.
 reorder : (fs es : List (ℕ × Event)) (p : NodeProgress) (from to : ℕ) → RiseWithin from to es → RiseWithin from to fs →
     AreThoseOf fs es →

@@ -59,11 +59,13 @@ number_fits table (Arrival f) h = h.1
 number_fits table (Ending process faults value) h = h.1
 number_fits table Close h = omega arith
 
--- the numbers of a record tell the event
+-- the record of an event that has room says just this event; for a frame, by its value and by whether its item can have
+-- one
 told_back : (table : NodeTable) (time : ℕ) (e : Event) → HasRoom table e → event_of table (record_with time e) ≡ Some e
 told_back table time (Arrival f) h =
     go f.value (nat_lt f.item table.first_broadcast) (λ b. h.2 (ltb-true f.item table.first_broadcast b))
   where
+    -- by the value, and by whether the item is a message, whose value is false
     go : (v b : Bool) → (b ≡ true → v ≡ false) →
         cond (false || nat_lt 1 (bit v) || false || (true && b && (bit v == 1))) None
         (Some (Arrival (record { item = f.item; column = f.column; value = bit v == 1 })))
@@ -76,7 +78,7 @@ told_back table time (Ending process faults true) h = refl
 told_back table time (Ending process faults false) h = refl
 told_back table time Close h = refl
 
--- Bytes are cut into the records that they spell.
+-- the bytes of events are cut into the records of the events, after those before; by induction on the events
 cut_records : (before : List (List ℕ)) (es : List (ℕ × Event)) →
     fold cut_byte (record { whole = before; rest = [] }) (stream_bytes es)
     ≡ record { whole = before ++ map event_bytes es; rest = [] }
@@ -94,6 +96,7 @@ arrived_table : (time : ℕ) (f : Frame) (p : NodeProgress) →
     (arrived time f p).progress.dispatcher.table ≡ p.dispatcher.table
 arrived_table time f p = go (is_strange p.dispatcher time f)
   where
+    -- by whether the frame is strange
     go : (b : Bool) →
         (cond b (faulty p StrangeFrame)
         (lawful (record p { dispatcher = hear p.dispatcher f }))).progress.dispatcher.table ≡ p.dispatcher.table
@@ -105,6 +108,7 @@ ended_table : (time : ℕ) (e : Ended) (p : NodeProgress) →
     (ended time e p).progress.dispatcher.table ≡ p.dispatcher.table
 ended_table time e p = go (may_end p.dispatcher time e)
   where
+    -- by whether the process may end with this report
     go : (b : Bool) →
         (cond b (lawful (record p { dispatcher = finished p.dispatcher e }))
         (faulty p FalseEnd)).progress.dispatcher.table ≡ p.dispatcher.table
@@ -122,7 +126,7 @@ step_table time Close p = turned_table (time + 1) p
 
 -- A lawful front.
 
--- after an lawless event, more events change nothing
+-- after a lawless event, more events change nothing
 stays_faulty : (es : List (ℕ × Event)) (s : Step) (defect : Defect) → s.fault ≡ Some defect →
     (follow s es).fault ≡ Some defect
 stays_faulty [] s defect e = e
@@ -132,17 +136,19 @@ stays_faulty (f ∷ es) s defect e = ap (λ z. (follow z es).fault) (ap (follow_
 pub lawful_front : (es : List (ℕ × Event)) (s : Step) → (follow s es).fault ≡ None → s ≡ lawful s.progress
 lawful_front es s e = go s.fault refl
   where
+    -- by whether the step before the events had a fault, which would have stayed
     go : (o : Option Defect) → s.fault ≡ o → s ≡ lawful s.progress
     go None n = ap (λ o. record { progress = s.progress; fault = o }) n
     go (Some defect) n = absurd (none-some defect (sym e ∙ stays_faulty es s defect n))
 
--- events that rise within two times have the first no later than the second
+-- if events rise from one time to another, the first isn't after the second
 pub within_le : (from to : ℕ) (es : List (ℕ × Event)) → RiseWithin from to es → from ≤ to
 within_le from to [] h = h
 within_le from to (e ∷ es) h = omega (arith, h.0, within_le e.0 to es h.2)
 
 -- An open stream takes them.
 
+-- a lawful state that holds no byte of a next record
 abbrev state : NodeProgress → ℕ → ℕ → Bool → LiveState
 state p taken time closed =
     record { progress = p; taken = taken; time = time; rest = []; closed = closed; lawless = None }
@@ -163,7 +169,8 @@ module _ (table : NodeTable) where
       ∙ ap (λ b. cond b (refused s Order) (stepped s e.0 e.1 (step e.0 e.1 p))) (le-ltb e.0 time later)
       ∙ ap (settled (record s { progress = (step e.0 e.1 p).progress }) e.0 e.1) fine
 
-  -- an open stream takes the bytes of lawful events and a close as these events
+  -- an open stream takes the bytes of lawful events and a close as these events; by induction on the events: each is
+  -- lawful as all are, and leaves an open state at its time
   takes_all : (close : ℕ) → close < 2 ^ 64 → (es : List (ℕ × Event)) (p : NodeProgress) (taken time : ℕ) →
       p.dispatcher.table ≡ table →
       RiseWithin time close es →

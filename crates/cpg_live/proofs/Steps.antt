@@ -28,7 +28,8 @@ at_some o t P e h = subst (λ o. IfSome o P) e h
 abbrev progress_at : Dispatcher → List Act → NodeProgress
 progress_at d acts = record { dispatcher = d; acts = acts }
 
--- the node's turn and the acts that are added are the turn
+-- a node that takes the turn of its next instant, and its acts after those so far, are the progress after that turn;
+-- the view of the node before is that of p
 pub turn_taken : (p : NodeProgress) (before after : NodeState) (time : ℕ) (items more all : List Act) →
     progress_at before.dispatcher items ≡ p →
     next p.dispatcher ≡ Some time →
@@ -43,7 +44,8 @@ turn_taken p before after time items more all view comes d a m l =
     (m ∙ at_some (next before.dispatcher) time (λ t. after.acts ≡ acts_of_turn before.dispatcher t [] []) here a))
     ∙ ap (take_turn time) view
 
--- there is room for the acts that are added and for those that are left
+-- if there was room for the acts so far and an act of each entry left, there is after a turn for its acts and the
+-- entries left then, since they are no more than the entries left before (`room_turn`)
 pub room_taken : (before after : NodeState) (time n room : ℕ) (more : List Act) → next before.dispatcher ≡ Some time →
     IfSome (next before.dispatcher) (λ t. after.dispatcher ≡ turn before.dispatcher t [] []) →
     IfSome (next before.dispatcher) (λ t. after.acts ≡ acts_of_turn before.dispatcher t [] []) →
@@ -63,18 +65,21 @@ room_taken before after time n room more here d a m l = omega (
 
 -- an execution that runs, has not reported, has started before a time, and is planned to run to it
 pub record Unreported (o : Option Running) (time duration : ℕ) : Type 0 where
+  -- it runs, and has no report yet
   pub run : Running
   pub runs : o ≡ Some run
   pub none : run.report ≡ None
+  -- it started before this time, and its planned end isn't earlier
   pub started : run.start < time
   pub in_time : time ≤ run.start + duration
 
--- what is found to be missing is missing
+-- an option of which `is_none` holds is None
 none_is : {A : Type 0} (o : Option A) → is_none o ≡ true → o ≡ None
 none_is None e = refl
 none_is (Some x) e = absurd (true≢false (sym e))
 
--- if an end may be told now, its execution is such a one
+-- if an end may be told now, its execution is such a one: it runs, has no report, started before the time, and could
+-- still be running
 pub unreported : (d : Dispatcher) (time : ℕ) (e : Ended) (o : Option Running) → may_end_now d time e o ≡ true →
     Unreported o time (time_of d e.process e.faults)
 unreported d time e None h = absurd (true≢false (sym h))
@@ -96,7 +101,7 @@ plain_is None true h e = absurd (true≢false (sym h))
 plain_is None false h e = refl
 plain_is (Some c) value h e = absurd (none-some c (sym e))
 
--- an end that may be reported is one that the node may note
+-- an end that may be reported is one that the node may note; each test of `may_end` gives a field
 pub may_finish : (d : Dispatcher) (time : ℕ) (e : Ended) → IsTurned d time → is_after d.last time ≡ true →
     may_end d time e ≡ true →
     MayFinish d time e
@@ -124,6 +129,7 @@ arrived_after : (time : ℕ) (f : Frame) (p : NodeProgress) → is_after p.dispa
     is_after (arrived time f p).progress.dispatcher.last time ≡ true
 arrived_after time f p h = go (is_strange p.dispatcher time f)
   where
+    -- by whether the frame is strange
     go : (b : Bool) →
         is_after (cond b (faulty p StrangeFrame)
         (lawful (record p { dispatcher = hear p.dispatcher f }))).progress.dispatcher.last time ≡ true
@@ -135,6 +141,7 @@ ended_after : (time : ℕ) (e : Ended) (p : NodeProgress) → is_after p.dispatc
     is_after (ended time e p).progress.dispatcher.last time ≡ true
 ended_after time e p h = go (may_end p.dispatcher time e)
   where
+    -- by whether the process may end with this report
     go : (b : Bool) →
         is_after (cond b (lawful (record p { dispatcher = finished p.dispatcher e }))
         (faulty p FalseEnd)).progress.dispatcher.last time ≡ true

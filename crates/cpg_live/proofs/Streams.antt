@@ -27,7 +27,7 @@ use Rattle.cpg_live.specs.Streams.{stream_lines, IsClosed, IsRefused, IsCutOff, 
 
 -- ---- what a sink took
 
--- what is a proper front of some bytes is a proper front of more
+-- a proper prefix of some bytes that was taken is one of them and more
 pub took_more : (a b : List ℕ) (p q : List ℕ) → TookPrefix a b p → TookPrefix a b (p ++ q)
 took_more a b p q took =
     let n = took.0 in (
@@ -36,7 +36,7 @@ took_more a b p q took =
       subst (Took a b) (sym (take-append-le n p q (omega (arith, took.1)))) took.2,
     )
 
--- a proper front of some bytes, taken behind bytes that were taken whole, is one of both
+-- if p was taken and then a proper prefix of q, a proper prefix of p and q was
 pub took_after : (a b c : List ℕ) (p q : List ℕ) → Took a b p → TookPrefix b c q → TookPrefix a c (p ++ q)
 took_after a b c p q whole took =
     let n = took.0 in (
@@ -60,19 +60,19 @@ acts_more table fed more =
 
 -- ---- how it ends
 
--- a bad state ends the stream as lawless
+-- a stream with a lawless record ends with it, whatever its length
 end_lawless : (s : LiveState) (count : ℕ) (lawless : LawlessRecord) → s.lawless ≡ Some lawless →
     end_of s count ≡ Err (Lawless lawless)
 end_lawless s count lawless e =
     ap (λ o. cond (is_none o && nat_lt STREAM_LIMIT count) (Err Long) (end_by (outcome_if s o))) e
 
--- bytes beyond the limit end it as too long
+-- one without, but with more bytes than the limit, ends as too long
 end_long : (s : LiveState) (count : ℕ) → s.lawless ≡ None → STREAM_LIMIT < count → end_of s count ≡ Err Long
 end_long s count e l =
     ap (λ o. cond (is_none o && nat_lt STREAM_LIMIT count) (Err Long) (end_by (outcome_if s s.lawless))) e
     ∙ ap (λ b. cond b (Err Long) (end_by (outcome_if s s.lawless))) (lt-ltb STREAM_LIMIT count l)
 
--- otherwise it ends by what the state says
+-- any other ends as the state says
 end_short : (s : LiveState) (count : ℕ) → s.lawless ≡ None → count ≤ STREAM_LIMIT → end_of s count ≡ end_by (outcome s)
 end_short s count e l =
     ap (λ o. cond (is_none o && nat_lt STREAM_LIMIT count) (Err Long) (end_by (outcome_if s s.lawless))) e
@@ -82,6 +82,7 @@ end_short s count e l =
 pub not_long : (lawless : LawlessRecord) → Lawless lawless ≡ Long → ⊥
 not_long lawless e = true≢false (ap is_lawless e)
   where
+    -- whether the fault is a lawless record
     is_lawless : StreamFault → Bool
     is_lawless (Lawless lawless) = true
     is_lawless Long = false
@@ -93,7 +94,7 @@ lines_of : (h : Head) (table : NodeTable) (bytes : List ℕ) (s : LiveState) (en
     stream_lines h table bytes ≡ act_lines h s.progress.acts ++ close_of ends
 lines_of h table bytes s ends same e = ap₂ (λ (t : LiveState) r. act_lines h t.progress.acts ++ close_of r) same e
 
--- a fault that is there isn't missing
+-- an option with a lawless record isn't None
 some_none : (lawless : LawlessRecord) → Some lawless ≡ None → ⊥
 some_none lawless e = true≢false (sym (ap is_none e))
 
@@ -108,7 +109,7 @@ module _ (h : Head) (table : NodeTable) (fetch : Fetch) (sound : fetch.failed �
   ends_as : stream_end table fetch.given ≡ end_of (after table fetch.given) (length fetch.given)
   ends_as = ap (λ bytes. end_of (after table bytes) (length bytes)) read_all
 
-  -- a stream with such an end is refused by it
+  -- a stream with such an end is refused by it; its lines are those of the acts, as no close adds one
   refused_by : (fault : StreamFault) → (fault ≡ Long → IsTooLong table fetch.given) →
       (fault ≢ Long → (after table fetch.given).lawless ≡ None → fetch.ended ≡ true) →
       stream_end table fetch.given ≡ Err fault →
@@ -131,7 +132,8 @@ module _ (h : Head) (table : NodeTable) (fetch : Fetch) (sound : fetch.failed �
       (λ other none. absurd (some_none lawless (sym e ∙ none)))
       (ends_as ∙ end_lawless (after table fetch.given) (length fetch.given) lawless e)
 
-  -- a stream with more lawful bytes than the limit is refused as too long
+  -- a stream with more lawful bytes than the limit is refused as too long: the bytes read are 2^24 records of 14 bytes
+  -- and one byte more, so the stream is within a record
   pub too_long : (after table fetch.given).lawless ≡ None → STREAM_LIMIT < length fetch.given →
       IsRefused h table fetch Long (act_lines h (after table fetch.given).progress.acts)
   too_long e l =
@@ -146,7 +148,7 @@ module _ (h : Head) (table : NodeTable) (fetch : Fetch) (sound : fetch.failed �
       refused_by Long (λ _. long) (λ other none. absurd (other refl))
       (ends_as ∙ end_long (after table fetch.given) (length fetch.given) e l)
 
-  -- at its end
+  -- given that the stream has come to its end, is lawful and within the limit
   module _ (ended : fetch.ended ≡ true) (lawful : (after table fetch.given).lawless ≡ None)
       (short : length fetch.given ≤ STREAM_LIMIT) where
     -- a lawful stream within the limit ends by its state
@@ -159,7 +161,7 @@ module _ (h : Head) (table : NodeTable) (fetch : Fetch) (sound : fetch.failed �
     unclosed lawless e =
         refused_by (Lawless lawless) (λ e. absurd (not_long lawless e)) (λ other none. ended) (ends_short ∙ ap end_by e)
 
-    -- a stream that ended after its close is closed, with all its lines
+    -- a stream that ended after its close is closed, with all its lines; they are those of the acts and of the close
     pub closed : (time : ℕ) → outcome (after table fetch.given) ≡ Ok time →
         IsClosed h table fetch (act_lines h (after table fetch.given).progress.acts ++ closed_line time)
     closed time e =
@@ -174,7 +176,8 @@ module _ (h : Head) (table : NodeTable) (fetch : Fetch) (sound : fetch.failed �
               sym (lines_of h table fetch.given (after table fetch.given) (Ok time) (ap (after table) read_all) ends);
         }
 
-  -- if a sink took a proper front of the lines so far, the stream is cut off
+  -- if a sink took a proper front of the lines so far, the stream is cut off, since a proper prefix of these is one of
+  -- all its lines
   pub cut_off : (a b : List ℕ) → TookPrefix a b (act_lines h (after table fetch.given).progress.acts) →
       IsCutOff h table fetch a b
   cut_off a b took =

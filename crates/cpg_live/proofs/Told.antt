@@ -39,7 +39,7 @@ none_before : (d : Dispatcher) (time limit : ℕ) → next d ≡ Some time → l
 none_before d time limit e le = ap (instant_below limit) e ∙ ap (λ c. cond c (Some time) None) (le-ltb time limit le)
 
 module _ (time : ℕ) (acts : List Act) where
-  -- up to the time the node stays what it is
+  -- with all turns below any r from `from` up to the time, p is the node d with its acts
   Holds : ℕ → NodeProgress → Dispatcher → Type 0
   Holds from p d = (r : ℕ) → from ≤ r → r ≤ time → turned r p ≡ at d acts
 
@@ -54,15 +54,18 @@ module _ (time : ℕ) (acts : List Act) where
   come p d h e r le most = sym (further (after_last d.last) (after_last d.last) r p le) ∙ ap (turned r) h
       ∙ turned_last r (at d acts) (none_before d time r e most)
 
-  -- what a list of events leaves
+  -- after some events no fault was found, and with all turns up to the time the node is d, whose next instant is the
+  -- time
   record Told (s : Step) (d : Dispatcher) : Type 0 where
     fault : s.fault ≡ None
     comes : next d ≡ Some time
+    -- all turns up to any moment from `from` to the time leave d (`Holds`)
     from : ℕ
     within : from ≤ time
     hold : Holds from s.progress d
 
-  -- an end that may be is found to be possible
+  -- an end that the node may note is one that it may report (`may_end`): each of its tests follows from a field of
+  -- `MayFinish`
   may_end_is : (d : Dispatcher) (moment : ℕ) (e : Ended) → MayFinish d moment e → may_end d moment e ≡ true
   may_end_is d moment e m = and_from (may_tell d e) (may_end_now d moment e (running_of d e.process))
       (and_from (nat_le e.faults d.table.faults) _ (le-leb e.faults d.table.faults m.few)
@@ -71,6 +74,7 @@ module _ (time : ℕ) (acts : List Act) where
       ∙ and_from _ _ (and_from _ _ (ap is_none m.unreported) (lt-ltb m.run.start moment m.started))
       (le-leb moment (m.run.start + time_of d e.process e.faults) m.in_time))
     where
+      -- a process without a condition reports false, so its value is plain
       plain : (o : Option ℕ) (value : Bool) → (o ≡ None → value ≡ false) → (is_some o || not value) ≡ true
       plain None value h = ap (λ v. false || not v) (h refl)
       plain (Some c) value h = refl
@@ -86,7 +90,8 @@ module _ (time : ℕ) (acts : List Act) where
       ap (ended e.0 e.1) (h e.0 le most)
       ∙ ap (λ b. cond b (lawful (at (finished d e.1) acts)) (faulty (at d acts) FalseEnd)) (may_end_is d e.0 e.1 m)
 
-  -- reports that the node may take one after another are followed on their records
+  -- reports that the node may take one after another are followed on their records; by induction on the reports: none
+  -- changes the next instant
   tell_ends : (es : List (ℕ × Ended)) (from : ℕ) (p : NodeProgress) (d : Dispatcher) → Holds from p d →
       next d ≡ Some time → from ≤ time →
       MayReport d from es →
@@ -118,11 +123,11 @@ module _ (time : ℕ) (acts : List Act) where
       (sym (tell_frame from p d f h le m.0))
       (tell_frames fs from (at (hear d f) acts) (hear d f) (itself from (hear d f) n) n le m.1)
 
-  -- a step without a fault
+  -- a step without a fault is a lawful one
   whole : (s : Step) → s.fault ≡ None → lawful s.progress ≡ s
   whole s e = ap (λ o. record { progress = s.progress; fault = o }) (sym e)
 
-  -- the reports and frames of a turn are followed on their records
+  -- the reports and frames of a turn are followed on their records: first the reports, then the frames
   tell_all : (p : NodeProgress) (d : Dispatcher) (reports : List (ℕ × Ended)) (frames : List Frame) → HasCome p d acts →
       next d ≡ Some time →
       MayReport d (after_last d.last) reports →
@@ -139,7 +144,7 @@ module _ (time : ℕ) (acts : List Act) where
       (subst (λ s. Told (follow s (map (frame_event time) frames)) (hear_all (after_reports d reports) frames))
       (whole s one.fault) two)
 
-  -- after a step without a fault the turn comes
+  -- after a step without a fault the turn comes: of the turns below `time` + 1 only the one at `time` is left
   turn_comes : (s : Step) (d : Dispatcher) → Told s d → turned (time + 1) s.progress ≡ take_turn time (at d acts)
   unfolding Holds
   turn_comes s d k =
@@ -168,7 +173,7 @@ turns_are_followed p d acts time reports frames h n may fine fit =
           ∙ ap₂ at law.0 (ap (λ (more : List Act). acts ++ more) law.1);
     }
 
--- a close after the last turn of a node leaves the node as it is
+-- a close that isn't before the last turn of a node without a next instant leads to that node
 pub closes_are_followed : ClosesAreFollowed
 closes_are_followed p d acts time h n late =
     ap lawful (sym (further (after_last d.last) (after_last d.last) (time + 1) p late) ∙ ap (turned (time + 1)) h

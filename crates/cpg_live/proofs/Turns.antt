@@ -29,6 +29,7 @@ next_floor d t e = floor_after d.last t (next_is d t e).after
 
 -- an instant below a limit, or none
 pub record Below (limit : ℕ) (o : Option ℕ) : Type 0 where
+  -- there is an instant, and it is before the limit
   pub time : ℕ
   pub is : o ≡ Some time
   pub less : time < limit
@@ -47,7 +48,7 @@ below_or_not limit (Some t) = elim (cases_lt t limit) [
   | inr g ↦ inr (record { past = g; none = ap (λ b. cond b (Some t) None) (le-ltb t limit g) })
 ]
 
--- what is found is the next instant, and below the limit
+-- an instant that `instant_below` gives is the given one, and below the limit
 pub found_is : (limit : ℕ) (o : Option ℕ) (t : ℕ) → instant_below limit o ≡ Some t → (o ≡ Some t) × (t < limit)
 found_is limit o t e = elim (below_or_not limit o) [
   | inl b ↦ let z : b.time ≡ t = same_Some b.time t (sym b.found ∙ e) in (b.is ∙ ap Some z, omega (arith, z, b.less))
@@ -61,7 +62,7 @@ unfolding turns_below
 still zero limit p e = refl
 still (suc n) limit p e = ap (λ o. turns_below n limit (turn_if p o)) e ∙ still n limit p e
 
--- more turns change nothing if enough turns for the limit are allowed
+-- if n turns are enough for the limit (instants rise), one more changes nothing; by induction
 no_more : (n limit : ℕ) (p : NodeProgress) → limit ≤ n + after_last p.dispatcher.last →
     turns_below n limit p ≡ turns_below (suc n) limit p
 unfolding turns_below
@@ -89,7 +90,8 @@ turned_next (suc m) p t e =
 pub turned_last : (limit : ℕ) (p : NodeProgress) → instant_below limit (next p.dispatcher) ≡ None → turned limit p ≡ p
 turned_last limit p e = still limit limit p e
 
--- after them no instant is left below the limit
+-- after enough turns no instant is left below the limit; by induction on n: each turn is at a later instant, and so
+-- needs one less
 turns_end : (n limit : ℕ) (p : NodeProgress) → limit ≤ n + after_last p.dispatcher.last →
     IsTurned (turns_below n limit p).dispatcher limit
 unfolding turns_below
@@ -131,6 +133,7 @@ unfolding turns_below
 turns_table zero limit p = refl
 turns_table (suc n) limit p = turns_table n limit (turn_below limit p) ∙ kept (instant_below limit (next p.dispatcher))
   where
+    -- by whether there is a turn to take
     kept : (o : Option ℕ) → (turn_if p o).dispatcher.table ≡ p.dispatcher.table
     kept None = refl
     kept (Some t) = refl
@@ -139,7 +142,7 @@ turns_table (suc n) limit p = turns_table n limit (turn_below limit p) ∙ kept 
 pub turned_table : (limit : ℕ) (p : NodeProgress) → (turned limit p).dispatcher.table ≡ p.dispatcher.table
 turned_table limit p = turns_table limit limit p
 
--- one turn after others is one more
+-- the next turn after n turns makes n + 1
 pub turns_more : (n limit : ℕ) (p : NodeProgress) (t : ℕ) →
     instant_below limit (next (turns_below n limit p).dispatcher) ≡ Some t →
     take_turn t (turns_below n limit p) ≡ turns_below (suc n) limit p
@@ -152,7 +155,7 @@ pub few_none : (limit : ℕ) (p : NodeProgress) → AreFewTurns limit p p
 unfolding turns_below
 few_none limit p = record { turns = 0; few = omega arith; is = refl }
 
--- turns that a loop has taken, and the next one, which leaves fewer
+-- the turns that a loop has taken and the next one, which leaves fewer instants, stay within the bound
 pub few_next : (limit : ℕ) (before now after : NodeProgress) (t : ℕ) → AreFewTurns limit before now →
     instant_below limit (next now.dispatcher) ≡ Some t →
     after ≡ take_turn t now →

@@ -1,4 +1,4 @@
--- A node that follows a stream, piece by piece.
+-- A node that follows a stream of a shelf, piece by piece, and writes lines to a sink, `out`.
 use Rattle.std.specs.Prelude.{ℕ, ◌≡◌, true, false, ◌+◌, ◌≤◌, List, ◌∷◌, None, Result, Ok, Err, MatchResult, length}
 use Rattle.cpg_history.specs.Fetch.{Fetch, gave}
 use Rattle.cpg_io.specs.Causes.{Rose}
@@ -20,39 +20,46 @@ pub record IsOfSame (old new : Follower) : Type 0 where
   pub head : new.head ≡ old.head
   pub table : new.table ≡ old.table
 
--- a piece of this many bytes was read and fed
+-- A piece of `count` bytes was read from the shelf, which notes it as given, and fed. The state of the node is that after
+-- it, and at most a byte more than the limit has been read.
 pub record TakesPiece (shelf rest : ShelfState) (old new : Follower) (count : ℕ) : Type 0 where
   pub piece : List ℕ
   pub long : length piece ≡ count
+  -- the shelf notes that it gave the piece
   pub gave : rest.history ≡ gave piece shelf.history
+  -- nothing else of the follower changes
   pub state : new ≡ record old { live = new.live; read = old.read + count }
   pub few : new.read ≤ STREAM_LIMIT + 1
+  -- the node took the bytes of the piece
   pub fed : Feeds old.live piece new.live
 
--- a piece was read and fed, and the lines of all acts were written
+-- a piece was read and fed, which led to `fed`, and the lines of all acts so far count as written
 pub record TakesAndTells (shelf rest : ShelfState) (old new : Follower) : Type 0 where
   pub count : ℕ
   pub fed : Follower
   pub piece : TakesPiece shelf rest old fed count
   pub told : new ≡ record fed { told = length fed.live.progress.acts }
 
--- What a call for the next piece leaves of a follower: it took the piece and wrote its lines or, if the shelf met a
--- fault, is as it was.
+-- What a call for the next piece leaves of a follower, by its answer: if the shelf met a fault, it is as it was; else it
+-- took the piece, and counts the lines as written (even if the sink met a fault).
 abbrev pub IsLeftBy : Result ℕ Broken → ShelfState → ShelfState → Follower → Follower → Type 0
 IsLeftBy (Err Shelf) shelf rest old new = new ≡ old
 IsLeftBy other shelf rest old new = TakesAndTells shelf rest old new
 
--- A follower along a stream. What the shelf gave of its name, in one fetch more than before, was fed and is lawful, and
--- all its lines are written.
+-- A follower is along the stream of a name. The shelf's history has one fetch, of this name, more than `past`; what it
+-- gave was fed and is lawful, and the lines of all acts were written: `out` had taken `start` before, and `now` after.
 pub record IsAlong (name : List ℕ) (past history : List Fetch) (start now : List ℕ) (f : Follower) : Type 0 where
   pub fetch : Fetch
+  -- the fetch that is going on: of this name, without a fault so far, and the only one since `past`
   pub named : fetch.name ≡ name
   pub sound : fetch.failed ≡ false
   pub history_is : history ≡ fetch ∷ past
+  -- all that it gave was read and fed, within the limit, and is lawful
   pub read : f.read ≡ length fetch.given
   pub few : f.read ≤ STREAM_LIMIT
   pub live : f.live ≡ after f.table fetch.given
   pub lawful : f.live.lawless ≡ None
+  -- the lines of all acts are written
   pub all_told : f.told ≡ length f.live.progress.acts
   pub wrote : Took start now (act_lines f.head f.live.progress.acts)
 
@@ -62,8 +69,8 @@ pub record IsAlongAt (count : ℕ) (name : List ℕ) (past history : List Fetch)
   pub along : IsAlong name past history start now f
   pub end : count ≡ 0 → along.fetch.ended ≡ true
 
--- what a run sees of a stream and of `out`: what the fetch gave, and the count of faults and what was taken, before and
--- after
+-- what a run sees of a stream and of `out`: the fetch, the count of faults of `out` before and now, and the bytes that it
+-- had taken before (`old`) and has taken now (`new`)
 pub record Stream : Type 0 where
   pub fetch : Fetch
   pub before : ℕ
@@ -76,17 +83,17 @@ pub record AreWritten (s : Stream) (lines : List ℕ) : Type 0 where
   pub faultless : s.now ≡ s.before
   pub taken : Took s.old s.new lines
 
--- a stream is followed to its close, and all its lines are written
+-- a stream is followed to its close, and all its lines, with that of the close, are written
 abbrev pub Completes : Head → NodeTable → Stream → Type 0
 Completes h table s = (lines : List ℕ) × IsClosed h table s.fetch lines × AreWritten s lines
 
--- a stream isn't followed to its close
+-- a stream isn't followed to its close, and why: the shelf met a fault, `out` met one, or the stream is refused
 abbrev pub Breaks : Head → NodeTable → Stream → Broken → Type 0
 Breaks h table s Shelf = (lines : List ℕ) × IsLawfulSoFar h table s.fetch lines × AreWritten s lines
 Breaks h table s Sink = Rose s.before s.now × IsCutOff h table s.fetch s.old s.new
 Breaks h table s (Refused fault) = (lines : List ℕ) × IsRefused h table s.fetch fault lines × AreWritten s lines
 
--- the fact holds of the stream of the name, which was fetched once, with what was taken since a start
+-- a fact holds of the stream of this name, which was fetched once since `past`; `out` had taken `start` before it
 pub record IsStreamed (Is : Stream → Type 0) (name : List ℕ) (past history : List Fetch) (start : List ℕ)
     (old new : SinkState) : Type 0 where
   pub fetch : Fetch
@@ -94,8 +101,8 @@ pub record IsStreamed (Is : Stream → Type 0) (name : List ℕ) (past history :
   pub history_is : history ≡ fetch ∷ past
   pub is : Is (record { fetch = fetch; before = old.faults; now = new.faults; old = start; new = new.taken })
 
--- What an answer says of each stream that a follower was along, by its start, its name and what was fetched before. At
--- Ok it is the given fact; at Err it is how the stream broke.
+-- What an answer says of any stream that the follower was along, whatever `out` had taken before it (`start`), its name,
+-- and what had been fetched before (`past`): after Ok the given fact, after Err how the stream broke.
 abbrev pub GoesOn : {T : Type 0} → Follower → ShelfState → ShelfState → SinkState → SinkState →
     (T → List ℕ → List ℕ → List Fetch → Type 0) → Result T Broken → Type 0
 GoesOn f shelf rest old new Is result =
@@ -103,8 +110,9 @@ GoesOn f shelf rest old new Is result =
     MatchResult result (λ x. Is x start name past)
     (λ broken. IsStreamed (λ s. Breaks f.head f.table s broken) name past rest.history start old new)
 
--- A stream that has no more bytes ends: its close is written, or it is refused. The counts of the faults of `out` are
--- before and now.
+-- A stream without more bytes ends, by the answer: the line of its close is written; or `out` meets a fault on the way;
+-- or the stream is lawless, and nothing is written. `before` and `now` are the counts of the faults of `out`, `old` and
+-- `new` what it has taken. The last two answers don't come.
 abbrev pub Closes : Follower → ℕ → ℕ → List ℕ → List ℕ → Result Unit Broken → Type 0
 Closes f before now old new (Ok done) =
     (time : ℕ) × (outcome f.live ≡ Ok time) × Took old new (closed_line time) × (now ≡ before)

@@ -1,4 +1,4 @@
--- The invariant of a follower between its calls.
+-- What holds of a follower between calls.
 use Rattle.std.specs.Prelude.{ℕ, ◌≡◌, ◌+◌, ◌*◌, ◌≤◌, List, length}
 use Rattle.std.specs.Vec.{vec_capacity}
 use Rattle.cpg_table.specs.Table.{NodeTable}
@@ -13,19 +13,22 @@ use Rattle.cpg_live.specs.Follower.{Follower}
 abbrev pub table_in : Inside → NodeTable
 table_in f = f.live.progress.dispatcher.table
 
--- the state that the fields stand for
+-- the follower that the fields make
 abbrev pub follower_of : Inside → Follower
 follower_of f = record { head = f.head; table = table_in f; live = f.live; told = f.told; read = f.read }
 
--- how many acts a node can do: one for each column of what it sends and starts
+-- the most acts that a node can do: one for each column of what it sends and starts
 abbrev pub entry_count : NodeTable → ℕ
 entry_count table = column_count table.sends + column_count table.starts
 
--- the state is that after this many bytes, and there is room for the lines of all acts, and for one more line
+-- the state is that after the bytes `fed`, and there is room for the lines of all acts that the node can do, and for one
+-- more line
 pub record IsFollowing (f : Inside) : Type 0 where
   pub fed : List ℕ
   pub live : f.live ≡ after (table_in f) fed
   pub read : f.read ≡ length fed
+  -- at most a byte more than the limit, which shows that the stream is too long
   pub few : f.read ≤ STREAM_LIMIT + 1
+  -- how many acts have their lines written
   pub told : f.told ≤ length f.live.progress.acts
   pub room : MOST_LINE * (entry_count (table_in f) + 1) ≤ vec_capacity f.lines

@@ -12,7 +12,7 @@ pub record Cut : Type 0 where
   pub whole : List (List ℕ)
   pub rest : List ℕ
 
--- one more byte is cut off; a record has 14
+-- one byte more: with 14, the bytes so far are a whole record
 abbrev pub cut_byte : Cut → ℕ → Cut
 cut_byte c byte = if length c.rest + 1 == 14 then record { whole = c.whole ++ ((c.rest ++ byte ∷ []) ∷ []); rest = [] }
     else record { whole = c.whole; rest = c.rest ++ byte ∷ [] }
@@ -21,7 +21,7 @@ cut_byte c byte = if length c.rest + 1 == 14 then record { whole = c.whole ++ ((
 abbrev pub cut : List ℕ → Cut
 cut bytes = fold cut_byte (record { whole = []; rest = [] }) bytes
 
--- the numbers of a record, each with its highest byte first
+-- the numbers of a record of 14 bytes, each with its highest byte first
 abbrev pub record_of : List ℕ → Record
 record_of bytes = record {
   kind = slice_index bytes 0;
@@ -31,14 +31,14 @@ record_of bytes = record {
   value = slice_index bytes 13;
 }
 
--- A record's kind is lawless if the kind is above 2, the value byte is above 1, a close has other numbers than 0, or a
--- message's frame has a value.
+-- A record's kind (0 for a frame, 1 for an end, 2 for a close) is lawless if it is above 2, the value byte is above 1, a
+-- close has an item, a number or a value other than 0, or the frame of a message has the value 1.
 
--- whether all other numbers of a record are 0, as those of a close must be
+-- whether the item, the number and the value of a record are 0, as those of a close must be
 abbrev pub is_plain : Record → Bool
 is_plain r = (r.item == 0) && (r.number == 0) && (r.value == 0)
 
--- whether a record's kind is lawless
+-- whether a record's kind is lawless on the node of a table; items below `first_broadcast` aren't broadcasts
 abbrev pub is_unkind : NodeTable → Record → Bool
 is_unkind table r = nat_lt 2 r.kind || nat_lt 1 r.value || ((r.kind == 2) && not (is_plain r))
     || ((r.kind == 0) && nat_lt r.item table.first_broadcast && (r.value == 1))
@@ -49,6 +49,6 @@ told r = if r.kind == 0 then Arrival (record { item = r.item; column = r.number;
     else if r.kind == 1 then End r.item r.number (r.value == 1)
     else Close
 
--- the event of a record, if its kind is lawful
+-- the event of a record; None if its kind is lawless
 abbrev pub event_of : NodeTable → Record → Option Event
 event_of table r = if is_unkind table r then None else Some (told r)

@@ -1,11 +1,12 @@
--- Events at the same time, in any order.
+-- Events at the same time, in any order. An event comes with its time.
 use Rattle.std.specs.Prelude.{ℕ, ◌≡◌, List, [], ◌∷◌, ◌++◌, None}
 use Rattle.cpg_live.specs.declared.event.Event.{Event}
 use Rattle.cpg_live.specs.Stream.{NodeProgress, lawful}
 use Rattle.cpg_live.specs.Told.{follow}
 use Rattle.cpg_live.specs.Spelling.{RiseWithin}
 
--- the first list has the events of the second, each as often, in some order
+-- the first list has the events of the second, each as often, in some order: its first one is somewhere in the second,
+-- and the others are those that are left there
 abbrev pub AreThoseOf : List (ℕ × Event) → List (ℕ × Event) → Type 0
 AreThoseOf [] es = es ≡ []
 AreThoseOf (f ∷ fs) es = (before : List (ℕ × Event)) × (after : List (ℕ × Event)) × (es ≡ before ++ f ∷ after) ×

@@ -1,4 +1,4 @@
--- Events as bytes: the stream that spells them.
+-- Events as bytes: the stream that spells them. An event comes with its time.
 use Rattle.std.specs.Prelude.{ℕ, ◌≡◌, ◌<◌, ◌≤◌, ◌^◌, Bool, false, if◌then◌else◌, List, [], ◌∷◌, ◌++◌, None, Ok}
 use Rattle.std.specs.List.{flat_map, AllByRecursion}
 use Rattle.byteorder.specs.Endian.{big_bytes}
@@ -9,13 +9,13 @@ use Rattle.cpg_live.specs.declared.event.Event.TheVariants.{Frame as Arrival, En
 use Rattle.cpg_live.specs.Stream.{lawful, start, is_close, after, outcome}
 use Rattle.cpg_live.specs.Told.{follow}
 
--- a value as a byte
+-- a truth value as a byte: 1 or 0
 abbrev pub bit : Bool → ℕ
 bit value = if value then 1 else 0
 
--- The numbers of an event's record.
+-- The numbers of an event's record; those of a close are 0, but for its kind.
 
--- the kind of an event's record
+-- the kind of an event's record: a frame, an end or a close
 abbrev pub kind_of : Event → ℕ
 kind_of (Arrival f) = 0
 kind_of (Ending process faults value) = 1
@@ -33,7 +33,7 @@ number_of (Arrival f) = f.column
 number_of (Ending process faults value) = faults
 number_of Close = 0
 
--- the value of a broadcast or of an end's condition
+-- the value that a broadcast carries, or that of the condition of a process that ended
 abbrev pub value_of : Event → ℕ
 value_of (Arrival f) = bit f.value
 value_of (Ending process faults value) = bit value
@@ -56,28 +56,30 @@ event_bytes e = record_bytes (record_with e.0 e.1)
 abbrev pub stream_bytes : List (ℕ × Event) → List ℕ
 stream_bytes es = flat_map event_bytes es
 
--- the event's numbers have room in a record, and a message carries no value
+-- the event's numbers fit their fields in a record, and a message carries no value
 abbrev pub HasRoom : NodeTable → Event → Type 0
 HasRoom table (Arrival f) = (f.item < 2 ^ 16) × (f.column < 2 ^ 16) × (f.item < table.first_broadcast → f.value ≡ false)
 HasRoom table (Ending process faults value) = (process < 2 ^ 16) × (faults < 2 ^ 16)
 HasRoom table Close = Unit {0}
 
--- events in order of time, from one moment to another, none of them a close
+-- the events are in order of time, none is before `from` or after `to`, and none is a close
 abbrev pub RiseWithin : ℕ → ℕ → List (ℕ × Event) → Type 0
 RiseWithin from to [] = from ≤ to
 RiseWithin from to (e ∷ es) = (from ≤ e.0) × (is_close e.1 ≡ false) × RiseWithin e.0 to es
 
--- the events, and a close after them
+-- the events, and after them a close at the time `close`
 abbrev pub closed_at : List (ℕ × Event) → ℕ → List (ℕ × Event)
 closed_at es close = es ++ ((close, Close) ∷ [])
 
--- The bytes are a lawful stream to its close, and the node does on them what it does on the events.
+-- the bytes of the events and a close are a lawful stream, which ends with this close; and they lead the node where the
+-- events lead it
 pub record AreTaken (table : NodeTable) (es : List (ℕ × Event)) (close : ℕ) : Type 0 where
   pub ends : outcome (after table (stream_bytes (closed_at es close))) ≡ Ok close
   pub comes : (after table (stream_bytes (closed_at es close))).progress
       ≡ (follow (lawful (start table)) (closed_at es close)).progress
 
--- This holds for the bytes of all events that are lawful one after another, rise in time and have room.
+-- this holds for all events that are lawful one after another, rise in time and fit their fields, and of a close after
+-- them
 abbrev pub BytesSpellEvents : Type 0
 BytesSpellEvents = (table : NodeTable) (es : List (ℕ × Event)) (close : ℕ) → close < 2 ^ 64 → RiseWithin 0 close es →
     AllByRecursion (λ (e : ℕ × Event). HasRoom table e.1) es →

@@ -1,4 +1,5 @@
--- A stream that a node of a pack follows: the lines of what the node does, and how the stream ends.
+-- A stream that a node of a pack follows: the lines of what the node does, and how the stream ends. A fetch is what the
+-- shelf gave of a stream, and whether it came to its end or failed.
 use Rattle.std.specs.Prelude.{ℕ, ◌+◌, ◌≡◌, ◌≢◌, ◌<◌, ◌≤◌, ◌⊎◌, true, false, ◌&&◌, nat_lt, if◌then◌else◌, List, [], ◌++◌}
 use Rattle.std.specs.Prelude.{None, is_none, Result, Ok, Err, codes, length, take}
 use Rattle.std.specs.List.{flat_map}
@@ -18,7 +19,7 @@ use Rattle.cpg_live.specs.declared.following.StreamFault.{StreamFault}
 use Rattle.cpg_live.specs.declared.following.StreamFault.TheVariants.{Lawless, Long}
 use Rattle.cpg_live.specs.declared.following.TheConstants.{STREAM_LIMIT}
 
--- the line of an act: its time, and what it is
+-- the line of an act: its time, and what is done
 abbrev pub act_line : Head → Act → List ℕ
 act_line h a = decimal a.time ++ codes " " ++ done_text (head_labels h) (item_of (head_labels h) a.item) ++ codes "\n"
 
@@ -30,7 +31,7 @@ act_lines h acts = flat_map (act_line h) acts
 abbrev pub closed_line : ℕ → List ℕ
 closed_line time = codes "closed " ++ decimal time ++ codes "\n"
 
--- what is wrong with a record
+-- the word for what is wrong with a record
 abbrev pub defect_text : Defect → List ℕ
 defect_text Length = codes "length"
 defect_text Kind = codes "kind"
@@ -38,7 +39,7 @@ defect_text Order = codes "order"
 defect_text Frame = codes "frame"
 defect_text End = codes "end"
 
--- why a stream is rejected
+-- the words for why a stream is rejected, after the number of the refusal
 abbrev pub fault_text : StreamFault → List ℕ
 fault_text (Lawless lawless) = codes "21 stream " ++ decimal lawless.index ++ codes " " ++ defect_text lawless.defect
 fault_text Long = codes "16 long stream"
@@ -47,17 +48,16 @@ fault_text Long = codes "16 long stream"
 abbrev pub fault_line : StreamFault → List ℕ
 fault_line fault = codes "cpgc: refused " ++ fault_text fault ++ codes "\n"
 
--- At most the bytes of 16,777,216 records and one more byte are read of a stream.
+-- what is read of a stream at most: the bytes of 16,777,216 records, and one more
 abbrev pub read_part : List ℕ → List ℕ
 read_part bytes = take (STREAM_LIMIT + 1) bytes
 
--- the close of a stream, or its first lawless record
+-- the same end, with a lawless record as the fault of a stream
 abbrev pub end_by : Result ℕ LawlessRecord → Result ℕ StreamFault
 end_by (Ok time) = Ok time
 end_by (Err lawless) = Err (Lawless lawless)
 
--- How a stream ends in a state after this many bytes. If no record was lawless, more bytes than the limit are too
--- many.
+-- how a stream ends that ends in a state after `count` bytes; if no record is lawless, more than the limit are too many
 abbrev pub end_of : LiveState → ℕ → Result ℕ StreamFault
 end_of s count = if is_none s.lawless && nat_lt STREAM_LIMIT count then Err Long else end_by (outcome s)
 
@@ -70,50 +70,59 @@ abbrev pub close_of : Result ℕ StreamFault → List ℕ
 close_of (Ok time) = closed_line time
 close_of (Err fault) = []
 
--- All lines of a stream: those of the acts for the records before the first lawless one and, if the stream is lawful
--- to its end, that of its close.
+-- all lines of a stream: those of the acts up to its first lawless record and, if it is lawful to its close, that of the
+-- close
 abbrev pub stream_lines : Head → NodeTable → List ℕ → List ℕ
 stream_lines h table bytes =
     act_lines h (after table (read_part bytes)).progress.acts ++ close_of (stream_end table bytes)
 
--- a stream that was read to its end and is lawful to it, with all its lines
+-- a stream that was read to its end and is lawful to its close, at `time`; `lines` are all its lines
 pub record IsClosed (h : Head) (table : NodeTable) (fetch : Fetch) (lines : List ℕ) : Type 0 where
+  -- all bytes of the stream came, and no fault of the shelf
   pub ended : fetch.ended ≡ true
   pub sound : fetch.failed ≡ false
   pub short : length fetch.given ≤ STREAM_LIMIT
   pub time : ℕ
+  -- the close is the last record, and has this time
   pub ends : stream_end table fetch.given ≡ Ok time
   pub spelled : lines ≡ stream_lines h table fetch.given
 
--- A stream is too long: as many records as the limit allows are lawful, none of them is a close, and another byte came.
+-- a stream is too long: as many records as the limit allows are lawful, none of them is a close, and another byte came
 pub record IsTooLong (table : NodeTable) (bytes : List ℕ) : Type 0 where
   pub more : STREAM_LIMIT < length bytes
   pub lawful : (after table (read_part bytes)).lawless ≡ None
+  -- 2^24 records of 14 bytes are as many bytes as the limit
   pub taken : (after table (read_part bytes)).taken ≡ 16777216
   pub not_closed : (after table (read_part bytes)).closed ≡ false
 
--- A stream is rejected because of the bytes that came; these are the lines of the records before. The bytes have an
--- lawless record, are too many, or are all that there are.
+-- A stream is rejected because of the bytes that came; `lines` are all its lines. The bytes have a lawless record, are
+-- too many, or are all that there are.
 pub record IsRefused (h : Head) (table : NodeTable) (fetch : Fetch) (fault : StreamFault)
     (lines : List ℕ) : Type 0 where
+  -- the shelf met no fault
   pub sound : fetch.failed ≡ false
   pub few : length fetch.given ≤ STREAM_LIMIT + 1
+  -- how the stream ends is a fault of its bytes
   pub ends : stream_end table fetch.given ≡ Err fault
+  -- only a stream that is too long is refused as such
   pub long : fault ≡ Long → IsTooLong table fetch.given
+  -- a stream without a lawless record that isn't too long is refused only at its end, as it has no close
   pub all : fault ≢ Long → (after table fetch.given).lawless ≡ None → fetch.ended ≡ true
   pub spelled : lines ≡ stream_lines h table fetch.given
 
--- the shelf met a fault; the records of the bytes that came before it are all lawful, and these are their lines
+-- the shelf met a fault; all records of the bytes that came before are lawful, and `lines` are the lines of their acts
 pub record IsLawfulSoFar (h : Head) (table : NodeTable) (fetch : Fetch) (lines : List ℕ) : Type 0 where
+  -- the shelf met a fault before the end
   pub failed : fetch.failed ≡ true
   pub few : length fetch.given ≤ STREAM_LIMIT
   pub lawful : (after table fetch.given).lawless ≡ None
   pub spelled : lines ≡ act_lines h (after table fetch.given).progress.acts
 
--- A proper prefix of all lines of the bytes that came was written. It has a part of the close's line only if the bytes
--- came to their end.
+-- of all lines of the bytes that came only a proper prefix was written. If the bytes haven't come to their end, it is one
+-- of the acts' lines, without a part of the close's
 pub record IsCutOff (h : Head) (table : NodeTable) (fetch : Fetch) (old new : List ℕ) : Type 0 where
   pub sound : fetch.failed ≡ false
   pub few : length fetch.given ≤ STREAM_LIMIT + 1
+  -- the sink had taken `old` before the stream, and has taken `new` now
   pub front : TookPrefix old new (stream_lines h table fetch.given)
   pub so_far : (fetch.ended ≡ true) ⊎ TookPrefix old new (act_lines h (after table fetch.given).progress.acts)

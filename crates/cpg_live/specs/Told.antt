@@ -1,5 +1,5 @@
--- What a node hears and reports in a play, as records: on these, a node on a stream follows each turn that takes
--- reports and frames.
+-- What a node hears and reports in a play, as events of a stream: on these, a node on a stream follows each turn that
+-- takes reports and frames. An event, and a report, comes with its time.
 use Rattle.std.specs.Prelude.{ℕ, ◌+◌, ◌≡◌, ◌≤◌, List, [], ◌∷◌, ◌++◌, Option, Some, None, map, fold, Contains}
 use Rattle.cpg_node.specs.Dispatcher.{Dispatcher, Act, Ended, Frame, next, finished, hear_all, AllFine, EndFits}
 use Rattle.cpg_node.specs.Dispatcher.{due_reports, turn, acts_of_turn}
@@ -17,29 +17,29 @@ end_event e = (e.0, Ending e.1.process e.1.faults e.1.value)
 abbrev pub frame_event : ℕ → Frame → ℕ × Event
 frame_event time f = (time, Arrival f)
 
--- the step of one more event, if all before it were lawful
+-- the step of one more event; after a lawless one nothing more is done
 abbrev pub follow_if : Step → ℕ × Event → Option Defect → Step
 follow_if s e None = step e.0 e.1 s.progress
 follow_if s e (Some defect) = s
 
--- the step of one more event
+-- the same, by the step so far
 abbrev pub follow_one : Step → ℕ × Event → Step
 follow_one s e = follow_if s e s.fault
 
--- the step of several events, one after another
+-- the steps of several events, one after another, up to the first lawless one
 abbrev pub follow : Step → List (ℕ × Event) → Step
 follow s es = fold follow_one s es
 
--- the first instant after the last turn
+-- the first time after the last turn; 0 if there was none
 abbrev pub after_last : Option ℕ → ℕ
 after_last None = 0
 after_last (Some last) = last + 1
 
--- with all turns up to its last one, a node on a stream is in the state of a node in a play
+-- with all turns up to the last one of a node in a play, a node on a stream is in its state d and has done its acts
 abbrev pub HasCome : NodeProgress → Dispatcher → List Act → Type 0
 HasCome p d acts = turned (after_last d.last) p ≡ record { dispatcher = d; acts = acts }
 
--- the node may take these reports one after another; they are in order of time, and none is before a moment
+-- the node may take these reports one after another; they are in order of time, and none is before `from`
 abbrev pub MayReport : Dispatcher → ℕ → List (ℕ × Ended) → Type 0
 MayReport d from [] = Unit {0}
 MayReport d from (e ∷ es) = (from ≤ e.0) × MayFinish d e.0 e.1 × MayReport (finished d e.1) e.0 es
@@ -48,18 +48,19 @@ MayReport d from (e ∷ es) = (from ≤ e.0) × MayFinish d e.0 e.1 × MayReport
 abbrev pub after_reports : Dispatcher → List (ℕ × Ended) → Dispatcher
 after_reports d es = fold finished d (map {A = ℕ × Ended} {B = Ended} (λ e. e.1) es)
 
--- the records of a node before and in a turn, in order of time
+-- the events of a node up to a turn at a time and in it: the reports before it, and the frames that arrive then
 abbrev pub turn_events : ℕ → List (ℕ × Ended) → List Frame → List (ℕ × Event)
 turn_events time reports frames = map end_event reports ++ map (frame_event time) frames
 
--- the events are lawful, and lead to the node after the turn and to its acts
+-- these events are lawful, and lead a node on a stream to the state after the turn, and to its acts
 pub record IsFollowed (p : NodeProgress) (d : Dispatcher) (acts : List Act) (time : ℕ) (reports : List (ℕ × Ended))
     (frames : List Frame) : Type 0 where
   pub none : (follow (lawful p) (turn_events time reports frames)).fault ≡ None
   pub comes : HasCome (follow (lawful p) (turn_events time reports frames)).progress
       (turn (after_reports d reports) time [] frames) (acts ++ acts_of_turn (after_reports d reports) time [] frames)
 
--- This holds for each turn whose reports the node may take, and whose frames aren't strange and contradict no end.
+-- this holds for each turn at the next instant of a node in a play, if the node may take the reports before it, no frame is
+-- strange, and the frames contradict no end that is due
 abbrev pub TurnsAreFollowed : Type 0
 TurnsAreFollowed = (p : NodeProgress) (d : Dispatcher) (acts : List Act) (time : ℕ) (reports : List (ℕ × Ended))
     (frames : List Frame) → HasCome p d acts → next d ≡ Some time →
@@ -68,7 +69,8 @@ TurnsAreFollowed = (p : NodeProgress) (d : Dispatcher) (acts : List Act) (time :
     EndFits (after_reports d reports).table (hear_all (after_reports d reports) frames).heard e) →
     IsFollowed p d acts time reports frames
 
--- A close that isn't before the last turn of a node with no next instant leaves just that node.
+-- a close that isn't before the last turn of a node in a play, which has no next instant, leads a node on a stream to its
+-- state and acts
 abbrev pub ClosesAreFollowed : Type 0
 ClosesAreFollowed = (p : NodeProgress) (d : Dispatcher) (acts : List Act) (time : ℕ) → HasCome p d acts →
     next d ≡ None → after_last d.last ≤ time + 1 →

@@ -1,4 +1,4 @@
-//! Lines of a stream, in bytes that have room for them.
+//! Lines of a stream, appended to bytes that have room for them, so that no memory is asked for.
 ghost use Rattle.std.specs.Prelude.{◌≡◌, ◌+◌, ◌*◌, ◌≤◌, ◌++◌, length};
 ghost use Rattle.std.specs.Vec.{vec_len, vec_capacity};
 ghost use Rattle.cpg_label.specs.ItemText.{item_of, done_text};
@@ -12,10 +12,11 @@ use cpg_head::Head;
 use cpg_label::{append, append_number, item_among};
 use cpg_node::Act;
 
-/// The most bytes of a line.
+/// The most bytes that are reserved for a line: that of an act has a time of at most 20 digits, what was done (at most 40),
+/// a blank and its end; the others are shorter.
 pub const MOST_LINE: usize = 64;
 
-/// What a process is called, and nothing if there is no such process.
+/// Returns the name of a process; empty if there is no such process.
 fn process_name(head: &Head, process: u32) -> &str
     ensures text { result.now ≡ process_name (head_labels head.now) process }
     ensures few { length result.now ≤ 32 }
@@ -26,11 +27,12 @@ fn process_name(head: &Head, process: u32) -> &str
     }
 }
 
-/// What the process of a condition is called, and nothing if there is no such condition.
+/// Returns the name of the process of a condition; empty if there is no such condition.
 fn condition_name(head: &Head, condition: u32) -> &str
     ensures text { result.now ≡ condition_name (head_labels head.now) condition }
     ensures few { length result.now ≤ 32 }
 {
+    // how many processes with a condition come before the one that is wanted
     let mut before = condition;
     for process in head.processes() {
         if process.condition {
@@ -43,14 +45,15 @@ fn condition_name(head: &Head, condition: u32) -> &str
     ""
 }
 
-/// The item of a number.
+/// Returns the item with this number.
 fn item_of(head: &Head, number: u32) -> Item
     ensures { result ≡ item_of (head_labels head.now) number }
 {
     item_among(head.processes().len(), head.edges().len(), number)
 }
 
-/// Appends what a node did with an item.
+/// Appends what a node did with an item, in at most 40 bytes: a word of at most 6, and a name of at most 32 or a number of
+/// at most 20.
 fn append_done(out: &mut Vec<u8>, head: &Head, item: Item)
     requires { vec_len out.old + 40 ≤ vec_capacity out.old }
     ensures bytes { out.new.items ≡ out.old.items ++ done_text (head_labels head.now) item }
@@ -86,7 +89,7 @@ fn append_act(out: &mut Vec<u8>, head: &Head, act: &Act)
     append(out, b"\n");
 }
 
-/// Appends the lines of acts.
+/// Appends the lines of acts, one after another.
 pub fn append_acts(out: &mut Vec<u8>, head: &Head, acts: &[Act])
     requires { vec_len out.old + MOST_LINE * length acts.now ≤ vec_capacity out.old }
     ensures bytes { out.new.items ≡ out.old.items ++ act_lines head.now acts.now }
@@ -108,7 +111,7 @@ pub fn append_closed(out: &mut Vec<u8>, time: u64)
     append(out, b"\n");
 }
 
-/// What is wrong with a record, as text.
+/// Returns the word for what is wrong with a record.
 fn defect_text(defect: Defect) -> &'static [u8]
     ensures text { result.now ≡ defect_text defect }
     ensures few { length result.now ≤ 6 }
@@ -122,7 +125,7 @@ fn defect_text(defect: Defect) -> &'static [u8]
     }
 }
 
-/// Appends why a stream is refused.
+/// Appends why a stream is refused, in at most 40 bytes: the number of the refusal, and what is wrong.
 fn append_fault(out: &mut Vec<u8>, fault: StreamFault)
     requires { vec_len out.old + 40 ≤ vec_capacity out.old }
     ensures bytes { out.new.items ≡ out.old.items ++ fault_text fault }

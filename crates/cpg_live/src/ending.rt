@@ -6,19 +6,20 @@ ghost use Rattle.cpg_live.specs.Stream.{may_tell, may_end, may_end_now};
 
 use cpg_node::{Ended, Node, own_of};
 
-/// A fault count of a record, if it isn't above the given most.
+/// Returns the fault count of a record as a byte, or `None` if it is above `most`.
 pub fn count_within(number: u16, most: u8) -> Option<u8>
     ensures count { IfSome result (λ faults. faults ≡ number) }
     ensures few { is_some result ≡ nat_le number most }
 {
     if number <= u16::from(most) {
+        // at most `most`, which is a byte
         Some(number as u8)
     } else {
         None
     }
 }
 
-/// Whether a process of the node has a condition.
+/// Returns whether a process of the node has a condition; false if it isn't one of the node's.
 fn has_condition(node: &Node, process: u32) -> bool
     ensures { result ≡ is_some (own_of node.now.dispatcher.table process).condition }
 {
@@ -28,7 +29,8 @@ fn has_condition(node: &Node, process: u32) -> bool
     }
 }
 
-/// How long an execution of a process of the node takes with this many faults.
+/// Returns how long an execution of a process of the node takes with this many faults; 0 if it isn't one of the node's, or
+/// these are more than may be.
 fn time_of(node: &Node, process: u32, faults: u8) -> u64
     ensures { result ≡ time_of node.now.dispatcher process faults }
 {
@@ -41,7 +43,7 @@ fn time_of(node: &Node, process: u32, faults: u8) -> u64
     }
 }
 
-/// Whether an end has no more faults than are allowed, and a true value only if its process has a condition.
+/// Returns whether an end has at most the faults of a cycle, and a true value only if its process has a condition.
 fn may_tell(node: &Node, ended: &Ended) -> bool
     ensures { result ≡ may_tell node.now.dispatcher ended.now }
 {
@@ -51,7 +53,8 @@ fn may_tell(node: &Node, ended: &Ended) -> bool
     !ended.value || has_condition(node, ended.process)
 }
 
-/// Whether a process runs without a report, has started before the time, and is planned to run to it.
+/// Returns whether a process may end at a time: it runs, hasn't reported its end, started before, and with these faults
+/// its planned end isn't before.
 fn may_end_now(node: &Node, time: u64, ended: &Ended) -> bool
     ensures { result ≡ may_end_now node.now.dispatcher time ended.now (running_of node.now.dispatcher ended.now.process) }
 {
@@ -63,14 +66,14 @@ fn may_end_now(node: &Node, time: u64, ended: &Ended) -> bool
     if node.reported(ended.process) {
         return false;
     }
-    // it takes some time at least
+    // it didn't start before the time, and an execution takes some time
     if start >= time {
         return false;
     }
     time - start <= time_of(node, ended.process, ended.faults)
 }
 
-/// Whether a process may report its end at a time.
+/// Returns whether a process may report this end at a time.
 pub fn may_end(node: &Node, time: u64, ended: &Ended) -> bool
     ensures { result ≡ may_end node.now.dispatcher time ended.now }
 {

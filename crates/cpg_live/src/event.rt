@@ -1,4 +1,4 @@
-//! Events: what a record tells.
+//! Events: what a record says.
 ghost use Rattle.std.specs.Prelude.{◌≡◌};
 ghost use Rattle.cpg_live.specs.Records.{is_plain, is_unkind, told, event_of};
 ghost use Rattle.cpg_live.specs.Stream.{is_close};
@@ -7,25 +7,25 @@ use crate::reading::Record;
 use cpg_node::Frame;
 use cpg_table::NodeTable;
 
-/// What a record of a lawful kind tells.
+/// What a record of a lawful kind says.
 #[derive(Clone, Copy, Debug, PartialEq, Eq)]
 pub enum Event {
     /// A frame arrives.
     Frame(Frame),
     /// The end of an execution of a process: its number, its fault count, and the value of its condition.
     End(u32, u16, bool),
-    /// The stream ends.
+    /// The stream ends here.
     Close,
 }
 
-/// Whether all other numbers of a record are 0, as those of a close must be.
+/// Returns whether the item, the number and the value of a record are 0, as those of a close must be.
 fn is_plain(read: &Record) -> bool
     ensures { result ≡ is_plain read.now }
 {
     read.item == 0 && read.number == 0 && read.value == 0
 }
 
-/// Whether the kind of a record is lawless on the node of a table.
+/// Returns whether the kind of a record is lawless on the node of a table.
 fn is_unkind(table: &NodeTable, read: &Record) -> bool
     ensures { result ≡ is_unkind table.now read.now }
 {
@@ -40,18 +40,19 @@ fn is_unkind(table: &NodeTable, read: &Record) -> bool
     if read.kind == 2 {
         return !is_plain(read);
     }
-    // an end may have either value here
+    // an end may have either value; whether its process has a condition is looked at later
     if read.kind != 0 {
         return false;
     }
-    // the frame of a message, which isn't a broadcast, has no true value
+    // a frame of an item before the broadcasts is one of a message, which carries no value
     u32::from(read.item) < table.first_broadcast() && read.value == 1
 }
 
-/// What a record of a lawful kind tells.
+/// Returns what a record of a lawful kind says.
 fn told(read: &Record) -> Event
     ensures { result ≡ told read.now }
 {
+    // 0 is a frame, 1 an end, and 2, the only other lawful kind, a close
     if read.kind == 0 {
         return Event::Frame(Frame {
             item: u32::from(read.item),
@@ -65,7 +66,7 @@ fn told(read: &Record) -> Event
     Event::Close
 }
 
-/// The event of a record. `None` exactly if its kind isn't lawful.
+/// Returns the event of a record, or `None` if its kind is lawless.
 pub fn event_of(table: &NodeTable, read: &Record) -> Option<Event>
     ensures { result ≡ event_of table.now read.now }
 {
@@ -76,7 +77,7 @@ pub fn event_of(table: &NodeTable, read: &Record) -> Option<Event>
     }
 }
 
-/// Whether an event closes the stream.
+/// Returns whether an event closes the stream.
 pub fn is_close(event: &Event) -> bool
     ensures { result ≡ is_close event.now }
 {

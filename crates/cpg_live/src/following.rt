@@ -21,7 +21,7 @@ use cpg_table::{NodeTable, Tables};
 use std::alloc::Global;
 use std::marker::Model;
 
-/// The most bytes that are taken of a stream: those of 16,777,216 records of 14 bytes.
+/// The most bytes that a stream may have: those of 16,777,216 records of 14 bytes.
 pub const STREAM_LIMIT: usize = 234_881_024;
 
 /// The limit of a stream in plain numbers: 234,881,024 bytes, which are 16,777,216 records.
@@ -33,7 +33,7 @@ pub fn stream_limit_is_this()
 /// Why a stream is refused.
 #[derive(Clone, Copy, Debug, PartialEq, Eq)]
 pub enum StreamFault {
-    /// Its first lawless record, which is the awaited one if it ends without a close.
+    /// Its first lawless record. If the stream ends without a close and no record is lawless, that is the next one.
     Lawless(LawlessRecord),
     /// It has more than 16,777,216 records, of which the first 16,777,216 are lawful and none is a close.
     Long,
@@ -46,25 +46,33 @@ pub enum Broken {
     Shelf,
     /// The sink met a fault.
     Sink,
-    /// It is refused.
+    /// The stream is refused.
     Refused(StreamFault),
 }
 
-/// A piece of a stream that was fed: how many bytes it has, and the lawless record, if there is one.
+/// A piece of a stream that was fed: how many bytes it has, and the first lawless record of the stream, if there is one so
+/// far.
 #[derive(Clone, Copy, Debug, PartialEq, Eq)]
 struct Fed {
+    /// How many bytes the piece has.
     count: usize,
+    /// The first lawless record of the stream so far.
     lawless: Option<LawlessRecord>,
 }
 
-/// A node of a pack that follows a stream, with room for the lines of all that it can do. It is seen as the pack's head,
-/// the node's table and state, how many of its acts have been written, and how many bytes were fed.
+/// A node of a pack that follows a stream, with room (`lines`) for the lines of all that it can do. It is seen as the pack's
+/// head, the node's table and state, how many of its acts count as written (`told`), and how many bytes were fed (`read`).
 #[derive(Drop)]
 pub struct Follower {
+    /// The head of the pack.
     head: Head,
+    /// The node on its stream.
     live: Live,
+    /// Room for the lines of all that the node can do.
     lines: Vec<u8>,
+    /// How many of its acts count as written.
     told: usize,
+    /// How many bytes were fed.
     read: usize,
 }
 
@@ -79,7 +87,8 @@ impl Model for Follower {
     ghost invariant = { IsFollowing };
 }
 
-/// The greatest number of bytes of the lines of all acts that a node can do, and of one more line.
+/// Returns how many bytes are enough for the lines of all acts that a node can do, and for one more line; `None` only if
+/// the number doesn't fit a machine word.
 fn room_of(table: &NodeTable) -> Option<usize>
     ensures { IfSome result (λ room. room ≡ MOST_LINE * (entry_count table.now + 1)) }
 {
@@ -89,12 +98,14 @@ fn room_of(table: &NodeTable) -> Option<usize>
 }
 
 impl Follower {
-    /// A node of these tables before the first byte of its stream. Reserves all the room that it will need.
+    /// Returns a node of these tables before the first byte of its stream. It reserves all the memory that it will need;
+    /// `Err` only if there isn't so much.
     pub fn new(alloc: Global, tables: Tables, node: u32) -> Result<Follower, OutOfMemory>
         requires { node < length tables.head.nodes }
         ensures { IfOk result (λ f. f ≡ open_follower tables.head (table_at tables.nodes node)) }
     {
         let (head, table) = tables.into_node(node);
+        // more bytes than a machine word counts, and so than memory has
         let Some(room) = room_of(&table) else {
             return Err(OutOfMemory);
         };
@@ -110,7 +121,7 @@ impl Follower {
         })
     }
 
-    /// Reads the next piece of the stream and feeds it.
+    /// Reads the next piece of the stream and feeds it; `Err` only if the shelf meets a fault, and then nothing is fed.
     fn feed_piece<S: Shelf>(&mut self, shelf: &mut S, buffer: &mut [u8]) -> Result<Fed, Failed>
         requires some { 0 < length buffer.old }
         requires few { self.old.read ≤ STREAM_LIMIT }
@@ -123,7 +134,7 @@ impl Follower {
         ensures same { OnErr result (self.new ≡ self.old) }
         ensures cause { HasCause (S.state shelf.old).faults (S.state shelf.new).faults result }
     {
-        // one byte past the limit is read at most, which shows that the stream is too long
+        // at most one byte past the limit is read, which shows that the stream is too long
         let most = buffer.len().min(STREAM_LIMIT + 1 - self.read);
         let piece = &mut buffer[..most];
         let count = shelf.read(piece)?;
@@ -135,7 +146,8 @@ impl Follower {
         Ok(Fed { count, lawless })
     }
 
-    /// Writes the lines of the acts that haven't been written yet, all of them before anything is read.
+    /// Writes the lines of the acts that haven't been written yet; `Err` only if the sink meets a fault. They count as
+    /// written in either case.
     fn tell<O: Sink>(&mut self, out: &mut O) -> Result<(), Failed>
         ensures whole { OnOk result (Took (O.state out.old).taken (O.state out.new).taken
             (act_lines self.old.head (drop self.old.told self.old.live.progress.acts))) }
@@ -152,8 +164,9 @@ impl Follower {
         write_all(out, self.lines.as_slice())
     }
 
-    /// Follows the next piece: reads it, feeds it, and writes the lines of the acts that it brings, before anything else
-    /// is read. Returns how many bytes the piece has, which is 0 at the end of the stream.
+    /// Reads the next piece of the stream, feeds it, and writes the lines of the acts that it brings, before anything else
+    /// is read. Returns how many bytes the piece has, which is 0 only at the end of the stream. `Err` says that the shelf or
+    /// the sink met a fault, or that the stream is refused.
     pub fn follow_piece<S: Shelf, O: Sink>(
         &mut self,
         shelf: &mut S,
@@ -181,30 +194,32 @@ impl Follower {
         if self.tell(out).is_err() {
             return Err(Broken::Sink);
         }
-        // the lines of the acts before the lawless record are written already
+        // the lines of all acts before the lawless record are written by now
         if let Some(lawless) = fed.lawless {
             return Err(Broken::Refused(StreamFault::Lawless(lawless)));
         }
-        // all records up to the limit are lawful, and more bytes follow
+        // all records up to the limit are lawful, and another byte came
         if self.read > STREAM_LIMIT {
             return Err(Broken::Refused(StreamFault::Long));
         }
         Ok(fed.count)
     }
 
-    /// Writes the line of a close.
+    /// Writes the line of a close; `Err` only if the sink meets a fault.
     fn write_close<O: Sink>(&mut self, time: u64, out: &mut O) -> Result<(), Failed>
         ensures same { self.new ≡ self.old }
         ensures whole { OnOk result (Took (O.state out.old).taken (O.state out.new).taken (closed_line time)) }
         ensures part { OnErr result (TookPrefix (O.state out.old).taken (O.state out.new).taken (closed_line time)) }
         ensures cause { HasCause (O.state out.old).faults (O.state out.new).faults result }
     {
+        // the room of the lines that are written already serves again
         self.lines.clear();
         append_closed(&mut self.lines, time);
         write_all(out, self.lines.as_slice())
     }
 
-    /// Closes a stream that has no more bytes: writes the line of its close.
+    /// Ends a stream that has no more bytes: writes the line of its close. `Err` if it has none or has a lawless record,
+    /// and nothing is written then, or if the sink meets a fault.
     pub fn close<O: Sink>(&mut self, out: &mut O) -> Result<(), Broken>
         ensures same { self.new ≡ self.old }
         ensures closes { Closes self.old (O.state out.old).faults (O.state out.new).faults (O.state out.old).taken (O.state out.new).taken result }
@@ -219,13 +234,14 @@ impl Follower {
         }
     }
 
-    /// Writes the line of a stream that is refused.
+    /// Writes the line that says why a stream is refused; `Err` only if the sink meets a fault.
     pub fn write_refused<E: Sink>(&mut self, fault: StreamFault, err: &mut E) -> Result<(), Failed>
         ensures same { self.new ≡ self.old }
         ensures whole { OnOk result (Took (E.state err.old).taken (E.state err.new).taken (fault_line fault)) }
         ensures part { OnErr result (TookPrefix (E.state err.old).taken (E.state err.new).taken (fault_line fault)) }
         ensures cause { HasCause (E.state err.old).faults (E.state err.new).faults result }
     {
+        // the room of the lines that are written already serves again
         self.lines.clear();
         append_refused(&mut self.lines, fault);
         write_all(err, self.lines.as_slice())

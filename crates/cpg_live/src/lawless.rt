@@ -3,16 +3,17 @@
 /// What is wrong with a record. The cases are tested in this order.
 #[derive(Clone, Copy, Debug, PartialEq, Eq)]
 pub enum Defect {
-    /// It follows the close, or it isn't there though no close was taken.
+    /// It comes after the close, or the stream ends, within it or before it, without a close.
     Length,
-    /// Its kind is above 2, its value byte is above 1, it is a close that tells something, or it is a message's frame with
-    /// the value 1.
+    /// Its kind is above 2, its value byte is above 1, it is a close with an item, a number or a value other than 0, or it is
+    /// a message's frame with the value 1.
     Kind,
     /// Its time is below that of the record before.
     Order,
-    /// It is a frame that is strange at its time.
+    /// It is a frame that is strange at its time: the node hears no such frame then, or what it says contradicts what was
+    /// heard.
     Frame,
-    /// It is an end that the process can't have then.
+    /// It is an end that its process can't report at its time.
     End,
 }
 

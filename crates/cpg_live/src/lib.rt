@@ -19,23 +19,23 @@ pub use following::{Broken, Follower, STREAM_LIMIT, StreamFault, stream_limit_is
 pub use lawless::{Defect, LawlessRecord};
 pub use live::Live;
 
-/// A node that takes no more turns than it must does the same on each stream. These turns are at the times of its columns and
-/// at the ends that it awaits.
+/// A node that takes no more turns than it must does the same on each stream. These turns are at the times of its columns
+/// and at one end of each execution that runs.
 pub fn turns_may_be_left_out()
     ensures { TurnsMayBeLeftOut }
 {}
 
-/// A node on a stream follows a turn that takes reports and frames, if it is fed their records.
+/// A node on a stream follows a turn of a node in a play that takes reports and frames, if it is fed their records.
 pub fn turns_are_followed()
     ensures { TurnsAreFollowed }
 {}
 
-/// A close after the last instant of a node leaves the node as it is.
+/// A close after the last instant of a node in a play leads a node on a stream to the state of that node.
 pub fn closes_are_followed()
     ensures { ClosesAreFollowed }
 {}
 
-/// Events at the same time lead to the same state in any order.
+/// Events in any two orders that rise in time lead to the same state, if they are lawful in one of them.
 pub fn events_of_one_time_commute()
     ensures { EventsOfOneTimeCommute }
 {}

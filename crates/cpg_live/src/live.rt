@@ -16,16 +16,22 @@ use cpg_table::NodeTable;
 use std::alloc::Global;
 use std::marker::Model;
 
-/// One node on a stream of records (docs/FORMATS.md) that comes in pieces. It is seen as the node's state, the acts so far, the
-/// number of records taken, the time of the last one, the bytes of the next one so far, whether a close was taken, and the
-/// first lawless record, if there is one.
+/// One node on a stream of records (docs/FORMATS.md) that comes in pieces. It is seen as the node's state with its acts so
+/// far, how many records were taken, the time of the last one, the bytes of the next one so far, whether a close was
+/// taken, and the first lawless record, if there is one.
 #[derive(Drop)]
 pub struct Live {
+    /// The node, with its acts so far.
     progress: NodeProgress,
+    /// How many records were taken.
     taken: u64,
+    /// The time of the last record.
     time: u64,
+    /// The bytes of the next record so far.
     rest: Vec<u8>,
+    /// Whether a close was taken.
     closed: bool,
+    /// The first lawless record, if there is one.
     lawless: Option<LawlessRecord>,
 }
 
@@ -41,7 +47,8 @@ impl Model for Live {
 }
 
 impl Live {
-    /// The node of a table before the first byte of its stream. It reserves all the memory that it will need.
+    /// Returns the node of a table before the first byte of its stream. It reserves all the memory that it will need; `Err`
+    /// only if there isn't so much.
     pub fn new(alloc: Global, table: NodeTable) -> Result<Live, OutOfMemory>
         ensures { IfOk result (λ live. live ≡ open_stream table) }
     {
@@ -58,15 +65,15 @@ impl Live {
         })
     }
 
-    /// The acts of all turns so far, in order.
+    /// Returns the acts of all turns so far, in order.
     pub fn acts(&self) -> &[Act]
         ensures { result.now ≡ self.now.progress.acts }
     {
         self.progress.acts()
     }
 
-    /// The time of the close, in time units of the graph file, if the stream is lawful and ends here. Otherwise the first
-    /// lawless record. If no record is lawless and no close was taken, that is the next record.
+    /// Returns how the stream ends if it ends here: with the time of its close, in time units of the graph file, or with its
+    /// first lawless record. If no record is lawless and no close was taken, that is the next one.
     pub fn closed(&self) -> Result<u64, LawlessRecord>
         ensures { result ≡ outcome self.now }
     {
@@ -76,14 +83,15 @@ impl Live {
         if self.closed {
             return Ok(self.time);
         }
+        // the close is missing where the next record would be
         Err(LawlessRecord {
             index: self.taken,
             defect: Defect::Length,
         })
     }
 
-    /// Takes the next bytes of the stream: all records that they complete, up to the first lawless one, which is the answer
-    /// from then on. It doesn't matter how the stream is cut into pieces.
+    /// Takes the next bytes of the stream, and with them all records that they complete. `Err` is the first lawless record
+    /// of the stream so far; after it nothing more is taken. It doesn't matter how the stream is cut into pieces.
     pub fn feed(&mut self, piece: &[u8]) -> Result<(), LawlessRecord>
         ensures whole { Feeds self.old piece.now self.new }
         ensures grows { Grows self.old.progress.acts self.new.progress.acts }
@@ -106,15 +114,15 @@ impl Live {
         }
     }
 
-    /// Takes a byte.
+    /// Takes a byte, and the record that it completes, if it does.
     fn take_byte(&mut self, byte: u8)
         ensures { self.new ≡ take_byte self.old byte }
     {
-        // after an lawless record nothing more is taken
+        // after a lawless record nothing more is taken
         if self.lawless.is_some() {
             return;
         }
-        // a byte after the close
+        // a byte after the close makes its record lawless
         if self.closed {
             self.refuse(Defect::Length);
             return;
@@ -135,7 +143,7 @@ impl Live {
         self.lawless = Some(LawlessRecord { index, defect });
     }
 
-    /// Takes a record of a lawful kind and time, unless it is lawless after the turns that come first.
+    /// Takes the turns before a record of a lawful kind and time, and then the record, or notes that it is lawless.
     fn take(&mut self, time: u64, event: Event)
         requires { is_after self.old.progress.dispatcher.last time ≡ true }
         ensures { self.new ≡ stepped self.old time event (step time event self.old.progress) }
@@ -145,12 +153,13 @@ impl Live {
             self.lawless = Some(LawlessRecord { index, defect });
             return;
         }
+        // the count would stop at its greatest number; within the limit of a stream it is far below that
         self.taken = self.taken.saturating_add(1);
         self.time = time;
         self.closed = is_close(&event);
     }
 
-    /// Takes a record, unless it is lawless.
+    /// Takes a record, or notes that it is lawless: first its kind is looked at, then its time, then what it says.
     fn judge(&mut self, told: Record)
         requires open { self.old.closed ≡ false }
         requires lawful { self.old.lawless ≡ None }
@@ -160,7 +169,7 @@ impl Live {
             self.refuse(Defect::Kind);
             return;
         };
-        // the time of a record is no earlier than that of the one before
+        // its time is before that of the record before
         if told.time < self.time {
             self.refuse(Defect::Order);
             return;

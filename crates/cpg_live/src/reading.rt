@@ -1,4 +1,4 @@
-//! The numbers of a record.
+//! Reading the numbers of a record.
 ghost use Rattle.std.specs.Prelude.{◌≡◌, length};
 ghost use Rattle.cpg_live.specs.Records.{record_of};
 
@@ -10,7 +10,7 @@ pub const RECORD_SIZE: usize = 14;
 /// The numbers of a record, in the order of its bytes.
 #[derive(Clone, Copy, Debug, PartialEq, Eq)]
 pub struct Record {
-    /// 0 for a frame, 1 for an end, 2 for a close.
+    /// 0 for a frame, 1 for an end, 2 for a close; others are lawless.
     pub kind: u8,
     /// Its time, in time units of the graph file.
     pub time: u64,
@@ -18,11 +18,11 @@ pub struct Record {
     pub item: u16,
     /// The column of a frame, or the fault count of an end.
     pub number: u16,
-    /// The value of a broadcast or of a condition, 0 or 1.
+    /// The value of a broadcast or of the condition of an end, which should be 0 or 1.
     pub value: u8,
 }
 
-/// Reads the record of 14 bytes.
+/// Returns the numbers of a record of 14 bytes.
 pub fn read_record(bytes: &[u8]) -> Record
     requires { length bytes.now ≡ 14 }
     ensures { result ≡ record_of bytes.now }

@@ -1,4 +1,4 @@
--- Lines and their parts, by the first byte that ends them.
+-- Bytes parted at the first of some byte: the lines of a file at a line feed (10), the parts of a line at a blank (32).
 use Rattle.std.proofs.Common.{ℕ, zero, suc, ◌+◌, ◌-◌, ◌<◌, ◌≡◌, ◌==◌, ◌^◌, true, false, List, [], ◌∷◌, ◌++◌, length}
 use Rattle.std.proofs.Common.{get_or, take, drop, position, Some, None, arith, refl, sym, ap, ◌∙◌, subst, inl}
 use Rattle.std.proofs.Common.{inr, eqb-true, eq-eqb, ne_eqb, lt-ltb, true≢false}
@@ -15,7 +15,7 @@ use Rattle.std.proofs.lemmas.Str.Parse.{digit_from_value}
 use Rattle.cpg_base.proofs.Lists.{list_any_false}
 use Rattle.cpg_log.specs.Lines.{IsParted, lines, with_byte}
 
--- bytes are parted at a place of the byte, if the byte isn't before it
+-- bytes are parted at place i, if the byte is there and not before; by induction on i
 parts_at : (byte : ℕ) (xs : List ℕ) (i : ℕ) → i < length xs → (get_or xs i 0 == byte) ≡ true →
     ((k : ℕ) → k < i → (get_or xs k 0 == byte) ≡ false) →
     IsParted byte xs (take i xs) (drop (suc i) xs)
@@ -28,7 +28,7 @@ parts_at byte (x ∷ xs) (suc i) l e h =
       first = or_from (x == byte) (list_any (λ b. b == byte) (take i xs)) (h 0 (omega arith)) r.first;
     }
 
--- bytes are parted at the first place of a byte
+-- bytes are parted at the first place of a byte, as `position` finds it
 pub parted_at : (byte : ℕ) (xs : List ℕ) (i : ℕ) → position (λ b. b == byte) xs ≡ Some i →
     IsParted byte xs (take i xs) (drop (i + 1) xs)
 parted_at byte xs i e = let r = position-Some (λ b. b == byte) xs i 0 e in
@@ -44,7 +44,7 @@ not_there byte xs e =
       | inr m ↦ subst (λ y. (y == byte) ≡ false) c.2 (fails_before_first (λ b. b == byte) xs c.0 x (omega (arith, c.1)))
     ])
 
--- a line ends at the first line feed
+-- a line without a line feed, a line feed and a rest have the lines of the rest after that line; by induction
 pub lines_cut : (line rest : List ℕ) → list_any (λ b. b == 10) line ≡ false →
     lines (line ++ 10 ∷ rest) ≡ line ∷ lines rest
 lines_cut [] rest h = refl
@@ -56,7 +56,7 @@ lines_cut (b ∷ bs) rest h = let p = or_parts (b == 10) (list_any (λ b. b == 1
 pub lines_parted : (bytes line rest : List ℕ) → IsParted 10 bytes line rest → lines bytes ≡ line ∷ lines rest
 lines_parted bytes line rest p = ap lines p.whole ∙ lines_cut line rest p.first
 
--- bytes without a line feed are one line
+-- bytes without a line feed, if there are any, are one line
 pub lines_whole : (bytes : List ℕ) → 0 < length bytes → list_any (λ b. b == 10) bytes ≡ false → lines bytes ≡ bytes ∷ []
 lines_whole [] l h = absurd (omega arith)
 lines_whole (b ∷ []) l h = cond-false (b == 10) ([] ∷ []) ((b ∷ []) ∷ []) (or_parts (b == 10) false h).0
@@ -64,7 +64,7 @@ lines_whole (b ∷ c ∷ bs) l h = let p = or_parts (b == 10) (list_any (λ b. b
     cond-false (b == 10) ([] ∷ lines (c ∷ bs)) (with_byte b (lines (c ∷ bs))) p.0
     ∙ ap (with_byte b) (lines_whole (c ∷ bs) (omega arith) p.1)
 
--- a line is parted at a byte in one way only
+-- bytes are parted at the first of some byte in one way only; by induction on the first parts
 pub same_parts : (byte : ℕ) (d e t u : List ℕ) → list_any (λ b. b == byte) d ≡ false →
     list_any (λ b. b == byte) e ≡ false → d ++ byte ∷ t ≡ e ++ byte ∷ u →
     (d ≡ e) × (t ≡ u)
@@ -77,16 +77,16 @@ same_parts byte (x ∷ d) (y ∷ e) t u h k is =
     let r = same_parts byte d e t u (or_parts (x == byte) _ h).1 (or_parts (y == byte) _ k).1 (ap (drop 1) is) in
     ((λ i. ap (λ ys. get_or ys 0 0) is i ∷ r.0 i), r.1)
 
--- digits have no space among them
+-- decimal digits have no blank among them
 spaceless : (ds : List ℕ) → AllDigits 10 ds → list_any (λ b. b == 32) ds ≡ false
 spaceless [] d = refl
 spaceless (c ∷ cs) d = or_from (c == 32) (list_any (λ b. b == 32) cs)
     (ne_eqb c 32 (λ e. omega (arith, digit_from_value c d.0, e))) (spaceless cs d.1)
 
--- digits have no space among them
+-- the text of a number below 2^60 has no space
 pub decimal_spaceless : (n : ℕ) → n < 2 ^ 60 → list_any (λ b. b == 32) (decimal n) ≡ false
 decimal_spaceless n h = spaceless (decimal n) (decimal_is_IsNumeral n (omega arith)).0.1
 
--- the rest of some bytes from a place on is what is left without the bytes before
+-- as many bytes as there are from a place on are all from there on
 pub rest_of : (at : ℕ) (bytes : List ℕ) → take (length bytes - at) (drop at bytes) ≡ drop at bytes
 rest_of at bytes = grind (arith, common_steps)

@@ -1,4 +1,4 @@
--- Logs line by line.
+-- Logs line by line: a log with one more line (`line_read`), and the first line that makes a file none (`line_strange`).
 use Rattle.std.proofs.Common.{ℕ, zero, suc, ◌+◌, ◌<◌, ◌≡◌, ◌≢◌, ◌==◌, ◌^◌, List, [], ◌∷◌, ◌++◌, length, map, get_or}
 use Rattle.std.proofs.Common.{take, drop, codes, All, AllPairs, Contains, Some, None, arith, refl, sym, ap, ◌∙◌}
 use Rattle.std.proofs.Common.{subst, inl, inr, eq-eqb, ne_eqb}
@@ -17,7 +17,7 @@ use Rattle.cpg_log.specs.Reading.{IsLogOf, MayGoOn, HaveNames, LackTime, IsLineR
 use Rattle.cpg_log.proofs.LineLaws.{same_parts, decimal_spaceless}
 use Rattle.cpg_log.proofs.TextLaws.{spaced, same_line}
 
--- an act's line is parted after its time
+-- if a line is parted at its first blank and is that of an act, its parts are the act's time and text: a time has no blank
 pub act_parts : (g : Graph) (line digits text : List ℕ) (act : Logged) → IsParted 32 line digits text →
     act.time < 2 ^ 60 → line ≡ act_line g act →
     (digits ≡ decimal act.time) ×
@@ -26,13 +26,14 @@ act_parts g line digits text act p early e =
     same_parts 32 digits (decimal act.time) text (act_text g act.item) p.first (decimal_spaceless act.time early)
     (sym p.whole ∙ e ∙ spaced (decimal act.time) (act_text g act.item))
 
--- the first line is parted after its word
+-- if a line is parted at its first blank and is a first line, its parts are the word and the time
 pub until_parts : (line word digits : List ℕ) (until : ℕ) → IsParted 32 line word digits → line ≡ until_line until →
     (word ≡ codes "until") × (digits ≡ decimal until)
 until_parts line word digits until p e =
     same_parts 32 word (codes "until") digits (decimal until) p.first refl (sym p.whole ∙ e)
 
--- an item that isn't logged is none of those that are
+-- if acts don't name item x, no act of them is of x; by induction on the acts: if the first one were of x,
+-- `logged_time` would have its time
 unlogged : (ls : List Logged) (x : ℕ) → logged_time ls x ≡ None → (k : ℕ) (d : Logged) → k < length ls →
     (get_or ls k d).item ≢ x
 unlogged [] x e k d l = absurd (omega arith)
@@ -44,20 +45,21 @@ unlogged (m ∷ ls) x e k d l = elim (cases_eq m.item x) [
       other k l
 ]
   where
+    -- the item of no act is x: not of the first, and not of a later one
     at : ((j : ℕ) (f : Logged) → j < length ls → (get_or ls j f).item ≢ x) → m.item ≢ x → (k : ℕ) →
         k < length (m ∷ ls) →
         (get_or (m ∷ ls) k d).item ≢ x
     at rest other zero l = other
     at rest other (suc j) l = rest j d (omega arith)
 
--- a property of all elements and of one more holds of the longer list
+-- what holds of each element of a list and of y holds of each with y at the end
 all_push : {X : Type 0} (P : X → Type 0) (xs : List X) (y : X) → All P xs → P y → All P (xs ++ y ∷ [])
 all_push P [] y h p zero d l = p
 all_push P [] y h p (suc k) d l = absurd (omega arith)
 all_push P (x ∷ xs) y h p zero d l = h 0 d (omega arith)
 all_push P (x ∷ xs) y h p (suc k) d l = all_push P xs y (λ j e m. h (suc j) e (omega arith)) p k d (omega arith)
 
--- a log that may go on with an act is a log with the act
+-- a log that may go on with an act is still one with the act at the end
 pub log_more : (g : Graph) (log : Log) (act : Logged) → IsLog g log → MayGoOn g log act →
     IsLog g (record { until = log.until; acts = log.acts ++ act ∷ [] })
 log_more g log act is may = record {
@@ -67,25 +69,26 @@ log_more g log act is may = record {
       (λ k d l. unlogged log.acts act.item may.new k d l);
 }
 
--- the front of a list that has something appended is the list
+-- the first elements of xs and ys, as many as xs has, are xs
 take_front : {X : Type 0} (xs ys : List X) → take (length xs) (xs ++ ys) ≡ xs
 take_front [] ys = refl
 take_front (x ∷ xs) ys = ap (λ zs. x ∷ zs) (take_front xs ys)
 
--- two lists together are as long as both
+-- two lists, one after another, are as long as both
 long_front : {X : Type 0} (xs ys : List X) → length (xs ++ ys) ≡ length xs + length ys
 long_front [] ys = omega arith
 long_front (x ∷ xs) ys = omega (arith, long_front xs ys)
 
--- an element between two lists belongs to either
+-- an element between two lists may be grouped with either
 shifted : {X : Type 0} (xs : List X) (y : X) (ys : List X) → xs ++ y ∷ ys ≡ (xs ++ y ∷ []) ++ ys
 shifted [] y ys = refl
 shifted (x ∷ xs) y ys = ap (λ zs. x ∷ zs) (shifted xs y ys)
 
--- the lines of a log so far, and the rest of the file
+-- given the lines `ls` of a file, which are those of a lawful log and then those of the rest
 module _ (g : Graph) (ls : List (List ℕ)) (log : Log) (rest : List ℕ) (is : IsLog g log)
     (spelled : ls ≡ log_lines g log ++ lines rest) where
-  -- after the line of an act was read, the lines so far are those of the log with the act
+  -- if the first line of the rest is that of an act the log may go on with, the log with it is lawful, and `ls` are its
+  -- lines and then those of what is left
   pub line_read : (new : Log) (after : List ℕ) → IsLineRead g log rest new after →
       IsLog g new × (ls ≡ log_lines g new ++ lines after)
   line_read new after read = let more = read.goes_on in (
@@ -102,19 +105,21 @@ module _ (g : Graph) (ls : List (List ℕ)) (log : Log) (rest : List ℕ) (is : 
 head_of_cons : (a b : List ℕ) (xs ys : List (List ℕ)) → a ∷ xs ≡ b ∷ ys → a ≡ b
 head_of_cons a b xs ys e = ap (λ zs. get_or zs 0 []) e
 
--- if no log has the first line of a file, that is the first bad line
+-- if there is no first line, or it says no time, line 0 is the first bad one: the lines of a log begin with such a line
 pub lack_bad : (g : Graph) (ls : List (List ℕ)) → LackTime ls → IsBadLine g ls 0
 lack_bad g ls lack = record { none = λ log is e. at ls lack log is.until e; before = λ some. absurd (some refl) }
   where
+    -- the first line of a log says its time, and this one says none
     at : (ls : List (List ℕ)) → LackTime ls → (log : Log) → log.until < 2 ^ 60 → take (0 + 1) ls ≡ log_lines g log → ⊥
     at [] lack log early e = let f = ap length e in omega (arith, f)
     at (line ∷ rest) lack log early e =
         lack log.until rest early (ap (λ l. l ∷ rest) (head_of_cons line (until_line log.until) _ _ e))
 
--- the acts of lines that begin with those of a log
+-- given a graph whose nodes have well-formed names, and two times below 2^60
 module _ (g : Graph) (limits : IsWithinLimits g) (named : HaveNames g (item_count g)) (until later : ℕ)
     (early : until < 2 ^ 60) (soon : later < 2 ^ 60) (line : List ℕ) where
-  -- acts whose lines are those of others and one line more are these others and one act of that line
+  -- if the lines of acts xs are those of acts ys and one line more, xs are ys and an act l of that line; by induction, as an
+  -- act's line has only one act (`same_line`)
   one_more : (xs ys : List Logged) → All (IsActBy g later) xs → All (IsActBy g until) ys →
       map (act_line g) xs ≡ map (act_line g) ys ++ line ∷ [] →
       (l : Logged) × (xs ≡ ys ++ l ∷ []) ×
@@ -130,7 +135,8 @@ module _ (g : Graph) (limits : IsWithinLimits g) (named : HaveNames g (item_coun
       one_more xs ys (λ k d l. by (suc k) d (omega arith)) (λ k d l. is (suc k) d (omega arith)) (ap (drop 1) e) in
       (r.0, (λ i. same i ∷ r.1 i), r.2)
 
--- an item that is logged last isn't logged before
+-- if no two acts are of one item, those before the last don't name its item; by induction on those before: the first
+-- one and the last are a pair, so they are of different items
 before_last : (ls : List Logged) (l : Logged) → AllPairs (λ (a b : Logged). a.item ≢ b.item) (ls ++ l ∷ []) →
     logged_time ls l.item ≡ None
 before_last [] l pairs = refl
@@ -139,15 +145,17 @@ before_last (m ∷ ls) l pairs = cond-false (m.item == l.item) (Some m.time) (lo
     (same ∙ sym (ap (λ (z : Logged). z.item) (at_end ls l)))))
     ∙ before_last ls l (λ i j d a b. pairs (suc i) (suc j) d (omega arith) (omega arith))
   where
+    -- the last element is the one that was appended
     at_end : (xs : List Logged) (x : Logged) → get_or (xs ++ x ∷ []) (length xs) l ≡ x
     at_end [] x = refl
     at_end (y ∷ xs) x = at_end xs x
 
--- the lines of a log so far, and the rest of the file, of a graph whose nodes have names
+-- given the same of a file for a graph whose nodes have well-formed names
 module _ (g : Graph) (limits : IsWithinLimits g) (named : HaveNames g (item_count g)) (ls : List (List ℕ)) (log : Log)
     (rest : List ℕ) (is : IsLog g log)
     (spelled : ls ≡ log_lines g log ++ lines rest) where
-  -- a line with which the log can't go on is the first bad line of the file
+  -- a line with which the log can't go on is the first bad one: the lines before it are the log's (`before`), and a log of
+  -- these and it would be the log with an act of this line (`strange`)
   pub line_strange : (place : ℕ) → IsLineStrange g log rest place → IsBadLine g ls place
   line_strange place odd = record {
     none = λ other by e. strange other by (sym with_line ∙
@@ -162,6 +170,7 @@ module _ (g : Graph) (limits : IsWithinLimits g) (named : HaveNames g (item_coun
     );
   }
     where
+      -- a log has one line for the time and one for each act
       long : length (log_lines g log) ≡ suc (length log.acts)
       long = ap suc (length-map log.acts (act_line g))
 
@@ -169,12 +178,12 @@ module _ (g : Graph) (limits : IsWithinLimits g) (named : HaveNames g (item_coun
       whole : ls ≡ (log_lines g log ++ odd.line ∷ []) ++ lines odd.rest
       whole = spelled ∙ ap (λ xs. log_lines g log ++ xs) odd.first ∙ shifted (log_lines g log) odd.line (lines odd.rest)
 
-      -- the front up to the odd line
+      -- the first lines up to the odd one
       with_line : take (length (log_lines g log ++ odd.line ∷ [])) ls ≡ log_lines g log ++ odd.line ∷ []
       with_line = ap (take (length (log_lines g log ++ odd.line ∷ []))) whole
           ∙ take_front (log_lines g log ++ odd.line ∷ []) (lines odd.rest)
 
-      -- a log of these lines would go on with an act of the last
+      -- no other log has these lines: it would have the same time and acts, and one act more, of the odd line
       strange : (other : Log) → IsLog g other → log_lines g log ++ odd.line ∷ [] ≡ log_lines g other → ⊥
       strange other by e =
           let until = decimal_injective log.until other.until (omega (arith, is.until)) (omega (arith, by.until))
@@ -190,7 +199,7 @@ module _ (g : Graph) (limits : IsWithinLimits g) (named : HaveNames g (item_coun
 
 -- ---- a log's file has no bad line
 
--- entries that name different items do so still if only the first are taken
+-- if no two acts are of one item, so no two of the first n are
 apart_take : (ls : List Logged) (n : ℕ) → AllPairs (λ (a b : Logged). a.item ≢ b.item) ls →
     AllPairs (λ (a b : Logged). a.item ≢ b.item) (take n ls)
 apart_take ls n pairs i j d a b e =
@@ -199,7 +208,7 @@ apart_take ls n pairs i j d a b e =
     (sym (ap (λ (l : Logged). l.item) (get_or-take n ls i d (omega (arith, long, a, b)))) ∙ e ∙
     ap (λ (l : Logged). l.item) (get_or-take n ls j d (omega (arith, long, b))))
 
--- a file that is a log has no bad line
+-- a file that is a log's has no bad line: any first lines of it are those of the log with the first acts only
 pub no_bad_line : (g : Graph) (bytes : List ℕ) (log : Log) → IsLogOf g bytes log → (n : ℕ) →
     IsBadLine g (lines bytes) n → ⊥
 no_bad_line g bytes log is n bad = bad.none (record { until = log.until; acts = take n log.acts })

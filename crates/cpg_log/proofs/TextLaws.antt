@@ -1,4 +1,4 @@
--- The texts of acts, by number of the item.
+-- The texts of items, by number; and that no two items have the same text (`same_text`), nor two acts the same line.
 use Rattle.std.proofs.Common.{ℕ, ◌+◌, ◌<◌, ◌≡◌, ◌^◌, ◌==◌, Bool, true, false, ◌&&◌, ◌||◌, List, [], ◌∷◌, ◌++◌, codes}
 use Rattle.std.proofs.Common.{length, map, get_or, drop, arith, refl, sym, ap, ◌∙◌, subst, ◌⊎◌, inl, inr}
 use Rattle.std.proofs.Common.{ne_eqb, true≢false, String, Global, string_bytes}
@@ -25,19 +25,19 @@ use Rattle.cpg_log.specs.Log.{Logged, IsActBy, is_act, act_text, act_line}
 use Rattle.cpg_log.specs.Reading.{HaveNames}
 use Rattle.cpg_log.proofs.LineLaws.{same_parts, decimal_spaceless}
 
--- one part of a disjunction is true
+-- a part of a true disjunction is true
 or_cases : (a b : Bool) → (a || b) ≡ true → (a ≡ true) ⊎ (b ≡ true)
 or_cases true b e = inl refl
 or_cases false b e = inr e
 
--- what a node starts or sends is an item
+-- what a node starts or sends is an item of the graph
 pub act_within : (g : Graph) (x : ℕ) → is_act g x ≡ true → x < item_count g
 act_within g x e = elim (or_cases (nat_lt x (process_count g)) (nat_lt x (item_count g) && is_sent g x) e) [
   | inl l ↦ omega (arith, ltb-true x (process_count g) l)
   | inr m ↦ ltb-true x (item_count g) (and_parts (nat_lt x (item_count g)) (is_sent g x) m).0
 ]
 
--- the texts of all items
+-- given the texts of all items, by number
 module _ (g : Graph) (texts : List (String Global))
     (are : map string_bytes texts ≡ map (act_text g) (numbers_below (item_count g))) where
   -- there is a text for each item
@@ -50,7 +50,7 @@ module _ (g : Graph) (texts : List (String Global))
   text_at x d l = sym (get_or-map string_bytes texts x d [] (omega (arith, texts_long, l)))
       ∙ ap (λ ts. get_or ts x []) are ∙ get_or-map-below (act_text g) (item_count g) x [] l
 
--- if the nodes of the first items have names, and that of the next does, too, those of one item more do
+-- if the nodes of the items below n have well-formed names, and so has that of item n, so have those below n + 1
 pub names_more : (g : Graph) (n : ℕ) → HaveNames g n → IsName (get_or g.nodes (home g n) []) → HaveNames g (n + 1)
 names_more g n h name x l = elim (cases_lt x n) [
   | inl m ↦ h x m
@@ -59,13 +59,13 @@ names_more g n h name x l = elim (cases_lt x n) [
 
 -- ---- no two items have one text
 
--- a name has no space
+-- a well-formed name has no blank
 name_spaceless : (bytes : List ℕ) → IsName bytes → list_any (λ b. b == 32) bytes ≡ false
 name_spaceless bytes name = list_any_false (λ b. b == 32) bytes (λ b c. ne_eqb b 32 (λ e.
     let plain : is_name_byte b ≡ true = All-contains (λ b. is_name_byte b ≡ true) bytes b name.plain c in
     true≢false (sym (subst (λ d. is_name_byte d ≡ true) e plain))))
 
--- a blank is the byte 32
+-- the text of a blank is the byte 32
 pub spaced : (a t : List ℕ) → a ++ codes " " ++ t ≡ a ++ 32 ∷ t
 spaced a t = append_assoc a (32 ∷ []) t
 
@@ -95,8 +95,8 @@ module _ (g : Graph) (limits : IsWithinLimits g) where
   abbrev text : Item → List ℕ
   text = done_text (labels_of g)
 
-  -- Items with the same text are the same. The texts of starts, messages and broadcasts differ in a letter. Two
-  -- starts name the same process, two messages have the same number, and two broadcasts name the same process.
+  -- items with the same text are the same, by their kinds: texts of different kinds differ in their first or second byte;
+  -- after the word, two starts name one process, two messages have one number, and two broadcasts name one process
   same_item : (x y : ℕ) → ItemCases g x → ItemCases g y → text (item_at g x) ≡ text (item_at g y) → x ≡ y
   same_item x y (inl a) (inl b) e = same_label x y a.0 b.0 (ap (drop 6) (sym (ap text a.1) ∙ e ∙ ap text b.1))
   same_item x y (inl a) (inr (inl b)) e =
@@ -119,7 +119,7 @@ module _ (g : Graph) (limits : IsWithinLimits g) where
       let h = same_teller a.0 b.0 a.1 b.1 (ap (drop 5) (sym (ap text a.3) ∙ e ∙ ap text b.3)) in
       omega (arith, h, a.2, b.2)
 
-  -- two items of acts that have the same text are the same
+  -- two items that nodes start or send are the same if their texts are, since the name of the node ends at the first blank
   pub same_text : HaveNames g (item_count g) → (x y : ℕ) → is_act g x ≡ true → is_act g y ≡ true →
       act_text g x ≡ act_text g y → x ≡ y
   same_text named x y a b e =
@@ -131,7 +131,7 @@ module _ (g : Graph) (limits : IsWithinLimits g) where
       (sym (spaced (get_or g.nodes (home g x) []) (text (item_at g x))) ∙ e
       ∙ spaced (get_or g.nodes (home g y) []) (text (item_at g y)))).1
 
-  -- acts with the same line are the same
+  -- two acts are the same if their lines are: the time ends at the first blank, and the text names one item
   pub same_line : HaveNames g (item_count g) → (until later : ℕ) → until < 2 ^ 60 → later < 2 ^ 60 → (a b : Logged) →
       IsActBy g until a → IsActBy g later b → act_line g a ≡ act_line g b → a ≡ b
   same_line named until later early soon a b is by e =

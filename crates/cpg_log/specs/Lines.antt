@@ -2,17 +2,17 @@
 use Rattle.std.specs.Prelude.{ℕ, ◌≡◌, ◌==◌, false, if◌then◌else◌, List, [], ◌∷◌, ◌++◌}
 use Rattle.std.specs.List.{list_any}
 
--- lines that begin with a byte more
+-- the lines with a byte more at the start of the first; without lines, a line of this byte
 abbrev pub with_byte : ℕ → List (List ℕ) → List (List ℕ)
 with_byte b [] = (b ∷ []) ∷ []
 with_byte b (line ∷ others) = (b ∷ line) ∷ others
 
--- each ends with a line feed, which may be missing after the last
+-- the lines of some bytes. Each ends with a line feed (10), which isn't part of it and may be missing after the last
 abbrev pub lines : List ℕ → List (List ℕ)
 lines [] = []
 lines (b ∷ bs) = if b == 10 then [] ∷ lines bs else with_byte b (lines bs)
 
--- the bytes before the first such byte, and those after it
+-- `before` are the bytes before the first one that is `byte`, and `after` those after it
 pub record IsParted (byte : ℕ) (bytes before after : List ℕ) : Type 0 where
   pub whole : bytes ≡ before ++ byte ∷ after
   pub first : list_any (λ b. b == byte) before ≡ false

@@ -12,12 +12,12 @@ pub record Log : Type 0 where
   pub until : ℕ
   pub acts : List Logged
 
--- Whether a number is that of something a node starts or sends: a process, a message between two nodes, or, if there
--- are at least two nodes, a broadcast.
+-- whether x is the number of something that a node starts or sends: a process, a message between two nodes or, if there
+-- are at least two nodes, a broadcast
 abbrev pub is_act : Graph → ℕ → Bool
 is_act g x = nat_lt x (process_count g) || (nat_lt x (item_count g) && is_sent g x)
 
--- the node, and what it does, in the words of a trace
+-- the text of item x: its node, and what that does, in the words of a trace
 abbrev pub act_text : Graph → ℕ → List ℕ
 act_text g x = get_or g.nodes (home g x) [] ++ codes " " ++ done_text (labels_of g) (item_at g x)
 
@@ -25,26 +25,26 @@ act_text g x = get_or g.nodes (home g x) [] ++ codes " " ++ done_text (labels_of
 abbrev pub act_line : Graph → Logged → List ℕ
 act_line g l = decimal l.time ++ codes " " ++ act_text g l.item
 
--- the first line of a log, which says until when it goes
+-- the first line of a log, which says up to what time it goes
 abbrev pub until_line : ℕ → List ℕ
 until_line until = codes "until " ++ decimal until
 
--- the lines of a log
+-- the lines of a log: its first line, and one for each act
 abbrev pub log_lines : Graph → Log → List (List ℕ)
 log_lines g log = until_line log.until ∷ map (act_line g) log.acts
 
--- the act can be in a log up to a time
+-- an act may be in a log up to a time: a node starts or sends its item, and its time isn't after that
 pub record IsActBy (g : Graph) (until : ℕ) (l : Logged) : Type 0 where
   pub item : is_act g l.item ≡ true
   pub time : l.time ≤ until
 
--- the log's acts are up to its time, and no two of them are of one item
+-- a log goes up to a time below 2^60, its acts may be in such a log, and no two of them are of one item
 pub record IsLog (g : Graph) (log : Log) : Type 0 where
   pub until : log.until < 2 ^ 60
   pub acts : All (IsActBy g log.until) log.acts
   pub apart : AllPairs (λ a b. a.item ≢ b.item) log.acts
 
--- the time at which an item is logged, if it is
+-- the time at which a log's acts name item x; None if they don't
 abbrev pub logged_time : List Logged → ℕ → Option ℕ
 logged_time [] x = None
 logged_time (l ∷ ls) x = if l.item == x then Some l.time else logged_time ls x

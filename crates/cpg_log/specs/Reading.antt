@@ -6,61 +6,65 @@ use Rattle.cpg_log.specs.Lines.{lines}
 use Rattle.cpg_log.specs.Log.{Log, Logged, IsLog, IsActBy, log_lines, until_line, is_act, act_text, act_line}
 use Rattle.cpg_log.specs.Log.{logged_time}
 
--- the file has the lines of a log
+-- a file is that of a lawful log: it has its lines
 pub record IsLogOf (g : Graph) (bytes : List ℕ) (log : Log) : Type 0 where
   pub lawful : IsLog g log
   pub spelled : lines bytes ≡ log_lines g log
 
--- the first line that makes a file no log, counted from 0: with it the lines are no log's, and those before it, if any,
--- are one's
+-- `place` is the number, from 0, of the first line that makes a file no log: the lines up to it are no log's, and those
+-- before it, if there are any, are one's. If the file is empty it is 0
 pub record IsBadLine (g : Graph) (ls : List (List ℕ)) (place : ℕ) : Type 0 where
   pub none : (log : Log) → IsLog g log → take (place + 1) ls ≢ log_lines g log
   pub before : place ≢ 0 → (log : Log) × IsLog g log × (take place ls ≡ log_lines g log)
 
 -- Line by line.
 
--- a log may go on with an act: up to its time, and of an item that isn't logged yet
+-- a log may go on with an act: the act may be in it, and it doesn't name the act's item yet
 pub record MayGoOn (g : Graph) (log : Log) (l : Logged) : Type 0 where
   pub act : IsActBy g log.until l
   pub new : logged_time log.acts l.item ≡ None
 
--- no first line says until when a log goes
+-- there is no first line, or it doesn't say up to what time a log goes
 abbrev pub LackTime : List (List ℕ) → Type 0
 LackTime ls = (until : ℕ) (rest : List (List ℕ)) → until < 2 ^ 60 → ls ≢ until_line until ∷ rest
 
--- the nodes of the items below a number have names
+-- the nodes of the items below n have well-formed names
 abbrev pub HaveNames : Graph → ℕ → Type 0
 HaveNames g n = (x : ℕ) → x < n → IsName (get_or g.nodes (home g x) [])
 
--- a text names an item that a node starts or sends and that isn't logged yet
+-- a text is that of item x, which some node starts or sends and the log doesn't name yet
 pub record IsNew (g : Graph) (log : Log) (text : List ℕ) (x : ℕ) : Type 0 where
   pub item : is_act g x ≡ true
   pub new : logged_time log.acts x ≡ None
+  -- the text is what a log has for this act
   pub spelled : text ≡ act_text g x
 
--- a log with the act of a line more
+-- a line is that of an act that a log may go on with, and `new` is the log with this act added
 pub record GoesOn (g : Graph) (old : Log) (line : List ℕ) (new : Log) : Type 0 where
   pub act : Logged
   pub spelled : line ≡ act_line g act
   pub may : MayGoOn g old act
   pub added : new ≡ record { until = old.until; acts = old.acts ++ act ∷ [] }
 
--- the log with the act of the first line of some bytes more, and the bytes after it
+-- the same of the first line of some bytes; `rest` are the bytes after it
 pub record IsLineRead (g : Graph) (old : Log) (bytes : List ℕ) (new : Log) (rest : List ℕ) : Type 0 where
   pub line : List ℕ
   pub first : lines bytes ≡ line ∷ lines rest
+  -- fewer bytes are left, so reading line by line ends
   pub shorter : length rest < length bytes
   pub goes_on : GoesOn g old line new
 
--- the first line of some bytes, which stands at this place of a file, is of no act that the log may go on with
+-- the first line of some bytes is of no act that the log may go on with. It is the line `place` of its file, as the first
+-- line and one for each act so far come before it
 pub record IsLineStrange (g : Graph) (log : Log) (bytes : List ℕ) (place : ℕ) : Type 0 where
   pub line : List ℕ
   pub rest : List ℕ
   pub first : lines bytes ≡ line ∷ lines rest
+  -- lines are counted from 0, and line 0 has no act
   pub here : place ≡ length log.acts + 1
   pub strange : (l : Logged) → MayGoOn g log l → line ≢ act_line g l
 
--- a log without an act, by the first line of a file, and the bytes after it
+-- the first line of a file opens a log, which has no act yet; `rest` are the bytes after it
 pub record IsOpened (bytes : List ℕ) (log : Log) (rest : List ℕ) : Type 0 where
   pub until : log.until < 2 ^ 60
   pub none : log.acts ≡ []

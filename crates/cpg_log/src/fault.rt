@@ -1,11 +1,11 @@
-//! Why a file is no log.
+//! Why no log was read of a file.
 
 use cpg_base::OutOfMemory;
 
-/// Why a file is no log.
+/// Why no log was read of a file.
 #[derive(Clone, Copy, Debug, PartialEq, Eq)]
 pub enum LogFault {
-    /// The first line that makes the file no log, counted from 0.
+    /// The file is no log; the number is that of the first line that makes it none, counted from 0.
     Bad(u64),
     /// Out of memory.
     OutOfMemory,

@@ -1,4 +1,4 @@
-//! Log files: what nodes did, up to a time.
+//! Log files: what the nodes started and sent up to a time.
 #![tactic(auto)]
 
 mod fault;

@@ -4,7 +4,7 @@ ghost use Rattle.std.specs.Bool.{OnFalse, OnTrue};
 ghost use Rattle.std.specs.List.{list_any};
 ghost use Rattle.cpg_log.specs.Lines.{IsParted, lines};
 
-/// The place of the first such byte.
+/// Returns the place of the first byte that is `byte`, or `None` if there is none.
 fn byte_index(bytes: &[u8], byte: u8) -> Option<usize>
     ensures place { result ≡ position (λ b. b == byte) bytes.now }
     ensures within { IfSome result (λ place. place < length bytes.now) }
@@ -12,7 +12,7 @@ fn byte_index(bytes: &[u8], byte: u8) -> Option<usize>
     bytes.iter().position(|other| *other == byte)
 }
 
-/// The bytes before the first such byte and those after it, and `None` exactly if there is none.
+/// Returns the bytes before the first byte that is `byte`, and those after it, or `None` if there is none.
 pub fn parted(bytes: &[u8], byte: u8) -> Option<(&[u8], &[u8])>
     ensures some { IfSome result (λ r. IsParted byte bytes.now r.0.now r.1.now) }
     ensures none { IfNone result (list_any (λ b. b == byte) bytes.now ≡ false) }
@@ -23,7 +23,7 @@ pub fn parted(bytes: &[u8], byte: u8) -> Option<(&[u8], &[u8])>
     Some((&bytes[..place], &bytes[place + 1..]))
 }
 
-/// Whether two lists of bytes are equal.
+/// Returns whether two lists of bytes are equal.
 pub fn are_same(first: &[u8], second: &[u8]) -> bool
     ensures yes { OnTrue result (first.now ≡ second.now) }
     ensures no { OnFalse result (first.now ≢ second.now) }
@@ -31,7 +31,8 @@ pub fn are_same(first: &[u8], second: &[u8]) -> bool
     first == second
 }
 
-/// The first line of some bytes, and the bytes after its line feed.
+/// Returns the first line of some bytes, and the bytes after its line feed. The last line may lack that: the rest is empty
+/// then.
 pub fn first_line(bytes: &[u8]) -> (&[u8], &[u8])
     requires { 0 < length bytes.now }
     ensures lines { lines bytes.now ≡ result.0.now ∷ lines result.1.now }

@@ -4,7 +4,7 @@ ghost use Rattle.cpg_log.specs.Log.{logged_time};
 
 use std::marker::Model;
 
-/// An act that a log names: when an item is started or sent, in time units, and the number of the item.
+/// An act that a log names: an item is started or sent at a time.
 #[derive(Clone, Copy, Debug, PartialEq, Eq)]
 pub struct Logged {
     /// When it is, in the time units of the graph file.
@@ -16,7 +16,9 @@ pub struct Logged {
 /// What nodes did up to a time, seen as that time and the acts, in the order of the file.
 #[derive(Drop)]
 pub struct Log {
+    /// The time up to which the log tells all acts.
     pub(crate) until: u64,
+    /// The acts up to that time.
     pub(crate) acts: Vec<Logged>,
 }
 
@@ -29,21 +31,21 @@ impl Model for Log {
 }
 
 impl Log {
-    /// Until when the log goes, in time units.
+    /// Returns the time up to which the log goes, in time units of the graph file.
     pub fn until(&self) -> u64
         ensures { result ≡ self.now.until }
     {
         self.until
     }
 
-    /// The acts.
+    /// Returns the acts, in the order of the file.
     pub fn acts(&self) -> &[Logged]
         ensures { result.now ≡ self.now.acts }
     {
         self.acts.as_slice()
     }
 
-    /// When an item is logged, and `None` exactly if it isn't.
+    /// Returns when an item is started or sent by the log, or `None` if the log doesn't name it.
     pub fn time_of(&self, item: u32) -> Option<u64>
         ensures { result ≡ logged_time self.now.acts item }
     {

@@ -6,10 +6,11 @@ use crate::lines::are_same;
 use cpg_base::OutOfMemory;
 use std::alloc::Global;
 
-/// No time of a log is this late.
+/// Times of a log are below this.
 const TOO_LATE: u64 = 1 << 60;
 
-/// The number below 2^60 that some digits write, if they are those of a time.
+/// Returns the number below 2^60 whose decimal digits these are, if they are those of one. For other bytes it may be any
+/// number below 2^60, or `None`.
 fn number(digits: &[u8]) -> Option<u64>
     ensures early { IfSome result (λ n. n < 2 ^ 60) }
     ensures is { (n : ℕ) → n < 2 ^ 60 → digits.now ≡ decimal n → result ≡ Some n }
@@ -27,7 +28,7 @@ fn number(digits: &[u8]) -> Option<u64>
     }
 }
 
-/// A number in decimal digits.
+/// Returns the decimal digits of a number; `Err` only if memory runs out.
 fn written(alloc: Global, number: u64) -> Result<String, OutOfMemory>
     ensures { IfOk result (λ text. string_bytes text ≡ decimal number) }
 {
@@ -36,7 +37,8 @@ fn written(alloc: Global, number: u64) -> Result<String, OutOfMemory>
     Ok(text)
 }
 
-/// The time below 2^60 that decimal digits without leading zeros write, and `None` exactly if there is none.
+/// Returns the time below 2^60 whose decimal digits, without leading zeros, these are, or `None` if there is none, and
+/// `Err` only if memory runs out.
 pub fn time(alloc: Global, digits: &[u8]) -> Result<Option<u64>, OutOfMemory>
     ensures some { IfOk result (λ r. IfSome r (λ n. (digits.now ≡ decimal n) × (n < 2 ^ 60))) }
     ensures none { IfOk result (λ r. IfNone r ((n : ℕ) → n < 2 ^ 60 → digits.now ≢ decimal n)) }
@@ -44,7 +46,7 @@ pub fn time(alloc: Global, digits: &[u8]) -> Result<Option<u64>, OutOfMemory>
     let Some(number) = number(digits) else {
         return Ok(None);
     };
-    // A sign or leading zeros are digits of no time.
+    // with a sign or leading zeros they aren't the digits of the number
     let text = written(alloc, number)?;
     if !are_same(digits, text.as_bytes()) {
         return Ok(None);

@@ -1,4 +1,4 @@
-//! Reading of logs.
+//! Reading logs.
 ghost use Rattle.std.specs.Prelude.{◌≡◌, ◌≢◌, ◌^◌, ◌<◌, ℕ, Err, IfNone, IfOk, IfSome, length, map, string_bytes};
 ghost use Rattle.std.specs.Bool.{OnFalse, OnTrue};
 ghost use Rattle.cpg_base.specs.Graph.{item_count};
@@ -16,10 +16,11 @@ use crate::texts::{act_texts, item_named};
 use cpg_base::{OutOfMemory, Problem};
 use std::alloc::Global;
 
-/// What the first line begins with.
+/// The word that the first line begins with.
 const UNTIL: &[u8] = b"until";
 
-/// The time until which a line says that a log goes, and `None` exactly if it says no time.
+/// Returns the time up to which a log goes by its first line, or `None` if the line isn't of this form, and `Err` only
+/// if memory runs out.
 fn until_of(alloc: Global, line: &[u8]) -> Result<Option<u64>, OutOfMemory>
     ensures some { IfOk result (λ r. IfSome r (λ until. (line.now ≡ until_line until) × (until < 2 ^ 60))) }
     ensures none { IfOk result (λ r. IfNone r ((until : ℕ) → until < 2 ^ 60 → line.now ≢ until_line until)) }
@@ -34,7 +35,8 @@ fn until_of(alloc: Global, line: &[u8]) -> Result<Option<u64>, OutOfMemory>
     Ok(until)
 }
 
-/// The act of a line that a log may go on with, and `None` exactly if there is none.
+/// Returns the act of a line, or `None` if the line is of none that the log may go on with, and `Err` only if memory
+/// runs out. `texts` are those of all items.
 fn act_of(
     alloc: Global,
     problem: &Problem,
@@ -53,6 +55,7 @@ fn act_of(
     let Some(time) = time(alloc, digits)? else {
         return Ok(None);
     };
+    // the log doesn't go up to this time
     if log.until < time {
         return Ok(None);
     }
@@ -62,7 +65,8 @@ fn act_of(
     Ok(Some(Logged { time, item }))
 }
 
-/// Adds the act of a line to a log, and answers false exactly if the line is of none that the log may go on with.
+/// Adds the act of a line to a log; false exactly if the line is of none that the log may go on with, and `Err` only if
+/// memory runs out.
 fn go_on(
     alloc: Global,
     problem: &Problem,
@@ -82,7 +86,8 @@ fn go_on(
     Ok(true)
 }
 
-/// Adds the act of the first line of some bytes to a log, and answers the bytes after that line.
+/// Adds the act of the first line of some bytes to a log, and returns the bytes after that line. `Bad` with the number of
+/// the line exactly if it is of no act that the log may go on with; the only other error is `OutOfMemory`.
 fn read_line<'a>(
     alloc: Global,
     problem: &Problem,
@@ -96,6 +101,7 @@ fn read_line<'a>(
     ensures more { IfOk result (λ rest. IsLineRead problem.now log.old bytes.now log.new rest.now) }
     ensures bad { (place : ℕ) → result ≡ Err (LogFault.Bad place) → IsLineStrange problem.now log.old bytes.now place }
 {
+    // the number of the line, from 0 on: each before it but line 0 has given an act
     let place = log.acts.len() as u64 + 1;
     let (line, rest) = first_line(bytes);
     if !go_on(alloc, problem, texts, log, line)? {
@@ -104,7 +110,8 @@ fn read_line<'a>(
     Ok(rest)
 }
 
-/// The log of the first line, without an act yet, and the bytes after that line.
+/// Returns the log of the first line, which has no act yet, and the bytes after that line. `Bad(0)` exactly if the first
+/// line doesn't say up to what time a log goes, or there is none; the only other error is `OutOfMemory`.
 fn opened(alloc: Global, bytes: &[u8]) -> Result<(Log, &[u8]), LogFault>
     ensures log { IfOk result (λ r. IsOpened bytes.now r.0 r.1.now) }
     ensures bad { (place : ℕ) → result ≡ Err (LogFault.Bad place) → (place ≡ 0) × LackTime (lines bytes.now) }
@@ -120,14 +127,14 @@ fn opened(alloc: Global, bytes: &[u8]) -> Result<(Log, &[u8]), LogFault>
     Ok((Log { until, acts }, rest))
 }
 
-/// The log that a file spells. `Bad` comes exactly if some line isn't of its form, names no item, names another node
-/// than the one that starts or sends it, names an item of an earlier line or has a time past that of the first line, and
-/// names the first such line, counted from 0; a file without a line lacks line 0.
+/// Returns the log that a file spells. `Bad` exactly if it spells none, with the number, from 0, of the first line that isn't
+/// of its form, names no item, names another node than the one that starts or sends it, names an item of an earlier line
+/// or has a time past that of the first line; for an empty file that is 0. The other error is `OutOfMemory`.
 pub fn read_log(alloc: Global, problem: &Problem, bytes: &[u8]) -> Result<Log, LogFault>
     ensures log { IfOk result (IsLogOf problem.now bytes.now) }
     ensures bad { (place : ℕ) → result ≡ Err (LogFault.Bad place) → IsBadLine problem.now (lines bytes.now) place }
 {
-    // called for its contract: the graph is within its limits
+    // called for its contract: the graph keeps its limits
     let _processes = problem.processes();
     let texts = act_texts(alloc, problem)?;
     let (mut log, mut rest) = opened(alloc, bytes)?;

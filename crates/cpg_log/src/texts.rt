@@ -1,4 +1,4 @@
-//! The texts of acts.
+//! The texts by which a log names items: the node, and what it does.
 ghost use Rattle.std.specs.Prelude.{◌≡◌, ◌<◌, ◌++◌, [], ℕ, IfNone, IfOk, IfSome, OnOk, get_or, map, string_bytes};
 ghost use Rattle.std.specs.Bool.{OnFalse, OnTrue};
 ghost use Rattle.cpg_base.specs.Graph.{home, item_count};
@@ -13,7 +13,7 @@ use cpg_base::{OutOfMemory, Problem};
 use cpg_label::write_item;
 use std::alloc::{AllocError, Global};
 
-/// Whether a node starts or sends an item.
+/// Returns whether a node starts or sends an item.
 fn is_act(problem: &Problem, item: u32) -> bool
     requires { item < item_count problem.now }
     ensures { result ≡ is_act problem.now item }
@@ -21,7 +21,7 @@ fn is_act(problem: &Problem, item: u32) -> bool
     (item as usize) < problem.processes().len() || problem.is_sent(item)
 }
 
-/// Which node starts or sends an item, and the item.
+/// Writes the text of an item: the node that starts or sends it, and what it does. `Err` only if memory runs out.
 fn write_act(out: &mut String, problem: &Problem, item: u32) -> Result<(), AllocError>
     requires { item < item_count problem.now }
     ensures text { OnOk result (string_bytes out.new ≡ string_bytes out.old ++ act_text problem.now item) }
@@ -33,7 +33,7 @@ fn write_act(out: &mut String, problem: &Problem, item: u32) -> Result<(), Alloc
     write_item(out, problem, item)
 }
 
-/// Which node starts or sends an item, and the item, in a text of its own.
+/// Returns the text of an item; `Err` only if memory runs out.
 fn act_text(alloc: Global, problem: &Problem, item: u32) -> Result<String, OutOfMemory>
     requires { item < item_count problem.now }
     ensures text { IfOk result (λ text. string_bytes text ≡ act_text problem.now item) }
@@ -44,7 +44,7 @@ fn act_text(alloc: Global, problem: &Problem, item: u32) -> Result<String, OutOf
     Ok(out)
 }
 
-/// These texts of all items, by number.
+/// Returns the texts of all items, by number; `Err` only if memory runs out.
 pub fn act_texts(alloc: Global, problem: &Problem) -> Result<Vec<String>, OutOfMemory>
     ensures texts { IfOk result (λ texts. map string_bytes texts.items ≡ map (act_text problem.now) (numbers_below (item_count problem.now))) }
     ensures names { IfOk result (λ _. HaveNames problem.now (item_count problem.now)) }
@@ -58,7 +58,7 @@ pub fn act_texts(alloc: Global, problem: &Problem) -> Result<Vec<String>, OutOfM
     Ok(texts)
 }
 
-/// The text of an item. The contract alone names `problem`.
+/// Returns the text of an item out of those of all. `problem` is there for the contract alone.
 fn text_of<'a>(problem: &Problem, texts: &'a [String], item: u32) -> &'a [u8]
     requires texts { map string_bytes texts.now ≡ map (act_text problem.now) (numbers_below (item_count problem.now)) }
     requires item { item < item_count problem.now }
@@ -67,7 +67,7 @@ fn text_of<'a>(problem: &Problem, texts: &'a [String], item: u32) -> &'a [u8]
     texts[item as usize].as_bytes()
 }
 
-/// Whether a text names an item that a node starts or sends and that a log doesn't name yet.
+/// Returns whether a text is that of an item, some node starts or sends the item, and the log doesn't name it yet.
 fn is_named(problem: &Problem, texts: &[String], log: &Log, item: u32, text: &[u8]) -> bool
     requires texts { map string_bytes texts.now ≡ map (act_text problem.now) (numbers_below (item_count problem.now)) }
     requires item { item < item_count problem.now }
@@ -83,8 +83,8 @@ fn is_named(problem: &Problem, texts: &[String], log: &Log, item: u32, text: &[u
     log.time_of(item).is_none()
 }
 
-/// The item that a text names, of those that a node starts or sends and a log doesn't name yet; `None` exactly if there
-/// is none.
+/// Returns the item whose text this is, of those that a node starts or sends and that the log doesn't name yet; `None`
+/// exactly if there is none.
 pub fn item_named(problem: &Problem, texts: &[String], log: &Log, text: &[u8]) -> Option<u32>
     requires { map string_bytes texts.now ≡ map (act_text problem.now) (numbers_below (item_count problem.now)) }
     ensures some { IfSome result (IsNew problem.now log.now text.now) }

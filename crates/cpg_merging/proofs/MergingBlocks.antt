@@ -1,4 +1,5 @@
--- Literals that all begin at 0: no column ends where one of them begins.
+-- Marking literals block by block. Where a literal begins at 0, no column ends before it, so its variable needs no
+-- mark.
 use Rattle.std.proofs.Common.{ℕ, ◌≡◌, ◌⊎◌, ◌==◌, true, List, [], ◌∷◌, ◌++◌, Contains, arith, subst, inl, inr}
 use Rattle.std.specs.List.{list_all}
 use Rattle.std.proofs.lemmas.Bool.{and_parts, eqb-true}
@@ -7,12 +8,13 @@ use Rattle.cpg_base.proofs.Lists.{Contains-cases, Contains-nil}
 use Rattle.cpg_cube.specs.declared.literal.Literal.{Literal}
 use Rattle.cpg_merging.specs.Totals.{HasNoPartner}
 
--- each literal allows all numbers from 0 on
+-- each literal begins at 0
 abbrev pub AllAtZero : List Literal → Type 0
 AllAtZero ls = list_all (λ (l : Literal). l.low == 0) ls ≡ true
 
--- each of the literals begins at 0
+-- that each literal of the list begins at 0, said of one of them
 pub zero_in : (ls : List Literal) → AllAtZero ls → (l : Literal) → Contains ls l → l.low ≡ 0
+-- by induction on the list
 zero_in [] h l c = absurd (Contains-nil l c)
 zero_in (m ∷ ls) h l c =
     let parts = and_parts (m.low == 0) (list_all (λ (x : Literal). x.low == 0) ls) h in
@@ -21,17 +23,19 @@ zero_in (m ∷ ls) h l c =
       | inr d ↦ zero_in ls parts.1 l d
     ]
 
--- a literal that begins at 0 has no partner: no column ends where it begins
+-- a literal that begins at 0 has no partner: no range ends before it
 pub none_before : (sums : List ℕ) (total : ℕ) (ls : List Literal) → AllAtZero ls → (l : Literal) → Contains ls l →
     HasNoPartner sums total l
 none_before sums total ls h l c low rest lt e there = absurd (omega (arith, zero_in ls h l c, lt))
 
--- if a block of the literals left is marked, each literal is among those left behind it or marked
+-- If a block of the literals that are left is marked, each literal is among those left behind the block, or marked.
+-- `P` says that a literal is marked so far, `Q` that it is marked then.
 pub marked_on : (P : Literal → Type 0) (Q : Literal → Type 0) (all left block rest : List Literal) →
     left ≡ block ++ rest → ((l : Literal) → P l → Q l) →
     ((l : Literal) → Contains block l → Q l) →
     ((l : Literal) → Contains all l → Contains left l ⊎ P l)
     → (l : Literal) → Contains all l → Contains rest l ⊎ Q l
+-- a literal is in the block, behind it, or marked before
 marked_on P Q all left block rest is kept here before l c = elim (before l c) [
   | inl there ↦ elim (Contains-append_cases block rest l (subst (λ ls. Contains ls l) is there)) [
     | inl now ↦ inr (here l now)
@@ -40,7 +44,7 @@ marked_on P Q all left block rest is kept here before l c = elim (before l c) [
   | inr done ↦ inr (kept l done)
 ]
 
--- if each literal is left or marked, and each that is left is marked too, all are
+-- if each literal is left or marked, and those that are left are marked too, all are marked
 pub all_marked : (P : Literal → Type 0) (all left : List Literal) →
     ((l : Literal) → Contains all l → Contains left l ⊎ P l) → ((l : Literal) → Contains left l → P l) → (l : Literal) →
     Contains all l → P l

@@ -1,4 +1,5 @@
--- Ranges of cubes when literals are left out or one is raised, and two cubes that touch made one.
+-- The ranges of cubes when literals are left out or one is raised; and that ranges decide a cube without literals of
+-- the whole range.
 use Rattle.std.proofs.Common.{ℕ, ◌<◌, ◌≤◌, ◌≡◌, ◌≢◌, ◌⊎◌, Bool, true, false, not, cond, ◌==◌, List, [], ◌∷◌, length}
 use Rattle.std.proofs.Common.{take, Contains, All, get_or, arith, refl, sym, ap, ap₂, ◌∙◌, subst, ⊎_elim}
 use Rattle.std.proofs.Common.{eqb-true}
@@ -21,12 +22,12 @@ use Rattle.cpg_merging.specs.Merged.{HaveNoWhole}
 use Rattle.cpg_merging.specs.Merging.{shorn, all_shorn, without, raised}
 use Rattle.cpg_cube.proofs.Ranges.{same_literal}
 
--- if one literal leads two lists with the same ranges, the lists have the same ranges
+-- two lists with the same low of v have so with one literal more in front
 same_low : (l : Literal) (xs ys : List Literal) (v : ℕ) → low_in xs v ≡ low_in ys v →
     low_in (l ∷ xs) v ≡ low_in (l ∷ ys) v
 same_low l xs ys v e = ap (λ n. cond (l.variable == v) l.low n) e
 
--- two cubes with equal highs have so behind one more literal
+-- two lists with the same high of v have so with one literal more in front
 same_high : (k : ℕ) (l : Literal) (xs ys : List Literal) (v : ℕ) → high_in k xs v ≡ high_in k ys v →
     high_in k (l ∷ xs) v ≡ high_in k (l ∷ ys) v
 same_high k l xs ys v e = ap (λ n. cond (l.variable == v) l.high n) e
@@ -41,17 +42,19 @@ whole-low k l e = eqb-true l.low 0 (and_parts (l.low == 0) (l.high == top k l.va
 whole-high : (k : ℕ) (l : Literal) → is_whole k l ≡ true → l.high ≡ top k l.variable
 whole-high k l e = eqb-true l.high (top k l.variable) (and_parts (l.low == 0) (l.high == top k l.variable) e).1
 
--- the rest of a rising cube has no range of the first variable
+-- in a rising cube the literals behind the first are on other variables, so they allow its variable from 0 on
 rest-low : (l : Literal) (ls : List Literal) → IsRising (l ∷ ls) → low_in ls l.variable ≡ 0
 rest-low l ls r = low_in-none ls l.variable (λ m c e. let h = rising_first l m ls r c in omega arith)
 
--- behind a literal none is on its variable, so the high there is the top
+-- and they allow it up to its greatest number
 rest-high : (k : ℕ) (l : Literal) (ls : List Literal) → IsRising (l ∷ ls) → high_in k ls l.variable ≡ top k l.variable
 rest-high k l ls r = high_in-none k ls l.variable (λ m c e. let h = rising_first l m ls r c in omega arith)
 
+-- `k` is the number of faults
 module _ (k : ℕ) where
   -- if no literal has the whole range, none is left out
   cube_kept : (cube : List Literal) → list_any (is_whole k) cube ≡ false → shorn k cube ≡ cube
+  -- by induction on the list
   cube_kept [] e = refl
   cube_kept (l ∷ ls) e =
       let parts = or_parts (is_whole k l) (list_any (is_whole k) ls) e in
@@ -60,6 +63,7 @@ module _ (k : ℕ) where
   -- columns of which no literal has the whole range stay as they are when whole literals are left out
   pub columns_kept : (columns : List Column) → list_any (λ c. list_any (is_whole k) c.cube) columns ≡ false →
       all_shorn k columns ≡ columns
+  -- by induction on the list
   columns_kept [] e = refl
   columns_kept (c ∷ cs) e =
       let parts = or_parts (list_any (is_whole k) c.cube) (list_any (λ d. list_any (is_whole k) d.cube) cs) e in
@@ -72,7 +76,7 @@ module _ (k : ℕ) where
       (All-weaker (λ c. All (λ l. is_whole k l ≡ false) c.cube) (λ c. list_any (is_whole k) c.cube ≡ false)
       (λ c all. list_any_none (is_whole k) c.cube all) columns h))
 
-  -- leaving out a first literal of the whole range leaves the lows as they are
+  -- leaving out a first literal of the whole range changes no low
   left_out-low : (l : Literal) (ls : List Literal) (v : ℕ) → IsRising (l ∷ ls) → is_whole k l ≡ true →
       low_in ls v ≡ low_in (l ∷ ls) v
   left_out-low l ls v r w = ⊎_elim
@@ -81,7 +85,7 @@ module _ (k : ℕ) where
       (λ (n : l.variable ≢ v). sym (low_in-later l ls v n))
       (cases_eq l.variable v)
 
-  -- leaving out a literal of the whole range changes no high
+  -- leaving it out changes no high
   left_out-high : (l : Literal) (ls : List Literal) (v : ℕ) → IsRising (l ∷ ls) → is_whole k l ≡ true →
       high_in k ls v ≡ high_in k (l ∷ ls) v
   left_out-high l ls v r w = ⊎_elim
@@ -90,21 +94,25 @@ module _ (k : ℕ) where
       (λ (n : l.variable ≢ v). sym (high_in-later k l ls v n))
       (cases_eq l.variable v)
 
-  -- leaving out the literals of the whole range leaves each range as it was
+  -- leaving out the literals of the whole range changes no low
   pub shorn-low : (cube : List Literal) → IsRising cube → (v : ℕ) → low_in (shorn k cube) v ≡ low_in cube v
+  -- by induction on the cube: the first literal is left out (`left_out-low`) or stays
   shorn-low [] r v = refl
   shorn-low (l ∷ ls) r v = go (is_whole k l) refl (shorn-low ls (rising_rest l ls r) v)
     where
+      -- by whether the first literal has the whole range, and so is left out
       go : (b : Bool) → is_whole k l ≡ b → low_in (shorn k ls) v ≡ low_in ls v →
           low_in (cond (not b) (l ∷ shorn k ls) (shorn k ls)) v ≡ low_in (l ∷ ls) v
       go true w ih = ih ∙ left_out-low l ls v r w
       go false w ih = same_low l (shorn k ls) ls v ih
 
-  -- leaving out the literals of the whole range leaves each high as it was
+  -- leaving out the literals of the whole range changes no high
   pub shorn-high : (cube : List Literal) → IsRising cube → (v : ℕ) → high_in k (shorn k cube) v ≡ high_in k cube v
+  -- by induction on the list
   shorn-high [] r v = refl
   shorn-high (l ∷ ls) r v = go (is_whole k l) refl (shorn-high ls (rising_rest l ls r) v)
     where
+      -- by whether the first literal has the whole range, and so is left out
       go : (b : Bool) → is_whole k l ≡ b → high_in k (shorn k ls) v ≡ high_in k ls v →
           high_in k (cond (not b) (l ∷ shorn k ls) (shorn k ls)) v ≡ high_in k (l ∷ ls) v
       go true w ih = ih ∙ left_out-high l ls v r w
@@ -112,22 +120,27 @@ module _ (k : ℕ) where
 
 -- ---- the literals on other variables
 
+-- `v` is the variable whose literals are left out, or whose range is raised
 module _ (v : ℕ) where
-  -- the ranges of other variables stay as they were, and that of the variable is the whole one
+  -- leaving out the literals on v changes the low of no other variable
   pub without-low : (cube : List Literal) (u : ℕ) → u ≢ v → low_in (without v cube) u ≡ low_in cube u
+  -- by induction on the list
   without-low [] u n = refl
   without-low (l ∷ ls) u n = go (l.variable == v) refl (without-low ls u n)
     where
+      -- by whether the first literal is on v, and so is left out
       go : (b : Bool) → (l.variable == v) ≡ b → low_in (without v ls) u ≡ low_in ls u →
           low_in (cond (not b) (l ∷ without v ls) (without v ls)) u ≡ low_in (l ∷ ls) u
       go true e ih = ih ∙ sym (low_in-later l ls u (λ i. n (sym i ∙ eqb-true l.variable v e)))
       go false e ih = same_low l (without v ls) ls u ih
 
-  -- the highs of other variables stay as they were
+  -- leaving out the literals on v changes the high of no other variable
   pub without-high : (k : ℕ) (cube : List Literal) (u : ℕ) → u ≢ v → high_in k (without v cube) u ≡ high_in k cube u
+  -- by induction on the list
   without-high k [] u n = refl
   without-high k (l ∷ ls) u n = go (l.variable == v) refl (without-high k ls u n)
     where
+      -- by whether the first literal is on v, and so is left out
       go : (b : Bool) → (l.variable == v) ≡ b → high_in k (without v ls) u ≡ high_in k ls u →
           high_in k (cond (not b) (l ∷ without v ls) (without v ls)) u ≡ high_in k (l ∷ ls) u
       go true e ih = ih ∙ sym (high_in-later k l ls u (λ i. n (sym i ∙ eqb-true l.variable v e)))
@@ -138,11 +151,11 @@ module _ (v : ℕ) where
   not_there cube l c = eqb-false l.variable v
       (not-true (l.variable == v) (Contains-filter_parts (λ m. not (m.variable == v)) cube l c).1)
 
-  -- of the variable itself the whole range is left
+  -- without the literals on v, its low is 0
   pub without-low_here : (cube : List Literal) → low_in (without v cube) v ≡ 0
   without-low_here cube = low_in-none (without v cube) v (not_there cube)
 
-  -- the high of that variable is the top
+  -- without the literals on v, its high is its greatest number
   pub without-high_here : (k : ℕ) (cube : List Literal) → high_in k (without v cube) v ≡ top k v
   without-high_here k cube = high_in-none k (without v cube) v (not_there cube)
 
@@ -161,26 +174,31 @@ module _ (v : ℕ) where
     raise-variable : (l : Literal) → (raise l).variable ≡ l.variable
     raise-variable l = go (l.variable == v)
       where
+        -- a raised literal has the same variable, and so does one that stays
         go : (b : Bool) → (cond b (with_high l) l).variable ≡ l.variable
         go true = refl
         go false = refl
 
-    -- raising the high of one variable leaves all lows and the ranges of other variables as they were
+    -- raising the high of v changes no low
     pub raised-low : (cube : List Literal) (u : ℕ) → low_in (raised v high cube) u ≡ low_in cube u
+    -- by induction on the list
     raised-low [] u = refl
     raised-low (l ∷ ls) u = go (l.variable == v) (raised-low ls u)
       where
+        -- a raised literal has the same low, and so does one that stays
         go : (b : Bool) → low_in (raised v high ls) u ≡ low_in ls u →
             low_in (cond b (with_high l) l ∷ raised v high ls) u ≡ low_in (l ∷ ls) u
         go true ih = same_low l (raised v high ls) ls u ih
         go false ih = same_low l (raised v high ls) ls u ih
 
-    -- the highs of other variables stay too
+    -- raising the high of v changes the high of no other variable
     pub raised-high : (k : ℕ) (cube : List Literal) (u : ℕ) → u ≢ v →
         high_in k (raised v high cube) u ≡ high_in k cube u
+    -- by induction on the list
     raised-high k [] u n = refl
     raised-high k (l ∷ ls) u n = go (l.variable == v) refl (raised-high k ls u n)
       where
+        -- by whether the first literal is on v, so that its high is of another variable than u, or stays
         go : (b : Bool) → (l.variable == v) ≡ b → high_in k (raised v high ls) u ≡ high_in k ls u →
             high_in k (cond b (with_high l) l ∷ raised v high ls) u ≡ high_in k (l ∷ ls) u
         go true e ih =
@@ -188,12 +206,14 @@ module _ (v : ℕ) where
             high_in-later k (with_high l) (raised v high ls) u other ∙ ih ∙ sym (high_in-later k l ls u other)
         go false e ih = same_high k l (raised v high ls) ls u ih
 
-    -- if the cube's range of the variable ends under the top, its raised high is the new one
+    -- if some literal ends v's range under its greatest number, the raised cube's high of v is the new one
     pub raised-high_here : (k : ℕ) (cube : List Literal) → high_in k cube v < top k v →
         high_in k (raised v high cube) v ≡ high
+    -- by induction on the list
     raised-high_here k [] h = absurd (omega arith)
     raised-high_here k (l ∷ ls) h = go (l.variable == v) refl (raised-high_here k ls)
       where
+        -- by whether the first literal is on v: then its high is the new one, and otherwise the rest decides
         go : (b : Bool) → (l.variable == v) ≡ b → (high_in k ls v < top k v → high_in k (raised v high ls) v ≡ high) →
             high_in k (cond b (with_high l) l ∷ raised v high ls) v ≡ high
         go true e ih = high_in-here k (with_high l) (raised v high ls) v (eqb-true l.variable v e)
@@ -202,13 +222,13 @@ module _ (v : ℕ) where
             high_in-later k l (raised v high ls) v other
             ∙ ih (subst (λ n. n < top k v) (high_in-later k l ls v other) h)
 
-    -- a raised cube keeps the order of its variables, what holds of them, and stays within the whole ranges
+    -- a raised cube's variables rise as before
     pub raised-rising : (cube : List Literal) → IsRising cube → IsRising (raised v high cube)
     raised-rising cube r = AllPairs-map (λ (l m : Literal). l.variable < m.variable)
         (λ (l m : Literal). l.variable < m.variable) raise cube
         (λ l m h. let a = raise-variable l in let b = raise-variable m in omega arith) r
 
-    -- what holds of all variables does so still
+    -- what holds of the variables of all literals does so of the raised cube's
     pub raised-all : (P : ℕ → Type 0) (cube : List Literal) → All (λ l. P l.variable) cube →
         All (λ l. P l.variable) (raised v high cube)
     raised-all P cube a = All-map (λ l. P l.variable) raise cube
@@ -221,6 +241,7 @@ module _ (v : ℕ) where
         (All-weaker (λ l. l.high ≤ top k l.variable) (λ l. (raise l).high ≤ top k (raise l).variable)
         (λ l w. go l w (l.variable == v) refl) cube a)
       where
+        -- a raised literal has the new high, and another one stays
         go : (l : Literal) → l.high ≤ top k l.variable → (b : Bool) → (l.variable == v) ≡ b →
             (cond b (with_high l) l).high ≤ top k (cond b (with_high l) l).variable
         go l w true e = subst (λ u. high ≤ top k u) (sym (eqb-true l.variable v e)) h
@@ -228,14 +249,13 @@ module _ (v : ℕ) where
 
 -- ---- cubes in the one form that their ranges have
 
--- given: two rising cubes with the same ranges
--- `rise_a`, `rise_b`: the variables of each cube rise; `narrow_a`: a has no literal of the whole range
--- `lows`, `highs`: both have the same lower and upper end on each variable
+-- given: two rising cubes, a and b, with the same ranges, of which a has no literal of the whole range
 module _ (k : ℕ) (a b : List Literal) (rise_a : IsRising a) (rise_b : IsRising b) (narrow_a : IsNarrow k a)
     (lows : (v : ℕ) → low_in a v ≡ low_in b v) (highs : (v : ℕ) → high_in k a v ≡ high_in k b v) where
-  -- a variable of which the other cube doesn't speak would have the whole range
+  -- a literal whose range isn't the whole one is in each rising cube that has this range of its variable
   found : (xs : List Literal) (l : Literal) → IsRising xs → low_in xs l.variable ≡ l.low →
       high_in k xs l.variable ≡ l.high → (0 < l.low) ⊎ (l.high < top k l.variable) → Contains xs l
+  -- by induction on the cube: without a literal on the variable it would have the whole range
   found [] l r x y n = absurd (⊎_elim (λ (h : 0 < l.low). let z : ⊥ = omega arith in z)
       (λ (h : l.high < top k l.variable). let z : ⊥ = omega arith in z) n)
   found (m ∷ ms) l r x y n = ⊎_elim
@@ -247,7 +267,7 @@ module _ (k : ℕ) (a b : List Literal) (rise_a : IsRising a) (rise_b : IsRising
       (sym (low_in-later m ms l.variable o) ∙ x) (sym (high_in-later k m ms l.variable o) ∙ y) n))
       (cases_eq m.variable l.variable)
 
-  -- each literal of the first stands in the second
+  -- each literal of a is in b
   pub contained : (l : Literal) → Contains a l → Contains b l
   contained l c =
       let r = range_of_literal k a l rise_a c in
@@ -261,13 +281,13 @@ same_cube k a b ra rb na nb ls hs = same_sorted (λ l m. l.variable < m.variable
     (contained k a b ra rb na ls hs)
     (contained k b a rb ra nb (λ v. sym (ls v)) (λ v. sym (hs v)))
 
--- a fact of each element of a list is one of all
+-- a fact of each element of the list, as `All` says it
 pub All-from_each : {X : Type 0} {P : X → Type 0} (xs : List X) → ((x : X) → Contains xs x → P x) → All P xs
 All-from_each xs h = λ k d l. h (get_or xs k d) (Contains-get_or xs k d l)
 
 -- ---- the literals before one of a rising cube have lower variables
 
--- the literals before a place are on lower variables
+-- in a rising cube the literals before a place are on lower variables than the one there
 before_next : (cube : List Literal) (i : ℕ) (d : Literal) → IsRising cube → i < length cube →
     All (λ l. l.variable < (get_or cube i d).variable) (take i cube)
 before_next cube i d r h = λ k e l.
@@ -275,7 +295,7 @@ before_next cube i d r h = λ k e l.
     subst (λ (x : Literal). x.variable < (get_or cube i d).variable)
     (get_or_default cube k d e (omega arith) ∙ sym (get_or-take i cube k e (omega arith))) (r k i d (omega arith) h)
 
--- what is left of the literals before one of a rising cube has lower variables than that one
+-- so are those of them that aren't of the whole range
 pub shorn_before : (k : ℕ) (cube : List Literal) (i : ℕ) (d : Literal) (front : List Literal) → IsRising cube →
     i < length cube →
     front ≡ shorn k (take i cube) →
@@ -285,7 +305,7 @@ shorn_before k cube i d front r h e =
     (All-filter (λ l. not (is_whole k l)) (λ (l : Literal). l.variable < (get_or cube i d).variable) (take i cube)
     (before_next cube i d r h))
 
--- the literals before one of a rising cube, with a range raised, have lower variables than that one
+-- so are they with the range of one variable raised
 pub raised_before : (v high : ℕ) (cube : List Literal) (i : ℕ) (d : Literal) (front : List Literal) → IsRising cube →
     i < length cube →
     front ≡ raised v high (take i cube) →

@@ -1,4 +1,5 @@
--- Columns don't touch if those of one time ask equally much.
+-- If no two demands of one time differ, no two columns touch: two that touch ask different amounts. Sorted demands
+-- need only be compared with their neighbours.
 use Rattle.std.proofs.Common.{ℕ, zero, suc, ◌+◌, ◌-◌, ◌*◌, ◌/◌, ◌%◌, ◌^◌, ◌<◌, ◌≤◌, ◌≡◌, Bool, true, false, cond}
 use Rattle.std.proofs.Common.{nat_lt, List, length, get_or, map, sum_by, Contains, IsPermutation, arith, refl, sym}
 use Rattle.std.proofs.Common.{ap, ◌∙◌, subst, inl, inr}
@@ -22,15 +23,16 @@ use Rattle.cpg_merging.proofs.MergingTotals.{of_range, spoken, sum_parts}
 
 -- ---- sorted numbers of which no two neighbours differ within a time
 
--- neighbours before a place are equal if their times are equal
+-- any two neighbours below n that have one time, which is the number divided by 256, are equal
 abbrev pub NeighboursAgree : List ℕ → ℕ → Type 0
 NeighboursAgree ns n =
     (i : ℕ) → i + 1 < n → get_or ns i 0 / 256 ≡ get_or ns (i + 1) 0 / 256 → get_or ns i 0 ≡ get_or ns (i + 1) 0
 
--- if neighbours agree everywhere, two numbers that do not fall and have one time are equal
+-- if all neighbours of one time are equal, so are any two numbers of one time, `d` places apart
 agree_on : (ns : List ℕ) → DoNotFall ns → NeighboursAgree ns (length ns) → (d i : ℕ) → i + d < length ns →
     get_or ns i 0 / 256 ≡ get_or ns (i + d) 0 / 256 →
     get_or ns i 0 ≡ get_or ns (i + d) 0
+-- by induction on the distance: as the numbers don't fall, the next one has the same time
 agree_on ns up near zero i within same = let e : i ≡ i + zero = omega arith in ap (λ (x : ℕ). get_or ns x 0) e
 agree_on ns up near (suc d) i within same =
     let first : get_or ns i 0 ≤ get_or ns (i + 1) 0 = up i (i + 1) (omega arith) (omega (arith, within)) in
@@ -42,7 +44,7 @@ agree_on ns up near (suc d) i within same =
     next ∙ agree_on ns up near d (i + 1) (omega (arith, within)) (later ∙ ap (λ (x : ℕ). get_or ns x 0 / 256) (sym at))
     ∙ ap (λ (x : ℕ). get_or ns x 0) at
 
--- if neighbours agree everywhere, all numbers that do not fall agree by time
+-- if all neighbours of one time are equal, all numbers of one time are
 pub all_agree : (ns : List ℕ) → DoNotFall ns → NeighboursAgree ns (length ns) → AgreeByTime ns
 all_agree ns up near m n a b same =
     let e : get_or ns a.0 0 ≡ m = sym (get_or_default ns a.0 m 0 a.1) ∙ a.2 in
@@ -54,6 +56,7 @@ all_agree ns up near m n a b same =
           ∙ sym (at b.0 a.0 h a.1 (ap (λ (x : ℕ). x / 256) f ∙ sym same ∙ sym (ap (λ (x : ℕ). x / 256) e))) ∙ f
     ]
   where
+    -- two numbers of the list that are equal divided by 256 are equal, the one at the lesser place given first
     at : (i j : ℕ) → i ≤ j → j < length ns → get_or ns i 0 / 256 ≡ get_or ns j 0 / 256 → get_or ns i 0 ≡ get_or ns j 0
     at i j h within k =
         let is : i + (j - i) ≡ j = omega (arith, h) in
@@ -62,27 +65,32 @@ all_agree ns up near m n a b same =
 
 -- ---- columns that touch
 
--- the numbers keep times and how much is asked apart
+-- demands of one time that are equal ask the same
 same_asked : (t a b : ℕ) → a < 256 → b < 256 → (t * 256 % 2 ^ 64 + a) % 2 ^ 64 ≡ (t * 256 % 2 ^ 64 + b) % 2 ^ 64 → a ≡ b
 same_asked t a b h k e = omega (arith, h, k, e)
 
--- demands of one time are equal when divided by 256, whatever is asked
+-- demands of one time have the same time, whatever they ask
 same_time : (t a b : ℕ) → a < 256 → b < 256 →
     (t * 256 % 2 ^ 64 + a) % 2 ^ 64 / 256 ≡ (t * 256 % 2 ^ 64 + b) % 2 ^ 64 / 256
 same_time t a b h k = omega (arith, h, k)
 
+-- given: a variable of the graph
 module _ (g : Graph) (few : process_count g ≤ 128) (faults : g.faults ≤ 8) (v : ℕ) (known : IsVariable g v) where
-  -- a number of a variable is at most 8
+  -- the greatest number of a variable is at most 8: k, or 1 for a value
   pub top_small : top g.faults v ≤ 8
   top_small = go (nat_lt v 128)
     where
+      -- by whether the variable is a process, with k as its greatest number, or a value
       go : (b : Bool) → cond b g.faults 1 ≤ 8
       go true = faults
       go false = omega arith
 
-  -- columns of one time that touch do not ask equally much
+  -- if the demands of two columns of one time that touch were equal whenever their times are, there would be a
+  -- contradiction
   touch_agree : (c d : Column) → IsGood g c.cube → IsGood g d.cube → c.time ≡ d.time →
       TouchAt g.faults v c.cube d.cube → (demand_of c / 256 ≡ demand_of d / 256 → demand_of c ≡ demand_of d) → ⊥
+  -- both have a literal on v and the same others, so what they ask differs by their two lows of v; these differ by at
+  -- most 8
   touch_agree c d good_c good_d same touch agree =
       let k = g.faults in
       let next : high_in k c.cube v + 1 ≡ low_in d.cube v = touch.next in
@@ -112,7 +120,7 @@ module _ (g : Graph) (few : process_count g ≤ 128) (faults : g.faults ≤ 8) (
           ap (λ (x : ℕ). (x * 256 % 2 ^ 64 + b % 256) % 2 ^ 64) (sym e)) in
           omega (arith, asked, f, h, less, small)
 
-  -- if the demands agree by time, no two columns of one time touch
+  -- if no two demands of one time differ, no two columns of one time touch at v
   pub settled_by_demands : (xs : List Column) → AreGood g xs → AgreeByTime (map demand_of xs) →
       IsSettledOn g.faults v xs
   settled_by_demands xs good agree c d m n e t =
@@ -120,12 +128,12 @@ module _ (g : Graph) (few : process_count g ≤ 128) (faults : g.faults ≤ 8) (
       (All-contains (λ (x : Column). IsGood g x.cube) xs d good n) e t
       (agree (demand_of c) (demand_of d) (Contains-map demand_of xs c m) (Contains-map demand_of xs d n))
 
--- demands agree in any order
+-- whether the demands of one time are equal doesn't depend on their order
 pub agree_sorted : (ns sorted : List ℕ) → IsPermutation ns sorted → AgreeByTime sorted → AgreeByTime ns
 agree_sorted ns sorted p h m n c d same =
     h m n (Contains-permutation ns sorted m p c) (Contains-permutation ns sorted n p d) same
 
--- what holds if a test is false implies what follows from it
+-- what holds on false, if something weaker is wanted
 pub off_weaker : {P Q : Type 0} (b : Bool) → (P → Q) → OnFalse b P → OnFalse b Q
 off_weaker true f h = h
 off_weaker false f h = f h

@@ -1,4 +1,4 @@
--- From settled columns in order to what merging columns gives.
+-- Columns that are settled and stand by their least scenarios are what merging gives.
 use Rattle.std.specs.Result.{IfOk}
 use Rattle.std.proofs.Common.{ℕ, ◌<◌, ◌≤◌, ◌≡◌, ◌≢◌, ◌⊎◌, true, false, Result, Ok, Err, List, [], ◌∷◌, length, filter}
 use Rattle.std.proofs.Common.{get_or, Contains, IsPermutation, arith, refl, sym, ap, ap₂, ◌∙◌, subst, subst₂}
@@ -36,9 +36,10 @@ use Rattle.cpg_merging.proofs.MergingSteps.{joins_shorn}
 
 -- ---- literals
 
--- a cube speaks of a variable, or has its whole range
+-- a cube has a literal on the variable, or allows it its whole range
 speaks : (k : ℕ) (cube : List Literal) (v : ℕ) →
     ((m : Literal) × Contains cube m × (m.variable ≡ v)) ⊎ ((low_in cube v ≡ 0) × (high_in k cube v ≡ top k v))
+-- by induction on the cube
 speaks k [] v = inr (refl, refl)
 speaks k (l ∷ ls) v = ⊎_elim
     (λ (e : l.variable ≡ v). inl (l, Contains-first l ls, e))
@@ -49,7 +50,7 @@ speaks k (l ∷ ls) v = ⊎_elim
     (speaks k ls v))
     (cases_eq l.variable v)
 
--- a variable with a low above 0 is one of the graph
+-- a variable of which a cube has a low above 0 is one of the graph: a literal is on it
 known_by_low : (g : Graph) (cube : List Literal) (v : ℕ) → IsCube g cube → 0 < low_in cube v → IsVariable g v
 known_by_low g cube v is h = ⊎_elim
     (λ (r : (m : Literal) × Contains cube m × (m.variable ≡ v)).
@@ -59,7 +60,7 @@ known_by_low g cube v is h = ⊎_elim
 
 -- ---- one column of those that match
 
--- a list of at most one element has no two
+-- two elements of a list of at most one are the same
 one_element : {X : Type 0} (xs : List X) (x y : X) → length xs ≤ 1 → Contains xs x → Contains xs y → x ≡ y
 one_element [] x y h c d = absurd (Contains-nil x c)
 one_element (z ∷ []) x y h c d = ⊎_elim
@@ -85,7 +86,7 @@ time_there : (columns : List Column) (s : Scenario) (c : Column) → Contains co
 time_there columns s c m x = Contains-map (λ (z : Column). z.time) (filter (λ (z : Column). matches z.cube s) columns) c
     (Contains-filter (λ (z : Column). matches z.cube s) columns c x m)
 
--- a time is one of a column that matches
+-- a time that a scenario has is that of a column that matches it
 column_there : (columns : List Column) (s : Scenario) (t : ℕ) → Contains (times_in columns s) t →
     (c : Column) × Contains columns c × (matches c.cube s ≡ true)
 column_there columns s t m =
@@ -95,19 +96,18 @@ column_there columns s t m =
 
 -- the column at a number is the one at that place of the list
 at_number : (columns : List Column) (i : ℕ) (c d : Column) → IsColumn columns i c → get_or columns i d ≡ c
+-- by induction on the list
 at_number [] i c d e = cc
 at_number (x ∷ xs) ℕ.zero c d e = cc
 at_number (x ∷ xs) (ℕ.suc i) c d e = at_number xs i c d e
 
 -- ---- the end
 
--- given: good columns, of which at most one matches in each scenario
--- `few`, `order`, `all`: the order has each of at most 128 processes once; `good`, `single`: what is known of the
--- columns
+-- given: good columns, of which no scenario matches two, and an order that has each process once
 module _ (g : Graph) (few : process_count g ≤ 128) (order : List ℕ)
     (all : IsPermutation (numbers_below (process_count g)) order)
     (columns : List Column) (good : AreGood g columns) (single : AreSingle g columns) where
-  -- the cube of each column is good
+  -- the cube of each of the columns is good
   good_at : (c : Column) → Contains columns c → IsGood g c.cube
   good_at c m = All-contains (λ (x : Column). IsGood g x.cube) columns c good m
 
@@ -147,7 +147,7 @@ module _ (g : Graph) (few : process_count g ≤ 128) (order : List ℕ)
       absurd (apart_at i j c d l x y s p.lawful p.holds (subst (λ z. matches d.cube z ≡ true) (sym same) q.holds)))
       (cases_Bool (is_before g order s t))
 
-  -- if no two columns of one time touch, no two can be made one
+  -- if no two columns of one time touch at any variable, no two can be made one
   pub is_merged : ((v : ℕ) → IsVariable g v → (c d : Column) → Contains columns c → Contains columns d →
       c.time ≡ d.time → TouchAt g.faults v c.cube d.cube → ⊥) →
       IsMerged g columns
@@ -163,15 +163,18 @@ module _ (g : Graph) (few : process_count g ≤ 128) (order : List ℕ)
       (low_in d.cube u ≡ low_in c.cube u) × (high_in g.faults d.cube u ≡ high_in g.faults c.cube u) =
       λ u o. let r = differ.others u o in (sym r.0, sym r.1) in
       ⊎_elim
+      -- c ends below d, so d begins right behind c, and they touch
       (λ (h : high_in g.faults c.cube v < low_in d.cube v).
       let t = differ.touch_below in
       settled v (known_by_low g d.cube v good_d.cube (omega arith)) c d m n e
       (record { others = differ.others; next = omega arith }))
       (λ (h : low_in d.cube v ≤ high_in g.faults c.cube v). ⊎_elim
+      -- d ends below c, so c begins right behind d, and they touch
       (λ (k : high_in g.faults d.cube v < low_in c.cube v).
       let t = differ.touch_above in
       settled v (known_by_low g c.cube v good_c.cube (omega arith)) d c n m (sym e)
       (record { others = back; next = omega arith }))
+      -- the ranges share the greater of their lows, so one scenario matches both columns
       (λ (k : low_in c.cube v ≤ high_in g.faults d.cube v). ⊎_elim
       (λ (z : low_in c.cube v < low_in d.cube v).
       let r = share g few v c.cube d.cube good_c good_d differ.others (omega arith) h in
@@ -182,8 +185,9 @@ module _ (g : Graph) (few : process_count g ≤ 128) (order : List ℕ)
       (cases_lt (high_in g.faults d.cube v) (low_in c.cube v)))
       (cases_lt (high_in g.faults c.cube v) (low_in d.cube v))
 
+  -- given: entries of which the columns are a join
   module _ (entries : List Column) (joins : IsJoinOf g entries columns) where
-    -- the column that matches a scenario is as wide as the entry that does
+    -- the column that a scenario matches allows all that the entry allows which it matches
     pub is_wider : (s : Scenario) (e c : Column) → IsScenario g s → Contains entries e → Contains columns c →
         matches e.cube s ≡ true → matches c.cube s ≡ true →
         IsWider g.faults c.cube e.cube
@@ -192,10 +196,12 @@ module _ (g : Graph) (few : process_count g ≤ 128) (order : List ℕ)
         let t = matches_wider g few r.0.cube e.cube s i (good_at r.0 r.1).cube r.3 x in
         subst (λ (z : Column). IsWider g.faults z.cube e.cube) (one_column columns s r.0 c (single s i) r.1 n t y) r.3
 
-    -- each literal of a column is on a variable of an entry that matches together with it
+    -- each literal of a column is on a variable on which an entry that matches together with it has a literal
     pub is_spoken : (c : Column) (l : Literal) → Contains columns c → Contains c.cube l →
         (s : Scenario) × (e : Column) × (m : Literal) × IsScenario g s × Contains entries e ×
         IsTrue (matches e.cube s) × IsTrue (matches c.cube s) × Contains e.cube m × (m.variable ≡ l.variable)
+    -- in the column's least scenario some entry matches; if it had no literal on l's variable, the column would allow
+    -- that its whole range, but l isn't whole
     is_spoken c l m n =
         let good_c = good_at c m in
         let s = lows g c.cube in
@@ -218,12 +224,14 @@ module _ (g : Graph) (few : process_count g ≤ 128) (order : List ℕ)
         (λ (h : l.high < top g.faults l.variable). let z : ⊥ = omega arith in z) x))
         (speaks g.faults r.0.cube l.variable)
 
--- entries without their whole literals, joined, and put in order
+-- entries without their whole literals, settled and put in order, are what merging gives of the entries
 pub merge_of : (g : Graph) → process_count g ≤ 128 → (order : List ℕ) →
     IsPermutation (numbers_below (process_count g)) order → (entries columns ordered : List Column) →
     AreMergeable g entries →
     AreSettled g (all_shorn g.faults entries) columns → IsPermutation columns ordered →
     AreByLows (λ (c : Column). c.cube) g order ordered → IsMergeOf g order entries ordered
+-- the ordered columns are a join of the entries: whole literals are left out, then columns are settled, then put in
+-- order; each field follows from that join
 merge_of g few order all entries columns ordered mergeable settled p up =
     let good = good_permuted g few columns ordered p (good_of g few columns settled.good) in
     let single = single_permuted g few columns ordered p settled.good.good.apart in
@@ -245,7 +253,7 @@ merge_of g few order all entries columns ordered mergeable settled p up =
       spoken = is_spoken g few order all ordered good single entries joins;
     }
 
--- two facts of an answer give what follows from both
+-- what follows from two facts of an answer's value is a fact of it
 pub if_ok_both : {T E : Type 0} (r : Result T E) (P Q R : T → Type 0) → ((x : T) → P x → Q x → R x) → IfOk r P →
     IfOk r Q → IfOk r R
 if_ok_both (Ok x) P Q R h p q = h x p q

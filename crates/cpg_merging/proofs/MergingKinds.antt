@@ -1,4 +1,4 @@
--- Columns that touch are of one kind and ask differently much, so that both are candidates.
+-- Columns that touch are of one kind and ask different amounts, so both are candidates.
 use Rattle.std.proofs.Common.{ℕ, ◌+◌, ◌%◌, ◌<◌, ◌≤◌, ◌≡◌, ◌≢◌, Bool, true, false, List, length, get_or, filter, map}
 use Rattle.std.proofs.Common.{sum_by, Contains, arith, refl, sym, ap, ◌∙◌, subst, inl, inr, true≢false}
 use Rattle.std.proofs.lemmas.List.Elements.{All-contains}
@@ -21,7 +21,8 @@ use Rattle.cpg_merging.proofs.MergingTotals.{of_range, spoken, sum_parts, touch_
 
 -- ---- which columns are chosen
 
--- if two columns of one kind ask differently, both are chosen, since a place stores only one amount
+-- if two columns of one kind ask differently, both are candidates: a place stores one amount, so a difference is noted
+-- there
 pub both_chosen : (told : List ℕ) (differing : List Bool) (columns : List Column) → length differing ≡ length told →
     AreTold told differing (map kind_of columns) →
     HoldCandidates columns (filter (is_candidate differing) columns)
@@ -30,6 +31,7 @@ both_chosen told differing columns long tell c d there other same apart = (
   Contains-filter (is_candidate differing) columns d (chosen d c other there (sym same) (λ e. apart (sym e))) other,
 )
   where
+    -- the place of a column's kind in the table
     at : Column → ℕ
     at x = place_in (length told) (kind_of x).number
 
@@ -39,6 +41,7 @@ both_chosen told differing columns long tell c d there other same apart = (
         is_candidate differing x ≡ true
     chosen x y cx cy e n = go (is_candidate differing x) refl
       where
+        -- by whether the column is a candidate: if it weren't, the place of its kind would be unmarked
         go : (b : Bool) → is_candidate differing x ≡ b → b ≡ true
         go true on = refl
         go false off =
@@ -52,10 +55,11 @@ both_chosen told differing columns long tell c d there other same apart = (
 
 -- ---- columns that touch
 
--- one for each literal, by which they are counted
+-- one, so that the sum over literals counts them
 abbrev one_of : Literal → ℕ
 one_of l = 1
 
+-- given: a variable of the graph
 module _ (g : Graph) (few : process_count g ≤ 128) (faults : g.faults ≤ 8) (v : ℕ) (known : IsVariable g v) where
   -- columns of one time that touch are of one kind and ask differently
   touch_kinds : (c d : Column) → IsGood g c.cube → IsGood g d.cube → c.time ≡ d.time →
@@ -116,8 +120,7 @@ module _ (g : Graph) (few : process_count g ≤ 128) (faults : g.faults ≤ 8) (
       apart : (a b w low high : ℕ) → a ≡ w + low → b ≡ w + high → low < high → high ≤ 8 → a % 256 ≢ b % 256
       apart a b w low high e f less small same = omega (arith, e, f, less, small, same)
 
-  -- given: two columns of one time that touch
-  -- `xs`, `good`: the columns; `c`, `d`, `m`, `n`, `same`: two of them with one time; `touch`: they touch at v
+  -- given: two columns, c and d, of one time that touch at v
   module _ (xs : List Column) (good : AreGood g xs) (c d : Column) (m : Contains xs c) (n : Contains xs d)
       (same : c.time ≡ d.time) (touch : TouchAt g.faults v c.cube d.cube) where
     -- the cube of each column is good
@@ -129,7 +132,7 @@ module _ (g : Graph) (few : process_count g ≤ 128) (faults : g.faults ≤ 8) (
     both_held ys hold = let kinds = touch_kinds c d (good_in c m) (good_in d n) same touch in
         hold c d m n kinds.0 kinds.1
 
-    -- two columns don't touch if no variable is marked
+    -- if v isn't marked by the candidates' marks, that is a contradiction: the totals of c and d would be partners
     touch_held : (ys : List Column) → HoldCandidates xs ys → (marks : List Bool) →
         AreMarkedBy (map total_of ys) marks ys → ¬ IsMarked marks v → ⊥
     touch_held ys hold marks all off =
@@ -138,7 +141,7 @@ module _ (g : Graph) (few : process_count g ≤ 128) (faults : g.faults ≤ 8) (
         (Contains-map total_of ys c both.0)
         (λ l j i. all d l both.1 j (λ on. off (subst (IsMarked marks) i on)))
 
-  -- no columns touch if there are no candidates
+  -- if there are no candidates, no two columns of one time touch at v
   pub settled_none : (xs : List Column) → AreGood g xs → {X : Type 0} (f : X → Column) (ys : List X) →
       HoldCandidates xs (map f ys) → length ys ≡ 0 →
       IsSettledOn g.faults v xs

@@ -14,9 +14,10 @@ use Rattle.cpg_merging.proofs.MergingEnds.{merge_of}
 use Rattle.cpg_merging.proofs.MergingLists.{joins_itself}
 use Rattle.cpg_merging.proofs.MergingSteps.{good_of}
 
+-- given: columns without literals of the whole range, of which those of one time ask equally much
 module _ (g : Graph) (few : process_count g ≤ 128) (faults : g.faults ≤ 8) (columns : List Column)
     (shorn : IsShorn g columns) (agree : AgreeByTime (map demand_of columns)) where
-  -- columns that don't touch are settled
+  -- no two of them touch, so they are settled as they are
   settled : AreSettled g columns columns
   settled = record {
     joins = joins_itself g columns;
@@ -24,7 +25,7 @@ module _ (g : Graph) (few : process_count g ≤ 128) (faults : g.faults ≤ 8) (
     settled = λ v known. settled_by_demands g few faults v known columns (good_of g few columns shorn) agree;
   }
 
-  -- columns that stand in order and don't touch are their own merge
+  -- if they also stand by their least scenarios, they are their own merge
   pub merged_as_listed : (order : List ℕ) → IsPermutation (numbers_below (process_count g)) order →
       AreByLows (λ (c : Column). c.cube) g order columns →
       IsMergeOf g order columns columns

@@ -1,4 +1,4 @@
--- What joins do to lists of columns, and what is left of sorted columns when neighbours that touch are made one.
+-- Joins of columns: two made one, and a walk over sorted columns that makes neighbours one.
 use Rattle.std.proofs.Common.{ℕ, ◌+◌, ◌<◌, ◌≤◌, ◌≡◌, ◌≢◌, ◌⊎◌, Bool, true, false, cond, ◌==◌, List, [], ◌∷◌, length}
 use Rattle.std.proofs.Common.{map, filter, Contains, All, Equal, arith, refl, sym, ap, ◌∙◌, subst, ⊎_elim, inl}
 use Rattle.std.proofs.Common.{inr, eqb-true}
@@ -19,7 +19,7 @@ use Rattle.cpg_merging.proofs.MergingPairs.{IsGood, wider_itself, wider_through,
 use Rattle.cpg_merging.proofs.MergingPairs.{either, matches_first, matches_second, good_both}
 use Rattle.cpg_merging.proofs.MergingOrder.{beside_equal, equal_from}
 
--- all columns are good
+-- the cube of each column is good
 abbrev pub AreGood : Graph → List Column → Type 0
 AreGood g columns = All (λ c. IsGood g c.cube) columns
 
@@ -40,11 +40,12 @@ module _ (g : Graph) where
         (y.0, y.1, y.2 ∙ x.2, wider_through g.faults y.0.cube x.0.cube e.cube y.3 x.3);
   }
 
-  -- one more column before two lists with the same times in a scenario leaves them the same
+  -- two lists that give a scenario the same times do so with one column more in front
   times_cons : (c : Column) (a b : List Column) (s : Scenario) → times_in a s ≡ times_in b s →
       times_in (c ∷ a) s ≡ times_in (c ∷ b) s
   times_cons c a b s e = go (matches c.cube s)
     where
+      -- by whether the column in front matches: then both lists begin with its time
       go : (m : Bool) →
           map (λ (x : Column). x.time)
           (cond m (c ∷ filter (λ x. matches x.cube s) a) (filter (λ x. matches x.cube s) a))
@@ -53,8 +54,9 @@ module _ (g : Graph) where
       go true = ap (λ ts. c.time ∷ ts) e
       go false = e
 
-  -- one more column before both lists leaves a join a join
+  -- a join of a list is one with one column more in front of both
   pub joins_cons : (c : Column) (a b : List Column) → IsJoinOf g a b → IsJoinOf g (c ∷ a) (c ∷ b)
+  -- the new first column is held by itself, and any other by the column that holds it in the join
   joins_cons c a b h = record {
     times = λ s i. times_cons c b a s (h.times s i);
     held = λ e m. ⊎_elim
@@ -70,14 +72,14 @@ module _ (g : Graph) where
 
 -- ---- one join
 
--- a column that follows another is equal beside the variable, and begins there where the other ends
+-- a column that follows another has its time and its literals on other variables, and begins at v where that one ends
 pub followed_parts : (k v : ℕ) (c d : Column) → is_followed k v c d ≡ true →
     (beside_cmp v c d ≡ Equal) × (high_in k c.cube v + 1 ≡ low_in d.cube v)
 followed_parts k v c d h =
     let r = and_parts (is_eq (beside_cmp v c d)) (high_in k c.cube v + 1 == low_in d.cube v) h in
     (equal_from (beside_cmp v c d) r.0, eqb-true (high_in k c.cube v + 1) (low_in d.cube v) r.1)
 
--- columns that tie have the same ranges of other variables
+-- cubes with the same literals on other variables than v have the same ranges of these
 pub ranges_beside : (k v : ℕ) (a b : List Literal) → without v a ≡ without v b → (u : ℕ) → u ≢ v →
     (low_in a u ≡ low_in b u) × (high_in k a u ≡ high_in k b u)
 ranges_beside k v a b e u n = (
@@ -85,7 +87,7 @@ ranges_beside k v a b e u n = (
   sym (without-high v k a u n) ∙ ap (λ ls. high_in k ls u) e ∙ without-high v k b u n,
 )
 
--- a column that follows another touches it at the variable
+-- if d follows c at v, the two touch there
 pub touch_of : (k v : ℕ) (c d : Column) → is_followed k v c d ≡ true → TouchAt k v c.cube d.cube
 touch_of k v c d h =
     let r = followed_parts k v c d h in
@@ -95,7 +97,8 @@ touch_of k v c d h =
 pub time_of : (k v : ℕ) (c d : Column) → is_followed k v c d ≡ true → c.time ≡ d.time
 time_of k v c d h = (beside_equal v c d (followed_parts k v c d h).0).0
 
--- one column stands for what matches either of two that never match together
+-- One column gives the times of two that never match together, if it matches just where one of them does. `a`, `b` and
+-- `m` say whether the two and the one match.
 times_of_one : (t : ℕ) (rest : List ℕ) (a b m : Bool) → (a ≡ true → b ≡ true → ⊥) →
     (m ≡ true → (a ≡ true) ⊎ (b ≡ true)) → (a ≡ true → m ≡ true) →
     (b ≡ true → m ≡ true) →
@@ -111,6 +114,7 @@ pub times_first : (c : Column) (ds : List Column) (s : Scenario) →
     times_in (c ∷ ds) s ≡ cond (matches c.cube s) (c.time ∷ times_in ds s) (times_in ds s)
 times_first c ds s = go (matches c.cube s)
   where
+    -- by whether the column in front matches: then its time is the first
     go : (m : Bool) →
         map (λ (x : Column). x.time)
         (cond m (c ∷ filter (λ x. matches x.cube s) ds) (filter (λ x. matches x.cube s) ds))
@@ -118,6 +122,7 @@ times_first c ds s = go (matches c.cube s)
     go true = refl
     go false = refl
 
+-- given: a variable of the graph
 module _ (g : Graph) (few : process_count g ≤ 128) (v : ℕ) (known : IsVariable g v) where
   -- given: two good columns, the second of which follows the first
   module _ (c d : Column) (good_c : IsGood g c.cube) (good_d : IsGood g d.cube)
@@ -126,7 +131,7 @@ module _ (g : Graph) (few : process_count g ≤ 128) (v : ℕ) (known : IsVariab
     touch : TouchAt g.faults v c.cube d.cube
     touch = touch_of g.faults v c d h
 
-    -- the two made one are a good column
+    -- the column made of the two is good
     pub good_joined : IsGood g (joined g.faults v c d).cube
     good_joined = good_both g few v c.cube d.cube good_c good_d touch
 
@@ -173,10 +178,13 @@ module _ (g : Graph) (few : process_count g ≤ 128) (v : ℕ) (known : IsVariab
 
   -- ---- all joins of sorted columns
 
-  -- what a walk over columns gives
+  -- what a walk over columns gives: a join of them, of good columns, which are fewer or the same
   pub record Walked (before after : List Column) : Type 0 where
+    -- the columns after it are a join of those before
     pub joins : IsJoinOf g before after
+    -- they are good
     pub good : AreGood g after
+    -- they are fewer, or the same
     pub fewer : (length after < length before) ⊎ (after ≡ before)
 
   -- a walk over good columns gives good columns that are a join of them: fewer ones, or the same
@@ -189,6 +197,7 @@ module _ (g : Graph) (few : process_count g ≤ 128) (v : ℕ) (known : IsVariab
       (All-tail (λ (x : Column). IsGood g x.cube) d ds (All-tail (λ (x : Column). IsGood g x.cube) c (d ∷ ds) a))))
       (walk d ds (All-tail (λ (x : Column). IsGood g x.cube) c (d ∷ ds) a))
     where
+      -- the first column's cube is good
       good_c : IsGood g c.cube
       good_c = All-head (λ (x : Column). IsGood g x.cube) c (d ∷ ds) a
 

@@ -1,5 +1,5 @@
--- The order in which columns stand while they are merged at a variable: what compares equal is equal on all other
--- variables.
+-- The order by which columns are sorted before they are merged at a variable. It is total, and columns that tie in it
+-- have the same time and the same literals on other variables.
 use Rattle.std.proofs.Common.{ℕ, ◌≤◌, ◌≡◌, true, false, List, [], ◌∷◌, Ordering, Less, Equal, Greater, AllPairs, arith}
 use Rattle.std.proofs.Common.{refl, sym, ap, ap₂, ◌∙◌}
 use Rattle.std.specs.Ordering.{nat_cmp, ordering_then, ordering_reverse, is_lt, is_eq}
@@ -18,13 +18,13 @@ use Rattle.cpg_cube.proofs.Ranges.{same_literal}
 
 -- ---- one comparison after another
 
--- if two comparisons in turn are equal, each of them is
+-- if one comparison and then another come out equal, each of them does
 pub then_equal : (o r : Ordering) → ordering_then o r ≡ Equal → (o ≡ Equal) × (r ≡ Equal)
 then_equal Less r h = cc
 then_equal Equal r h = (refl, h)
 then_equal Greater r h = cc
 
--- if the two are not less, the first is not either
+-- if the two in turn don't come out less, the first doesn't
 pub then_not_less : (o r : Ordering) → is_lt (ordering_then o r) ≡ false → is_lt o ≡ false
 then_not_less Less r h = h
 then_not_less Equal r h = refl
@@ -68,36 +68,38 @@ literals_equal (x ∷ xs) [] h = cc
 literals_equal (x ∷ xs) (y ∷ ys) h = let r = then_equal (literal_cmp x y) (slice_cmp literal_cmp xs ys) h in
     ap₂ ◌∷◌ (literal_equal x y r.0) (literals_equal xs ys r.1)
 
+-- `v` is the variable at which columns are merged
 module _ (v : ℕ) where
-  -- columns are totally ordered by time and their literals on other variables, and then by the low of the variable
+  -- the order by time and literals on other variables is total
   pub beside_total : IsTotalOrder (beside_cmp v)
   beside_total = then_total (on_total (λ (c : Column). c.time) nat_cmp_total)
       (on_total (λ (c : Column). without v c.cube) (lists_total literal_total))
 
-  -- the order of columns is total
+  -- so is the order that then goes by the low of v
   pub column_total : IsTotalOrder (column_cmp v)
   column_total = then_total beside_total (on_total (λ (c : Column). low_in c.cube v) nat_cmp_total)
 
-  -- columns that tie have one time and the same literals on other variables, and the other way round
+  -- columns that tie beside v have one time and the same literals on other variables
   pub beside_equal : (c d : Column) → beside_cmp v c d ≡ Equal →
       (c.time ≡ d.time) × (without v c.cube ≡ without v d.cube)
   beside_equal c d h =
       let r = then_equal (nat_cmp c.time d.time) (slice_cmp literal_cmp (without v c.cube) (without v d.cube)) h in
       (number_equal c.time d.time r.0, literals_equal (without v c.cube) (without v d.cube) r.1)
 
-  -- columns of one time whose cubes are equal but for a variable compare as equal
+  -- columns of one time with the same literals on other variables tie beside v
   pub beside_from : (c d : Column) → c.time ≡ d.time → without v c.cube ≡ without v d.cube → beside_cmp v c d ≡ Equal
   beside_from c d e f =
       ap₂ (λ (t : ℕ) (ls : List Literal).
       ordering_then (nat_cmp c.time t) (slice_cmp literal_cmp (without v c.cube) ls)) (sym e) (sym f)
       ∙ tied_itself beside_total c
 
-  -- a column that stands between two that tie ties with them
+  -- a column that stands between two that tie beside v ties with the first
   pub between : (c d e : Column) → is_lt (beside_cmp v d c) ≡ false → is_lt (beside_cmp v e d) ≡ false →
       beside_cmp v c e ≡ Equal →
       beside_cmp v c d ≡ Equal
   between c d e h i t = go (beside_cmp v c d) refl
     where
+      -- c doesn't come before d, since e would too, nor after it
       go : (o : Ordering) → beside_cmp v c d ≡ o → o ≡ Equal
       go Equal k = refl
       go Less k =
@@ -108,7 +110,7 @@ module _ (v : ℕ) where
           let back : beside_cmp v d c ≡ Less = beside_total.antisymm d c ∙ ap ordering_reverse k in
           absurd (both_ways (is_lt (beside_cmp v d c)) h (ap is_lt back))
 
-  -- sorted columns in pairs
+  -- in sorted columns none comes before an earlier one
   pub sorted_pairs : (xs : List Column) → IsSortedBy (λ c d. is_lt (column_cmp v c d)) xs →
       AllPairs (λ c d. is_lt (column_cmp v d c) ≡ false) xs
   sorted_pairs xs h = λ i j d l k. sorted_far (λ (x y : Column). is_lt (column_cmp v x y))

@@ -1,4 +1,4 @@
--- Two cubes that touch at a variable made one: it matches what either matches, and nothing matches both.
+-- Two cubes that touch at a variable, made one: that matches what either matches, and no scenario matches both.
 use Rattle.std.proofs.Common.{ℕ, ◌<◌, ◌≤◌, ◌≡◌, ◌≢◌, ◌⊎◌, true, false, not, List, [], ◌∷◌, Contains, All, arith, refl}
 use Rattle.std.proofs.Common.{sym, ◌∙◌, subst, ⊎_elim, inl, inr, leb-true}
 use Rattle.std.specs.Prelude.{nat_le}
@@ -22,15 +22,19 @@ use Rattle.cpg_cube.proofs.Within.{high_in-ge, low_in-high}
 use Rattle.cpg_merging.specs.Merged.{IsWider}
 use Rattle.cpg_merging.specs.Merging.{shorn, raised, TouchAt}
 
--- a cube of the graph that some scenario matches, and none of whose literals is whole or goes past the whole range
+-- a cube of the graph that some scenario matches, with no literal of the whole range or past it
 pub record IsGood (g : Graph) (literals : List Literal) : Type 0 where
+  -- its literals are on variables of the graph, in rising order
   pub cube : IsCube g literals
+  -- no literal has the whole range of its variable or goes past it
   pub narrow : IsNarrow g.faults literals
+  -- some scenario of the graph matches it
   pub met : is_met g.faults literals ≡ true
 
--- if no literal goes past the whole range, no range of the cube does
+-- if no literal goes past the whole range of its variable, no high of the cube does
 pub high_in-top : (k : ℕ) (ls : List Literal) → All (λ l. l.high ≤ top k l.variable) ls → (v : ℕ) →
     high_in k ls v ≤ top k v
+-- by induction on the literals: the first is on v, and gives the high, or the rest does
 high_in-top k [] h v = omega arith
 high_in-top k (l ∷ ls) h v = ⊎_elim
     (λ (e : l.variable ≡ v). subst (λ u. high_in k (l ∷ ls) u ≤ top k u) e
@@ -42,7 +46,7 @@ high_in-top k (l ∷ ls) h v = ⊎_elim
     omega arith)
     (cases_eq l.variable v)
 
--- no range of a cube that is met is empty
+-- a cube that some scenario matches has no empty range
 pub low-le-high : (k : ℕ) (cube : List Literal) → is_met k cube ≡ true → (v : ℕ) → low_in cube v ≤ high_in k cube v
 low-le-high k cube met v = low_in-high k cube v (λ l c.
     let a = and_parts (list_all (is_open k) cube) (nat_le (asked_faults cube) k) met in
@@ -57,31 +61,32 @@ wider_itself k a = λ v. (omega arith, omega arith)
 pub wider_through : (k : ℕ) (a b c : List Literal) → IsWider k a b → IsWider k b c → IsWider k a c
 wider_through k a b c h i = λ v. let x = h v in let y = i v in (omega arith, omega arith)
 
--- without the literals of the whole range the ranges are the same
+-- without its literals of the whole range a cube allows all that it did
 pub shorn_wider : (k : ℕ) (cube : List Literal) → IsRising cube → IsWider k (shorn k cube) cube
 shorn_wider k cube r = λ v. let a = shorn-low k cube r v in let b = shorn-high k cube r v in (omega arith, omega arith)
 
--- a cube is as wide as what is left without its whole literals
+-- and with them it allows no less than without
 pub wider_shorn : (k : ℕ) (cube : List Literal) → IsRising cube → IsWider k cube (shorn k cube)
 wider_shorn k cube r = λ v. let a = shorn-low k cube r v in let b = shorn-high k cube r v in (omega arith, omega arith)
 
--- without its whole literals a cube still rises, keeps what holds of all its literals, and is narrow
+-- without its literals of the whole range a cube still rises
 pub shorn_rising : (k : ℕ) (cube : List Literal) → IsRising cube → IsRising (shorn k cube)
 shorn_rising k cube r = AllPairs-filter (λ (l m : Literal). l.variable < m.variable) (λ l. not (is_whole k l)) cube r
 
--- leaving out the literals of the whole range keeps what holds of all
+-- without them, what holds of all its literals still does
 pub shorn_all : (k : ℕ) (P : Literal → Type 0) (cube : List Literal) → All P cube → All P (shorn k cube)
 shorn_all k P cube a = All-filter (λ l. not (is_whole k l)) P cube a
 
--- leaving out the literals of the whole range leaves none of them
+-- without them, no literal has the whole range of its variable or goes past it
 pub shorn_narrow : (k : ℕ) (cube : List Literal) → All (λ l. l.high ≤ top k l.variable) cube → IsNarrow k (shorn k cube)
 shorn_narrow k cube w =
     All-from_each {P = λ l. (is_whole k l ≡ false) × (l.high ≤ top k l.variable)} (shorn k cube) (λ l c.
     let r = Contains-filter_parts (λ m. not (is_whole k m)) cube l c in
     (not-true (is_whole k l) r.1, All-contains (λ (m : Literal). m.high ≤ top k m.variable) cube l w r.0))
 
+-- given: a graph of at most 128 processes
 module _ (g : Graph) (few : process_count g ≤ 128) where
-  -- a rising cube matches a scenario if all numbers are in its ranges
+  -- a rising cube matches a scenario if its range of each literal's variable has the scenario's number
   pub matches_in_ranges : (cube : List Literal) (s : Scenario) → IsRising cube
       → ((l : Literal) → Contains cube l → (low_in cube l.variable ≤ number_of s l.variable) ×
       (number_of s l.variable ≤ high_in g.faults cube l.variable)) → matches cube s ≡ true
@@ -90,7 +95,7 @@ module _ (g : Graph) (few : process_count g ≤ 128) where
       let i = h l c in
       holds-from s l (omega arith) (omega arith))
 
-  -- the numbers of a scenario that matches are in range
+  -- if a cube matches a scenario, its range of each variable has the scenario's number
   pub ranges_of_match : (cube : List Literal) (s : Scenario) → IsScenario g s → matches cube s ≡ true → (v : ℕ) →
       IsVariable g v →
       (low_in cube v ≤ number_of s v) ×
@@ -98,7 +103,7 @@ module _ (g : Graph) (few : process_count g ≤ 128) where
   ranges_of_match cube s i t v known =
       (low_in-le cube s v t, high_in-ge g.faults cube s v (number_within g few s i v known) t)
 
-  -- a wider cube matches too
+  -- a cube that allows all that another one does matches what that one matches
   pub matches_wider : (a b : List Literal) (s : Scenario) → IsScenario g s → IsCube g a → IsWider g.faults a b →
       matches b s ≡ true →
       matches a s ≡ true
@@ -134,14 +139,14 @@ module _ (g : Graph) (few : process_count g ≤ 128) where
 
   -- ---- two that touch
 
-  -- given: two good cubes that touch at a variable
+  -- given: two good cubes, a and b, that touch at variable v
   module _ (v : ℕ) (a b : List Literal) (good_a : IsGood g a) (good_b : IsGood g b)
       (touch : TouchAt g.faults v a b) where
-    -- the two as one, before the whole literals are left out
+    -- a with its range of v extended to the end of b's
     abbrev wide : List Literal
     wide = raised v (high_in g.faults b v) a
 
-    -- the cube that is made of the two, without literals of the whole range
+    -- the two made one: that cube without literals of the whole range
     abbrev pub both : List Literal
     both = shorn g.faults wide
 
@@ -165,30 +170,31 @@ module _ (g : Graph) (few : process_count g ≤ 128) where
     open_b : (u : ℕ) → low_in b u ≤ high_in g.faults b u
     open_b u = low-le-high g.faults b good_b.met u
 
-    -- the raised cube is by rising variables
+    -- the extended cube rises
     rising_wide : IsRising wide
     rising_wide = raised-rising v (high_in g.faults b v) a good_a.cube.rising
 
-    -- the raised cube is a cube of the graph
+    -- the extended cube is one of the graph
     cube_wide : IsCube g wide
     cube_wide =
         record { rising = rising_wide; known = raised-all v (high_in g.faults b v) (IsVariable g) a good_a.cube.known }
 
-    -- the two as one have the ranges of the first, but the second's high at the variable
+    -- the two made one have the lows of a
     pub both-low : (u : ℕ) → low_in both u ≡ low_in a u
     both-low u = shorn-low g.faults wide rising_wide u ∙ raised-low v (high_in g.faults b v) a u
 
-    -- at other variables the highs are those of the first
+    -- and the highs of a, except of v
     pub both-high : (u : ℕ) → u ≢ v → high_in g.faults both u ≡ high_in g.faults a u
     both-high u n = shorn-high g.faults wide rising_wide u ∙ raised-high v (high_in g.faults b v) g.faults a u n
 
-    -- at this one the high is that of the second
+    -- of v they have b's high
     pub both-high_here : high_in g.faults both v ≡ high_in g.faults b v
     both-high_here = shorn-high g.faults wide rising_wide v ∙ raised-high_here v (high_in g.faults b v) g.faults a
         (let t = touch.next in let o = open_b v in let h = high_in-top g.faults b within_b v in omega arith)
 
-    -- the two as one are as wide as each
+    -- the two made one allow all that a does
     pub wider_first : IsWider g.faults both a
+    -- on v the high of the two made one is b's, which isn't below a's; on other variables they agree
     wider_first = λ u. let l = both-low u in (
       omega arith,
       ⊎_elim
@@ -200,7 +206,7 @@ module _ (g : Graph) (few : process_count g ≤ 128) where
           (cases_eq u v),
     )
 
-    -- the two as one are as wide as the second
+    -- and all that b does
     pub wider_second : IsWider g.faults both b
     wider_second = λ u. let l = both-low u in ⊎_elim
         (λ (e : u ≡ v). let h = both-high_here in let t = touch.next in let o = open_a v in let m = both-low v in
@@ -209,21 +215,22 @@ module _ (g : Graph) (few : process_count g ≤ 128) where
         (λ (n : u ≢ v). let h = both-high u n in let o = touch.others u n in (omega arith, omega arith))
         (cases_eq u v)
 
-    -- what is made is a cube of the graph
+    -- the two made one are a cube of the graph
     cube_both : IsCube g both
     cube_both = cube_shorn wide cube_wide
 
-    -- no scenario matches both
+    -- no scenario matches both a and b: their ranges of v are apart
     pub apart : (s : Scenario) → IsScenario g s → IsVariable g v → matches a s ≡ true → matches b s ≡ true → ⊥
     apart s i known x y =
         let p = ranges_of_match a s i x v known in
         let q = ranges_of_match b s i y v known in
         let t = touch.next in omega arith
 
-    -- a scenario that the two as one match is matched by one of the two
+    -- a scenario that matches the two made one matches a or b, by whether its number of v is past a's high
     pub either : (s : Scenario) → IsScenario g s → IsVariable g v → matches both s ≡ true →
         (matches a s ≡ true) ⊎ (matches b s ≡ true)
     either s i known x = ⊎_elim
+        -- past a's high the number is in b's range of v; all other ranges of b are those of the joined cube
         (λ (l : high_in g.faults a v < number_of s v). inr (matches_in_ranges b s good_b.cube.rising (λ m c. ⊎_elim
         (λ (e : m.variable ≡ v). let r = ranges_of_match both s i x v known in
         let h = both-high_here in
@@ -237,6 +244,7 @@ module _ (g : Graph) (few : process_count g ≤ 128) where
         let h = both-high m.variable n in
         (omega arith, omega arith))
         (cases_eq m.variable v))))
+        -- up to a's high it is in a's range of v, since the joined cube has a's low there
         (λ (l : number_of s v ≤ high_in g.faults a v). inl (matches_in_ranges a s good_a.cube.rising (λ m c. ⊎_elim
         (λ (e : m.variable ≡ v). let r = ranges_of_match both s i x v known in let p = both-low v in
         subst (λ w. (low_in a w ≤ number_of s w) × (number_of s w ≤ high_in g.faults a w)) (sym e)
@@ -247,15 +255,15 @@ module _ (g : Graph) (few : process_count g ≤ 128) where
         (cases_eq m.variable v))))
         (cases_lt (high_in g.faults a v) (number_of s v))
 
-    -- the two as one match what either matches
+    -- the two made one match what a matches
     pub matches_first : (s : Scenario) → IsScenario g s → matches a s ≡ true → matches both s ≡ true
     matches_first s i t = matches_wider both a s i cube_both wider_first t
 
-    -- it matches what the second matches
+    -- the two made one match what b matches
     pub matches_second : (s : Scenario) → IsScenario g s → matches b s ≡ true → matches both s ≡ true
     matches_second s i t = matches_wider both b s i cube_both wider_second t
 
-    -- the two as one are a good cube
+    -- the two made one are a good cube
     pub good_both : IsGood g both
     good_both = record {
       cube = cube_both;

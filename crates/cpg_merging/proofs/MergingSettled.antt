@@ -1,4 +1,4 @@
--- When sorted columns have been walked over at a variable no two of them touch there any more.
+-- After a walk over columns that are sorted at a variable, no two of one time touch there any more.
 use Rattle.std.proofs.Common.{ℕ, ◌+◌, ◌<◌, ◌≤◌, ◌≡◌, ◌≢◌, ◌⊎◌, Bool, true, false, not, cond, ◌==◌, List, [], ◌∷◌}
 use Rattle.std.proofs.Common.{length, filter, get_or, Contains, AllPairs, Equal, arith, refl, sym, ap, ◌∙◌, subst}
 use Rattle.std.proofs.Common.{subst₂, ⊎_elim, eq-eqb}
@@ -33,14 +33,16 @@ use Rattle.cpg_merging.proofs.MergingLists.{AreGood, followed_parts, ranges_besi
 
 -- ---- of two columns that match a scenario the list has two
 
--- if at most one element passes a test, no two elements both do
+-- if at most one element of a list passes a test, no two of them do
 pub apart_pairs : {X : Type 0} (p : X → Bool) (xs : List X) → length (filter p xs) ≤ 1 →
     AllPairs (λ x y. p x ≡ true → p y ≡ true → ⊥) xs
+-- by induction on the list: if the first element passes, no other does
 apart_pairs {X} p [] h = AllPairs-nil (λ x y. p x ≡ true → p y ≡ true → ⊥)
 apart_pairs {X} p (x ∷ xs) h = AllPairs-cons_by (λ x y. p x ≡ true → p y ≡ true → ⊥) x xs
     (λ y c px py. both y px (Contains-filter p xs y py c) (p x) px h)
     (apart_pairs p xs (rest (p x) h))
   where
+    -- the rest has no more elements that pass than the whole list
     rest : (b : Bool) → length (cond b (x ∷ filter p xs) (filter p xs)) ≤ 1 → length (filter p xs) ≤ 1
     rest true l = omega arith
     rest false l = l
@@ -51,7 +53,7 @@ apart_pairs {X} p (x ∷ xs) h = AllPairs-cons_by (λ x y. p x ≡ true → p y 
     both y px c true e l = omega (arith, c.1)
     both y px c false e l = cc
 
--- if no scenario matches two of the columns, no pair matches one
+-- if no scenario matches two of the columns, no scenario matches both of any pair
 pub pairs_apart : (g : Graph) (columns : List Column) →
     ((s : Scenario) → IsScenario g s → length (times_in columns s) ≤ 1) →
     AllPairs (λ c d. (s : Scenario) → IsScenario g s → matches c.cube s ≡ true → matches d.cube s ≡ true → ⊥) columns
@@ -60,7 +62,8 @@ pairs_apart g columns h = λ i j d l k s is. apart_pairs (λ (c : Column). match
     let m = h s is in omega arith) i j d l k
 
 module _ (g : Graph) (few : process_count g ≤ 128) where
-  -- if the other ranges are equal, and the second's low is within the first's range, both match some scenario
+  -- If two cubes have the same ranges of all other variables, and b's low of v is within a's range of v, some scenario
+  -- matches both.
   pub share : (v : ℕ) (a b : List Literal) → IsGood g a → IsGood g b →
       ((u : ℕ) → u ≢ v → (low_in a u ≡ low_in b u) × (high_in g.faults a u ≡ high_in g.faults b u)) →
       low_in a v ≤ low_in b v → low_in b v ≤ high_in g.faults a v →
@@ -89,13 +92,17 @@ module _ (g : Graph) (few : process_count g ≤ 128) where
         t,
       )
 
+  -- given: a variable of the graph
   module _ (v : ℕ) (known : IsVariable g v) where
-    -- the second doesn't come before the first, and if they differ in the variable alone its range lies above
+    -- c stands before d: in the sort d doesn't come before c beside v, and if they tie there, d's range of v lies
+    -- above c's
     pub record Before (c d : Column) : Type 0 where
+      -- d doesn't come before c by time and literals on other variables
       pub group : is_lt (beside_cmp v d c) ≡ false
+      -- if it ties with c in these, its range of v begins above the end of c's
       pub later : beside_cmp v c d ≡ Equal → high_in g.faults c.cube v < low_in d.cube v
 
-    -- in sorted columns of which no two match one scenario, each earlier one lies before the later ones
+    -- of sorted columns no two of which match one scenario, each earlier one stands before each later one
     pub before_pairs : (xs : List Column) → AreGood g xs →
         ((s : Scenario) → IsScenario g s → length (times_in xs s) ≤ 1) →
         IsSortedBy (λ c d. is_lt (column_cmp v c d)) xs →
@@ -105,7 +112,8 @@ module _ (g : Graph) (few : process_count g ≤ 128) where
         (All-contains (λ (c : Column). IsGood g c.cube) xs (get_or xs j d) good (Contains-get_or xs j d k))
         (pairs_apart g xs single i j d l k) (sorted_pairs v xs up i j d l k)
       where
-        -- of two columns that match no scenario together, a later one in the order lies behind the other
+        -- if d doesn't sort before c and no scenario matches both, c stands before d: if they tie and d began within
+        -- c's range, `share` would give a scenario
         pair : (c d : Column) → IsGood g c.cube → IsGood g d.cube →
             ((s : Scenario) → IsScenario g s → matches c.cube s ≡ true → matches d.cube s ≡ true → ⊥) →
             is_lt (column_cmp v d c) ≡ false →
@@ -125,23 +133,25 @@ module _ (g : Graph) (few : process_count g ≤ 128) where
               (cases_lt (high_in g.faults c.cube v) (low_in d.cube v));
         }
 
-    -- a walked column begins as one of the columns does
+    -- column r begins as x does: they tie beside v, and have the same low of v
     abbrev BeginsAs : Column → Column → Type 0
     BeginsAs r x = (beside_cmp v x r ≡ Equal) × (low_in r.cube v ≡ low_in x.cube v)
 
-    -- neither touches the other
+    -- neither column follows the other at v
     pub record Untouched (c d : Column) : Type 0 where
+      -- d doesn't begin right behind the end of c
       pub above : beside_cmp v c d ≡ Equal → high_in g.faults c.cube v + 1 ≢ low_in d.cube v
+      -- c doesn't begin right behind the end of d
       pub below : beside_cmp v c d ≡ Equal → high_in g.faults d.cube v + 1 ≢ low_in c.cube v
 
     -- ---- a join stands where its first column stood
 
-    -- leaving out a variable leaves no literal of the whole range
+    -- without the literals on v, no literal of a cube has the whole range
     without_narrow : (cube : List Literal) → IsNarrow g.faults cube → IsNarrow g.faults (without v cube)
     without_narrow cube n = All-filter (λ l. not (l.variable == v))
         (λ (l : Literal). (is_whole g.faults l ≡ false) × (l.high ≤ top g.faults l.variable)) cube n
 
-    -- leaving out a variable leaves the literals rising
+    -- without the literals on v, a cube still rises
     without_rising : (cube : List Literal) → IsRising cube → IsRising (without v cube)
     without_rising cube r =
         AllPairs-filter (λ (l m : Literal). l.variable < m.variable) (λ l. not (l.variable == v)) cube r
@@ -150,6 +160,7 @@ module _ (g : Graph) (few : process_count g ≤ 128) where
     pub same_without : (a b : List Literal) → IsGood g a → IsGood g b →
         ((u : ℕ) → u ≢ v → (low_in a u ≡ low_in b u) × (high_in g.faults a u ≡ high_in g.faults b u)) →
         without v a ≡ without v b
+    -- both cubes then have the same ranges of all variables, v's whole, and a good cube is known by its ranges
     same_without a b good_a good_b h = same_cube g.faults (without v a) (without v b)
         (without_rising a good_a.cube.rising) (without_rising b good_b.cube.rising) (without_narrow a good_a.narrow)
         (without_narrow b good_b.narrow)
@@ -164,6 +175,7 @@ module _ (g : Graph) (few : process_count g ≤ 128) where
         (λ (n : u ≢ v). without-high v g.faults a u n ∙ (h u n).1 ∙ sym (without-high v g.faults b u n))
         (cases_eq u v))
 
+    -- given: two good columns, the second of which follows the first
     module _ (c d : Column) (good_c : IsGood g c.cube) (good_d : IsGood g d.cube)
         (h : is_followed g.faults v c d ≡ true) where
       -- the low of two joined columns is that of the first
@@ -174,7 +186,7 @@ module _ (g : Graph) (few : process_count g ≤ 128) where
       joined_high : high_in g.faults (joined g.faults v c d).cube v ≡ high_in g.faults d.cube v
       joined_high = both-high_here g few v c.cube d.cube good_c good_d (touch_of g.faults v c d h)
 
-      -- the joined column compares as the first does at other variables
+      -- the joined column ties with c beside v
       joined_beside : beside_cmp v c (joined g.faults v c d) ≡ Equal
       joined_beside = beside_from v c (joined g.faults v c d) refl
           (same_without c.cube (joined g.faults v c d).cube good_c (good_joined g few v known c d good_c good_d h)
@@ -183,7 +195,7 @@ module _ (g : Graph) (few : process_count g ≤ 128) where
             sym (both-high g few v c.cube d.cube good_c good_d (touch_of g.faults v c d h) u n),
           )))
 
-      -- it stands before what both stand before
+      -- the joined column stands before what both c and d stand before
       joined_before : (r : Column) → Before c r → Before d r → Before (joined g.faults v c d) r
       joined_before r x y = record {
         group = ap is_lt (sym (alike_right (beside_total v) c (joined g.faults v c d) r joined_beside)) ∙ x.group;
@@ -195,9 +207,10 @@ module _ (g : Graph) (few : process_count g ≤ 128) where
             omega arith;
       }
 
-    -- each column after the walk begins as one before it
+    -- each column that the walk leaves begins as one of the given columns does
     begins : (c : Column) (ds : List Column) → AreGood g (c ∷ ds) → (r : Column) → Contains (walked g.faults v c ds) r →
         (x : Column) × Contains (c ∷ ds) x × BeginsAs r x
+    -- by induction on the columns: the first one stays, or is joined with the second, as which it begins
     begins c [] a r m = ⊎_elim
         (λ (e : c ≡ r). (c, Contains-first c [], subst (λ z. BeginsAs z c) e (tied_itself (beside_total v) c, refl)))
         (λ (n : Contains [] r). absurd (Contains-nil r n))
@@ -209,6 +222,7 @@ module _ (g : Graph) (few : process_count g ≤ 128) where
         n)
         (begins d ds (All-tail (λ (x : Column). IsGood g x.cube) c (d ∷ ds) a) r)
       where
+        -- the first column's cube is good
         good_c : IsGood g c.cube
         good_c = All-head (λ (x : Column). IsGood g x.cube) c (d ∷ ds) a
 
@@ -228,6 +242,7 @@ module _ (g : Graph) (few : process_count g ≤ 128) where
         go true e n ih_joined ih =
             let i = ih_joined (good_joined g few v known c d good_c good_d e) n in
             ⊎_elim
+            -- r begins as the joined column, which begins as c
             (λ (f : joined g.faults v c d ≡ i.0).
             let b : BeginsAs r (joined g.faults v c d) = subst (BeginsAs r) (sym f) i.2 in (
               c,
@@ -247,13 +262,15 @@ module _ (g : Graph) (few : process_count g ≤ 128) where
 
     -- ---- no two touch
 
+    -- given: good columns, each of which stands before the later ones, and of which the second doesn't follow the
+    -- first
     module _ (c d : Column) (ds : List Column) (good : AreGood g (c ∷ d ∷ ds)) (before : AllPairs Before (c ∷ d ∷ ds))
         (apart : is_followed g.faults v c d ≡ false) where
-      -- the first stands before the others
+      -- c stands before each later column
       before_first : (x : Column) → Contains (d ∷ ds) x → Before c x
       before_first x m = AllPairs-first Before c (d ∷ ds) before x m
 
-      -- the second stands before the others
+      -- d stands before each column behind it
       before_second : (x : Column) → Contains ds x → Before d x
       before_second x m = AllPairs-first Before d ds (AllPairs-rest Before c (d ∷ ds) before) x m
 
@@ -262,9 +279,11 @@ module _ (g : Graph) (few : process_count g ≤ 128) where
       open_of x m =
           low-le-high g.faults x.cube (All-contains (λ (y : Column). IsGood g y.cube) (c ∷ d ∷ ds) x good m).met v
 
-      -- the first column isn't followed by any later one
+      -- no later column follows c: d doesn't, and any other that ties with c lies above d's range
       not_next : (x : Column) → Contains (d ∷ ds) x → beside_cmp v c x ≡ Equal →
           high_in g.faults c.cube v + 1 ≢ low_in x.cube v
+      -- d ties with c too if a later one does, and then it comes after c and before that one, so there is no room
+      -- between
       not_next x m t e = ⊎_elim
           (λ (f : d ≡ x). both_ways (is_followed g.faults v c d) apart
           (and_from (is_eq (beside_cmp v c d)) (high_in g.faults c.cube v + 1 == low_in d.cube v)
@@ -281,7 +300,8 @@ module _ (g : Graph) (few : process_count g ≤ 128) where
           let z : ⊥ = omega arith in z)
           (Contains-cases d ds x m)
 
-      -- the first touches none that the walk over the others leaves
+      -- c touches none of the columns that the walk over the later ones leaves: each begins as one of them does, above
+      -- c and not right behind it
       untouched : (r : Column) → Contains (walked g.faults v d ds) r → Untouched c r
       untouched r m =
           let good_rest = All-tail (λ (x : Column). IsGood g x.cube) c (d ∷ ds) good in
@@ -298,9 +318,11 @@ module _ (g : Graph) (few : process_count g ≤ 128) where
                 let z : ⊥ = omega arith in z;
           }
 
-    -- no two that the walk leaves touch
+    -- no two columns that the walk leaves touch at v
     walked_untouched : (c : Column) (ds : List Column) → AreGood g (c ∷ ds) → AllPairs Before (c ∷ ds) →
         AllPairs Untouched (walked g.faults v c ds)
+    -- by induction on the columns: the second follows the first, and the walk goes on from the two made one; or the
+    -- first stays, and touches none that the walk over the others leaves
     walked_untouched c [] a p =
         AllPairs-cons_by Untouched c [] (λ y m. absurd (Contains-nil y m)) (AllPairs-nil Untouched)
     walked_untouched c (d ∷ ds) a p = go (is_followed g.faults v c d) refl
@@ -310,6 +332,7 @@ module _ (g : Graph) (few : process_count g ≤ 128) where
         (walked_untouched d ds (All-tail (λ (x : Column). IsGood g x.cube) c (d ∷ ds) a)
         (AllPairs-rest Before c (d ∷ ds) p))
       where
+        -- the first column's cube is good
         good_c : IsGood g c.cube
         good_c = All-head (λ (x : Column). IsGood g x.cube) c (d ∷ ds) a
 
@@ -318,6 +341,8 @@ module _ (g : Graph) (few : process_count g ≤ 128) where
         good_d =
             All-head (λ (x : Column). IsGood g x.cube) d ds (All-tail (λ (x : Column). IsGood g x.cube) c (d ∷ ds) a)
 
+        -- by whether d follows c: then the walk goes on with the two joined, and otherwise c stays and the walk goes
+        -- on with d
         go : (b : Bool) → is_followed g.faults v c d ≡ b →
             (IsGood g (joined g.faults v c d).cube → AllPairs Before (joined g.faults v c d ∷ ds) →
             AllPairs Untouched (walked g.faults v (joined g.faults v c d) ds)) →
@@ -330,8 +355,10 @@ module _ (g : Graph) (few : process_count g ≤ 128) where
             (AllPairs-rest Before d ds (AllPairs-rest Before c (d ∷ ds) p)))
         go false e ih_joined ih = AllPairs-cons_by Untouched c (walked g.faults v d ds) (untouched c d ds a p e) ih
 
-    -- columns of which none touches another are settled at the variable
+    -- columns of which no two touch at v are settled there
     settled_from : (xs : List Column) → AreGood g xs → AllPairs Untouched xs → IsSettledOn g.faults v xs
+    -- two columns that touch at v tie, so they stand at different places; whichever is first, the other doesn't follow
+    -- it
     settled_from xs good p = λ c d m n e t.
         let good_c = All-contains (λ (x : Column). IsGood g x.cube) xs c good m in
         let good_d = All-contains (λ (x : Column). IsGood g x.cube) xs d good n in
@@ -351,7 +378,7 @@ module _ (g : Graph) (few : process_count g ≤ 128) where
         s)
         (cases_order m.0 n.0)
 
-    -- sorted columns are settled when they have been walked over
+    -- the whole: sorted columns that were walked over at v are settled there
     pub settled : (c : Column) (ds : List Column) → AreGood g (c ∷ ds) →
         ((s : Scenario) → IsScenario g s → length (times_in (c ∷ ds) s) ≤ 1) →
         IsSortedBy (λ x y. is_lt (column_cmp v x y)) (c ∷ ds) →

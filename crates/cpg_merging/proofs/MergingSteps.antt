@@ -1,4 +1,5 @@
--- The steps of merging columns: their order doesn't matter, a step at one variable, and steps one after another.
+-- The steps of merging: leaving out whole literals, putting columns in another order, a walk at one variable, and
+-- steps one after another.
 use Rattle.std.proofs.Common.{ℕ, ◌<◌, ◌≤◌, ◌≡◌, ◌≢◌, ◌⊎◌, true, false, cond, List, [], ◌∷◌, length, filter, get_or}
 use Rattle.std.proofs.Common.{sum_by, Contains, All, IsPermutation, arith, refl, sym, ap, ap₂, ◌∙◌, subst, ⊎_elim}
 use Rattle.std.proofs.Common.{inl, inr}
@@ -31,13 +32,15 @@ use Rattle.cpg_merging.proofs.MergingPairs.{IsGood, wider_itself, shorn_wider, m
 use Rattle.cpg_merging.proofs.MergingLists.{AreGood, times_first, joins_itself, joins_through, walk}
 use Rattle.cpg_merging.proofs.MergingSettled.{settled}
 
--- at most one column matches in each scenario
+-- no scenario matches two of the columns
 abbrev pub AreSingle : Graph → List Column → Type 0
 AreSingle g columns = (s : Scenario) → IsScenario g s → length (times_in columns s) ≤ 1
 
+-- given: a graph of at most 128 processes
 module _ (g : Graph) (few : process_count g ≤ 128) where
-  -- columns without whole literals are good columns
+  -- columns that may be merged, without literals of the whole range, are good
   pub good_of : (columns : List Column) → IsShorn g columns → AreGood g columns
+  -- each part is a fact of the columns, and a cube that some scenario matches is met
   good_of columns h = All-from_each {P = λ c. IsGood g c.cube} columns (λ c m.
       let is = All-contains (λ (x : Column). IsCube g x.cube) columns c h.good.cubes m in
       let w =
@@ -51,18 +54,21 @@ module _ (g : Graph) (few : process_count g ≤ 128) where
         met = met_by g few c.cube is r.0 r.1 r.2;
       })
 
-  -- good columns of which at most one matches a scenario are columns without whole literals
+  -- good columns, of which no scenario matches two, may be merged and have no literals of the whole range
   pub shorn_of : (columns : List Column) → AreGood g columns → AreSingle g columns → IsShorn g columns
   shorn_of columns h single = record {
     good = record {
+      -- cubes and variables are as in good columns
       cubes = λ k d l. (h k d l).cube;
       within = λ k d l i e m. ((h k d l).narrow i e m).1;
+      -- the lows of a cube are a scenario that it matches
       met = λ k d l.
           let c = get_or columns k d in
           let x = h k d l in
           (lows g c.cube, lows-lawful g few c.cube x.cube x.met, lows-match g few c.cube x.cube x.met);
       apart = single;
     };
+    -- no literal of a good column has the whole range
     not_whole = λ k d l i e m. ((h k d l).narrow i e m).0;
   }
 
@@ -75,6 +81,7 @@ module _ (g : Graph) (few : process_count g ≤ 128) where
   -- leaving out literals of the whole range changes no times
   times_shorn : (columns : List Column) (s : Scenario) → IsScenario g s → All (λ c. IsCube g c.cube) columns →
       times_in (all_shorn g.faults columns) s ≡ times_in columns s
+  -- by induction on the list
   times_shorn [] s i is = refl
   times_shorn (c ∷ cs) s i is = times_first (shorn_column c) (all_shorn g.faults cs) s
       ∙ ap₂ (λ m ts. cond m (c.time ∷ ts) ts)
@@ -94,7 +101,7 @@ module _ (g : Graph) (few : process_count g ≤ 128) where
     );
   }
 
-  -- they can be merged, and have no whole literals
+  -- without their whole literals, columns may be merged, and have none of these
   pub shorn_columns : (columns : List Column) → AreMergeable g columns → IsShorn g (all_shorn g.faults columns)
   shorn_columns columns h = shorn_of (all_shorn g.faults columns)
       (All-map (λ (x : Column). IsGood g x.cube) shorn_column columns
@@ -107,7 +114,7 @@ module _ (g : Graph) (few : process_count g ≤ 128) where
 
   -- ---- another order of columns of which at most one matches
 
-  -- lists of at most one that have the same in them are equal
+  -- two lists of at most one number are equal if each has what the other has
   one_same : (xs ys : List ℕ) → length xs ≤ 1 → length ys ≤ 1 → ((x : ℕ) → Contains xs x → Contains ys x) →
       ((x : ℕ) → Contains ys x → Contains xs x) → xs ≡ ys
   one_same [] [] h k f t = refl
@@ -118,6 +125,7 @@ module _ (g : Graph) (few : process_count g ≤ 128) where
   one_same (x ∷ z ∷ xs) (y ∷ ys) h k f t = absurd (omega arith)
   one_same (x ∷ []) (y ∷ z ∷ ys) h k f t = absurd (omega arith)
 
+  -- given: columns in another order
   module _ (xs ys : List Column) (p : IsPermutation xs ys) where
     -- a scenario has a time for each column that matches it
     length_times : (zs : List Column) (s : Scenario) →
@@ -125,7 +133,7 @@ module _ (g : Graph) (few : process_count g ≤ 128) where
     length_times zs s = length-map (filter (λ c. matches c.cube s) zs) (λ (c : Column). c.time)
         ∙ length-filter (λ (c : Column). matches c.cube s) zs
 
-    -- in another order, at most one column still matches a scenario, and each is still good
+    -- in another order no scenario matches two of them either
     pub single_permuted : AreSingle g xs → AreSingle g ys
     single_permuted h = λ s i.
         let a = length_times xs s in
@@ -138,7 +146,7 @@ module _ (g : Graph) (few : process_count g ≤ 128) where
     pub good_permuted : AreGood g xs → AreGood g ys
     good_permuted h = All-permutation (λ (x : Column). IsGood g x.cube) xs ys p h
 
-  -- columns in another order have the same times
+  -- a time that a scenario has of columns it has of them in another order
   times_contained : (xs ys : List Column) → IsPermutation xs ys → (s : Scenario) (t : ℕ) → Contains (times_in xs s) t →
       Contains (times_in ys s) t
   times_contained xs ys p s t m =
@@ -156,13 +164,14 @@ module _ (g : Graph) (few : process_count g ≤ 128) where
     held = λ e m. (e, Contains-permutation xs ys e p m, refl, wider_itself g.faults e.cube);
   }
 
-  -- if at most one of the columns matches a scenario, at most one of a join of them does
+  -- if no scenario matches two columns, none matches two of a join of them
   pub single_joined : (xs ys : List Column) → IsJoinOf g xs ys → AreSingle g xs → AreSingle g ys
   single_joined xs ys j h = λ s i. subst (λ ts. length ts ≤ 1) (sym (j.times s i)) (h s i)
 
   -- ---- a step at one variable
 
-  -- walking over the sorted columns is a step at the variable
+  -- a walk over the columns, sorted at v, is a step at v: fewer columns are left, or the same ones, which are settled
+  -- at v
   pub passed_on : (v : ℕ) → IsVariable g v → (xs ys : List Column) → IsShorn g xs → IsPermutation xs ys →
       IsSortedBy (λ c d. is_lt (column_cmp v c d)) ys →
       IsPassed g (λ u. u ≡ v) xs (walked_over g.faults v ys)
@@ -200,23 +209,25 @@ module _ (g : Graph) (few : process_count g ≤ 128) where
 
 -- ---- steps that leave columns as they are
 
--- sorted columns of which none follows another stay as they are
+-- if no column follows the one before it, a walk from c leaves all as they are
 not_walked : (k v : ℕ) (c : Column) (cs : List Column) → is_any_followed_from k v c cs ≡ false →
     walked k v c cs ≡ c ∷ cs
+-- by induction on the list
 not_walked k v c [] h = refl
 not_walked k v c (d ∷ ds) h = cond-false (is_followed k v c d) (walked k v (joined k v c d) ds) (c ∷ walked k v d ds)
     (or_parts (is_followed k v c d) (is_any_followed_from k v d ds) h).0
     ∙ ap (λ xs. c ∷ xs) (not_walked k v d ds (or_parts (is_followed k v c d) (is_any_followed_from k v d ds) h).1)
 
--- sorted columns of which none follows the one before stay as they are
+-- if no column follows the one before it, the walk over the columns, of which there may be none, leaves them as they are
 pub not_walked_over : (k v : ℕ) (cs : List Column) → is_any_followed k v cs ≡ false → walked_over k v cs ≡ cs
 not_walked_over k v [] h = refl
 not_walked_over k v (c ∷ cs) h = not_walked k v c cs h
 
 -- ---- steps one after another
 
+-- `g` is the graph that the columns are of
 module _ (g : Graph) where
-  -- columns of which no two touch at a variable have been gone over there
+  -- columns that are settled at v need no step there
   pub passed_settled : (v : ℕ) → (xs : List Column) → IsShorn g xs → IsSettledOn g.faults v xs →
       IsPassed g (λ u. u ≡ v) xs xs
   passed_settled v xs h apart = record {
@@ -225,7 +236,7 @@ module _ (g : Graph) where
     fewer = inr (IsPermutation-refl xs, λ u e. subst (λ y. IsSettledOn g.faults y xs) (sym e) apart);
   }
 
-  -- columns that don't touch don't do so in another order
+  -- columns that are settled at v are so in another order
   settled_permuted : (v : ℕ) (xs ys : List Column) → IsPermutation xs ys → IsSettledOn g.faults v xs →
       IsSettledOn g.faults v ys
   settled_permuted v xs ys p h = λ c d m n. h c d (Contains-permutation ys xs c (IsPermutation-sym xs ys p) m)
@@ -248,10 +259,13 @@ module _ (g : Graph) where
         k.fewer;
   }
 
-  -- going over some variables and then over others is going over all of them
+  -- going over some variables and then over others is going over all of these; if no column was joined in either, the
+  -- first ones stay settled in another order
   pub passed_through : (P Q R : ℕ → Type 0) → ((v : ℕ) → R v → P v ⊎ Q v) → (xs ys zs : List Column) →
       IsPassed g P xs ys → IsPassed g Q ys zs →
       IsPassed g R xs zs
+  -- columns that become fewer in either step are fewer in the end; if they don't in either, they are the same in some
+  -- order
   passed_through P Q R split xs ys zs h k = record {
     joins = joins_through g xs ys zs h.joins k.joins;
     good = k.good;
@@ -311,7 +325,8 @@ sorted_through before middle after h k t =
     let earlier = h later.0 in
     (earlier.0, later.1 ∙ earlier.1)
 
--- columns that are known to stand by lows do so, if those of before did when they were known to
+-- If columns that are known to be sorted stand by their lows, so do those of a later listing that are known to be
+-- sorted, as they are the same.
 pub sorted_still : (g : Graph) (order : List ℕ) (before after : Listing) →
     (before.is_sorted ≡ true → AreByLows (λ (c : Column). c.cube) g order before.columns.items) →
     IsSortedAs before after →

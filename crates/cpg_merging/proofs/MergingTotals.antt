@@ -1,4 +1,5 @@
--- Columns of which no sum is that of another changed at a literal don't touch.
+-- If no column's total is that of another one changed at a literal on a variable, no two columns of one time touch
+-- there. Then, what the code that marks such variables relies on.
 use Rattle.std.proofs.Common.{ℕ, ◌+◌, ◌-◌, ◌%◌, ◌^◌, ◌<◌, ◌≤◌, ◌≡◌, ◌≢◌, ◌⊎◌, ◌==◌, Bool, true, false, not, List, []}
 use Rattle.std.proofs.Common.{◌∷◌, length, take, get_or, map, sum_by, Contains, IsPermutation, arith, refl, sym}
 use Rattle.std.proofs.Common.{ap, ap₂, ◌∙◌, subst, inl, inr, eq-eqb, ne_eqb, true≢false, Result, Ok, Err}
@@ -27,27 +28,28 @@ use Rattle.cpg_merging.specs.Totals.{DoNotFall, place_in}
 use Rattle.cpg_merging.proofs.MergingPairs.{IsGood, low-le-high, high_in-top}
 use Rattle.cpg_merging.proofs.MergingSettled.{same_without}
 
--- the literal with a cube's range of a variable
+-- the literal that says a cube's range of variable v
 abbrev pub of_range : ℕ → List Literal → ℕ → Literal
 of_range k cube v = record { variable = v; low = low_in cube v; high = high_in k cube v }
 
--- a literal is the range of its own variable
+-- the first literal of a list is its range of the literal's variable
 range_here : (k : ℕ) (l : Literal) (ls : List Literal) (v : ℕ) → l.variable ≡ v → l ≡ of_range k (l ∷ ls) v
 range_here k l ls v e = subst (λ w. l ≡ of_range k (l ∷ ls) w) e
     (ap₂ (λ low high. record { variable = l.variable; low = low; high = high })
     (sym (cond-true (l.variable == l.variable) l.low (low_in ls l.variable) (eq-eqb _ _ refl)))
     (sym (cond-true (l.variable == l.variable) l.high (high_in k ls l.variable) (eq-eqb _ _ refl))))
 
--- a literal on another variable doesn't change a range
+-- a first literal on another variable doesn't change the range of v
 range_later : (k : ℕ) (l : Literal) (ls : List Literal) (v : ℕ) → l.variable ≢ v →
     of_range k ls v ≡ of_range k (l ∷ ls) v
 range_later k l ls v n = ap₂ (λ low high. record { variable = v; low = low; high = high })
     (sym (cond-false (l.variable == v) l.low (low_in ls v) (ne_eqb _ _ n)))
     (sym (cond-false (l.variable == v) l.high (high_in k ls v) (ne_eqb _ _ n)))
 
--- a range that isn't the whole one is a literal's
+-- if a cube's range of v isn't the whole one, a literal says it
 pub spoken : (k : ℕ) (cube : List Literal) (v : ℕ) → (0 < low_in cube v) ⊎ (high_in k cube v < top k v) →
     Contains cube (of_range k cube v)
+-- by induction on the cube: its first literal is on v, or the range is that of the others
 spoken k [] v (inl h) = absurd (omega (arith, h))
 spoken k [] v (inr h) = absurd (omega (arith, h))
 spoken k (l ∷ ls) v h = elim (cases_eq l.variable v) [
@@ -56,6 +58,7 @@ spoken k (l ∷ ls) v h = elim (cases_eq l.variable v) [
       (Contains-rest l ls (of_range k ls v) (spoken k ls v (later n h)))
 ]
   where
+    -- a first literal on another variable says nothing of v, so the rest does
     later : l.variable ≢ v → (0 < low_in (l ∷ ls) v) ⊎ (high_in k (l ∷ ls) v < top k v) →
         (0 < low_in ls v) ⊎ (high_in k ls v < top k v)
     later n (inl h) = inl (subst (λ w. 0 < w) (cond-false (l.variable == v) l.low (low_in ls v) (ne_eqb _ _ n)) h)
@@ -64,24 +67,26 @@ spoken k (l ∷ ls) v h = elim (cases_eq l.variable v) [
 
 -- ---- the sum over a cube is that over the other literals and the one on the variable
 
--- leaving out a variable leaves out the literal on it
+-- a first literal on v is left out
 without_same : (v : ℕ) (l : Literal) (ls : List Literal) → l.variable ≡ v → without v (l ∷ ls) ≡ without v ls
 without_same v l ls e = cond-false (not (l.variable == v)) (l ∷ without v ls) (without v ls) (ap not (eq-eqb _ _ e))
 
--- leaving out a variable keeps a literal on another one
+-- a first literal on another variable stays
 without_other : (v : ℕ) (l : Literal) (ls : List Literal) → l.variable ≢ v → without v (l ∷ ls) ≡ l ∷ without v ls
 without_other v l ls n = cond-true (not (l.variable == v)) (l ∷ without v ls) (without v ls) (ap not (ne_eqb _ _ n))
 
--- leaving out a variable keeps all literals if none is on it
+-- if no literal is on v, all stay
 without_none : (v : ℕ) (ls : List Literal) → ((m : Literal) → Contains ls m → m.variable ≢ v) → without v ls ≡ ls
+-- by induction on the list
 without_none v [] h = refl
 without_none v (l ∷ ls) h = without_other v l ls (h l (Contains-first l ls))
     ∙ ap (λ ms. l ∷ ms) (without_none v ls (λ m c. h m (Contains-rest l ls m c)))
 
--- the sum over a rising cube is that over the literals on other variables and the one literal on this one
+-- a sum over a rising cube is that over its literals on other variables and its one literal on v
 pub sum_parts : (f : Literal → ℕ) (v : ℕ) (cube : List Literal) → IsRising cube → (l : Literal) → Contains cube l →
     l.variable ≡ v →
     sum_by f cube ≡ sum_by f (without v cube) + f l
+-- by induction on the cube: the first literal is the one on v, and no other is; or it is on another variable
 sum_parts f v [] rising l c e = absurd (Contains-nil l c)
 sum_parts f v (m ∷ ms) rising l c e = elim (Contains-cases m ms l c) [
   | inl s ↦ omega (
@@ -103,12 +108,14 @@ sum_parts f v (m ∷ ms) rising l c e = elim (Contains-cases m ms l c) [
 
 -- ---- so sums of columns that touch differ in one literal
 
--- if two sums with one number each are equal, the rests are equal with any other number too
+-- if x and r with one number are equal modulo 2 ^ 64, they are so with any other number
 pub one_rest : (x r h i : ℕ) → (x + h) % 2 ^ 64 ≡ (r + h) % 2 ^ 64 → (x + i) % 2 ^ 64 ≡ (r + i) % 2 ^ 64
 one_rest x r h i e = omega (arith, e)
 
+-- given: a variable of the graph
 module _ (g : Graph) (few : process_count g ≤ 128) (v : ℕ) (known : IsVariable g v) where
-  -- if no literal of a column on a variable has a partner among the sums, no column of these sums touches it there
+  -- If d follows c at v, and c's total is among the totals, d's literal on v has a partner; so it is a contradiction
+  -- that it has none.
   pub touch_partner : (c d : Column) → IsGood g c.cube → IsGood g d.cube → c.time ≡ d.time →
       TouchAt g.faults v c.cube d.cube → (totals : List ℕ) →
       Contains totals (total_of c)
@@ -146,7 +153,7 @@ module _ (g : Graph) (few : process_count g ≤ 128) (v : ℕ) (known : IsVariab
       add_parts : (s t r w h : ℕ) → s ≡ r → t ≡ w + h → s + t ≡ r + w + h
       add_parts s t r w h e f = omega (arith, e, f)
 
--- marks by the sums are marks by the same sums sorted
+-- marks by the sorted totals are marks by the totals
 pub marked_sorted : (columns : List Column) (marks : List Bool) (sorted : List ℕ) →
     IsPermutation (map total_of columns) sorted →
     AreMarkedBy sorted marks columns →
@@ -161,12 +168,12 @@ pub marked_permuted : (g : Graph) (xs ys : List Column) (marks : List Bool) → 
 marked_permuted g xs ys marks p h = λ v known off c d m n. let back = IsPermutation-sym xs ys p in
     h v known off c d (Contains-permutation ys xs c back m) (Contains-permutation ys xs d back n)
 
--- what is taken from a sum leaves one rest, up to whole rounds what holds if a test is false
+-- if a test is false, what it gives on false holds
 pub from_off : {P : Type 0} (b : Bool) → b ≡ false → OnFalse b P → P
 from_off true e h = cc
 from_off false e h = h
 
--- what holds of the elements before a place and of the one there holds of those before the next
+-- what holds of the elements before a place, and of the one there, holds of those before the next place
 pub all_more : {X : Type 0} (P : X → Type 0) (xs : List X) (i : ℕ) (d : X) → i < length xs →
     ((m : X) → Contains (take i xs) m → P m) → P (get_or xs i d) → (m : X) → Contains (take (i + 1) xs) m → P m
 all_more P xs i d within before here m c =
@@ -175,12 +182,13 @@ all_more P xs i d within before here m c =
       | inr e ↦ subst P e here
     ]
 
--- what holds of the elements before the end of all holds of all
+-- what holds of the elements before a place past the end holds of all
 pub all_of : {X : Type 0} (P : X → Type 0) (xs : List X) (i : ℕ) → length xs ≤ i →
     ((m : X) → Contains (take i xs) m → P m) → (m : X) → Contains xs m → P m
 all_of P xs i long before m c = before m (subst (λ ys. Contains ys m) (sym (take_all i xs long)) c)
 
--- setting the place of one number more makes the sieve one of these numbers
+-- if a sieve has the places of the numbers before place i of their list, and that of the number there is set, it has
+-- those of the numbers before the next place
 pub sieve_more : (sieve : List Bool) (count place : ℕ) (numbers : List ℕ) (i d : ℕ) → i < length numbers →
     length sieve ≡ count → place ≡ place_in count (get_or numbers i d) → place < count
     → ((n : ℕ) → Contains (take i numbers) n → IsMarked sieve (place_in count n)) → (n : ℕ) →
@@ -189,6 +197,7 @@ sieve_more sieve count place numbers i d within long is inside before n c =
     all_more (λ (m : ℕ). IsMarked (slice_set sieve place true) (place_in count m)) numbers i d within
     (λ m h. kept (place_in count m) (before m h)) (subst (IsMarked (slice_set sieve place true)) is here) n c
   where
+    -- the place that is set is marked
     here : IsMarked (slice_set sieve place true) place
     here = get_or-set_same sieve place true false (omega (arith, inside, long))
 
@@ -199,9 +208,10 @@ sieve_more sieve count place numbers i d within long is inside before n c =
       | inr n ↦ get_or-set_other sieve place q true false n ∙ on
     ]
 
--- a number that a search does not find is not in the list
+-- a number that a binary search of sorted numbers doesn't find isn't among them
 pub not_there : (xs : List ℕ) (x : ℕ) (r : Result ℕ ℕ) → IsBinarySearchResult (λ y. nat_cmp y x) xs r → DoNotFall xs →
     OnFalse (is_ok r) (Contains xs x → ⊥)
+-- the search gives a place: the numbers before it are less than x, and those from it on greater
 not_there xs x (Ok i) h up = tt
 not_there xs x (Err i) h up = λ there.
     let parts = searched xs x (Err i) h up in
@@ -213,7 +223,7 @@ not_there xs x (Err i) h up = λ there.
 
 -- ---- marks of variables
 
--- if no mark is found, no number is marked
+-- if no mark passes a test that set marks pass, no number is marked
 pub none_on : (p : Bool → Bool) → p true ≡ true → (marks : List Bool) → list_any p marks ≡ false → (v : ℕ) →
     ¬ IsMarked marks v
 none_on p is marks none v on = elim (cases_lt v (length marks)) [
@@ -222,7 +232,7 @@ none_on p is marks none v on = elim (cases_lt v (length marks)) [
   | inr l ↦ true≢false (sym on ∙ get_or_past marks v false l)
 ]
 
--- setting a mark where there was none keeps the others
+-- changing a mark that wasn't set keeps the marks that were
 pub mark_kept : (marks : List Bool) (place : ℕ) (b : Bool) → get_or marks place false ≡ false → (v : ℕ) →
     IsMarked marks v →
     IsMarked (slice_set marks place b) v
@@ -231,16 +241,16 @@ mark_kept marks place b off v on = elim (cases_eq v place) [
   | inr n ↦ get_or-set_other marks place v b false n ∙ on
 ]
 
--- a number that is not marked after its mark was set was set to false
+-- if a place isn't marked after its mark was written, false was written
 pub mark_off : (marks : List Bool) (place : ℕ) (b : Bool) → place < length marks →
     ¬ IsMarked (slice_set marks place b) place → b ≡ false
 mark_off marks place true within off = absurd (off (get_or-set_same marks place true false within))
 mark_off marks place false within off = refl
 
--- marks by the columns before a place and by that there are marks by those before the next
+-- given: columns that f reads, and totals
 module _ {X : Type 0} (f : X → Column) (sums : List ℕ) (columns : List X) where
-  -- if the marks are right for the columns before a place and for the one there, they are right for those before the
-  -- next
+  -- If marks are right for the columns before a place, and new ones keep them and are right for the column there, the
+  -- new ones are right for the columns before the next place.
   pub marked_next : (totals : List ℕ) (old new : List Bool) (place : ℕ) (x : X) → place < length columns →
       x ≡ get_or columns place x →
       totals ≡ map total_of (map f columns) →
@@ -254,6 +264,7 @@ module _ {X : Type 0} (f : X → Column) (sums : List ℕ) (columns : List X) wh
       (subst (λ (y : Column). (n : Literal) → Contains y.cube n → ¬ IsMarked new n.variable →
       HasNoPartner sums (total_of y) n) (sym at) now) d m l
     where
+      -- as many columns are mapped as there are, so the place is within
       long : place < length (map f columns)
       long = let same = length-map columns f in omega (arith, within, same)
 

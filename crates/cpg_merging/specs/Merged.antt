@@ -1,5 +1,5 @@
--- Rows of columns that are as few as can be: no two columns with one time and touching ranges are left, and they stand
--- by the least scenario that they match.
+-- Merged rows: no two columns of one time differ in one variable alone and touch there, and the columns stand by the
+-- least scenario that each matches.
 use Rattle.std.specs.Prelude.{ℕ, ◌≡◌, ◌<◌, ◌≤◌, false, List, length, slice_get, Some, IsTrue, All, Contains}
 use Rattle.cpg_base.specs.Graph.{Graph}
 use Rattle.cpg_base.specs.Scenario.{Scenario, IsScenario, IsLeast, is_before}
@@ -10,59 +10,68 @@ use Rattle.cpg_cube.specs.Fit.{IsCube}
 use Rattle.cpg_cube.specs.declared.column.Column.{Column}
 use Rattle.cpg_cube.specs.Column.{times_in}
 
--- the first scenario that a column matches
+-- s is the first scenario along the order that the column matches
 abbrev pub IsLeastMatch : Graph → List ℕ → Column → Scenario → Type 0
 IsLeastMatch g order c s = IsLeast g order (λ t. IsTrue (matches c.cube t)) s
 
--- the column of a number
+-- c is the column at place i
 abbrev pub IsColumn : List Column → ℕ → Column → Type 0
 IsColumn columns i c = slice_get columns i ≡ Some c
 
--- each column matches some scenario
+-- each column matches some scenario, so there is a least one
 abbrev pub AreMet : Graph → List ℕ → List Column → Type 0
 AreMet g order columns = All (λ c. (s : Scenario) × IsLeastMatch g order c s) columns
 
--- columns stand by the least scenario that they match
+-- the columns stand by the least scenario that each matches
 abbrev pub AreOrdered : Graph → List ℕ → List Column → Type 0
 AreOrdered g order columns =
     (i j : ℕ) (c d : Column) (s t : Scenario) → i < j → IsColumn columns i c → IsColumn columns j d →
     IsLeastMatch g order c s → IsLeastMatch g order d t → IsTrue (is_before g order s t)
 
--- no literal has the whole range of its variable
+-- no literal has the whole range of its variable, which would say nothing
 abbrev pub HaveNoWhole : ℕ → List Column → Type 0
 HaveNoWhole k columns = All (λ c. All (λ l. is_whole k l ≡ false) c.cube) columns
 
--- no literal goes past the whole range of its variable
+-- no literal goes past the greatest number of its variable
 abbrev pub AreWithin : ℕ → List Column → Type 0
 AreWithin k columns = All (λ c. All (λ l. l.high ≤ top k l.variable) c.cube) columns
 
--- no two columns can be made one
+-- no two columns have one time and cubes that differ in one variable v alone and touch or overlap there
 abbrev pub IsMerged : Graph → List Column → Type 0
 IsMerged g columns = (i j v : ℕ) (c d : Column) → i < j → IsColumn columns i c → IsColumn columns j d →
     c.time ≡ d.time → DifferAt g.faults c.cube d.cube v → ⊥
 
--- the first cube's range of each variable contains the second's
+-- the first cube allows each variable all that the second allows
 abbrev pub IsWider : ℕ → List Literal → List Literal → Type 0
 IsWider k a b = (v : ℕ) → (low_in a v ≤ low_in b v) × (high_in k b v ≤ high_in k a v)
 
--- columns of a graph that each match some scenario, and of which no two match one
+-- columns that may be merged
 pub record AreMergeable (g : Graph) (columns : List Column) : Type 0 where
+  -- their literals are on variables of the graph, in rising order
   pub cubes : All (λ c. IsCube g c.cube) columns
+  -- no literal goes past the greatest number of its variable
   pub within : AreWithin g.faults columns
+  -- each matches some scenario of the graph
   pub met : All (λ c. (s : Scenario) × IsScenario g s × IsTrue (matches c.cube s)) columns
+  -- no scenario matches two of them
   pub apart : (s : Scenario) → IsScenario g s → length (times_in columns s) ≤ 1
 
--- in every scenario columns have the times of the entries, by a column that is as wide at least; and they are as few as
--- can be
+-- `columns` are the entries, merged: in every scenario they have the same times, and they are as few as can be
 pub record IsMergeOf (g : Graph) (order : List ℕ) (entries columns : List Column) : Type 0 where
+  -- the time of the column that a scenario matches is that of its entry
   pub times : (s : Scenario) → IsScenario g s → times_in columns s ≡ times_in entries s
+  -- a column allows all that an entry allows which matches together with it
   pub wider : (s : Scenario) (e c : Column) → IsScenario g s → Contains entries e → Contains columns c →
       IsTrue (matches e.cube s) → IsTrue (matches c.cube s) → IsWider g.faults c.cube e.cube
+  -- literals are on variables of the graph, don't go past their numbers, and have no whole range; each column matches
+  -- some scenario
   pub cubes : All (λ c. IsCube g c.cube) columns
   pub within : AreWithin g.faults columns
   pub not_whole : HaveNoWhole g.faults columns
   pub met : AreMet g order columns
+  -- they stand by the least scenario that each matches
   pub ordered : AreOrdered g order columns
+  -- no two of them can be made one
   pub merged : IsMerged g columns
   -- a literal of a column is on a variable of which some entry that matches together with it has a literal
   pub spoken : (c : Column) (l : Literal) → Contains columns c → Contains c.cube l →

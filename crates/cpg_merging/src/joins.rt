@@ -1,4 +1,5 @@
-//! Columns that differ in one variable alone, and whose ranges of it touch, made one.
+//! Joining columns: two of them become one if they have one time and differ in one variable alone, of which their
+//! ranges touch.
 ghost use Rattle.std.specs.Prelude.{◌≡◌, ◌+◌, ◌<◌, IfOk, length};
 ghost use Rattle.std.specs.List.{list_any};
 ghost use Rattle.std.specs.Cmp.Lexicographic.{slice_cmp};
@@ -11,7 +12,7 @@ use std::alloc::Global;
 use std::cmp::Ordering;
 use std::mem;
 
-/// The least number of a variable that literals allow.
+/// Returns the least number that the literals allow a variable; 0 if none is on it.
 fn low_of(literals: &[Literal], variable: u8) -> u8
     ensures { result ≡ low_in literals.now variable }
 {
@@ -20,11 +21,11 @@ fn low_of(literals: &[Literal], variable: u8) -> u8
             return literal.low;
         }
     }
-    // no literal: the whole range, from 0 on
+    // without a literal the variable has its whole range, which begins at 0
     0
 }
 
-/// The greatest number of a variable that literals allow.
+/// Returns the greatest number that the literals allow a variable; the top of its whole range if none is on it.
 fn high_of(faults: u8, literals: &[Literal], variable: u8) -> u8
     ensures { result ≡ high_in faults literals.now variable }
 {
@@ -33,15 +34,16 @@ fn high_of(faults: u8, literals: &[Literal], variable: u8) -> u8
             return literal.high;
         }
     }
-    // no literal: the whole range, up to the top
+    // without a literal the variable has its whole range
     top(faults, variable)
 }
 
-/// Compares the literals on other variables.
+/// Compares two lists of literals, leaving out those on the variable. The first literals that differ decide; if there
+/// are none, the shorter list is less.
 fn compare_others(variable: u8, a: &[Literal], b: &[Literal]) -> Ordering
     ensures { result ≡ slice_cmp literal_cmp (without variable a.now) (without variable b.now) }
 {
-    // most literals are equal
+    // mostly the first literals are equal, whatever their variable, so this comes first
     if let (Some((first, rest)), Some((other, others))) = (a.split_first(), b.split_first()) {
         if first == other {
             return compare_others(variable, rest, others);
@@ -61,7 +63,7 @@ fn compare_others(variable: u8, a: &[Literal], b: &[Literal]) -> Ordering
     }
 }
 
-/// Compares columns by time and by their literals on other variables.
+/// Compares columns by time, then by their literals on variables other than this one.
 fn compare_beside(variable: u8, a: &Column, b: &Column) -> Ordering
     ensures { result ≡ beside_cmp variable a.now b.now }
 {
@@ -71,7 +73,8 @@ fn compare_beside(variable: u8, a: &Column, b: &Column) -> Ordering
     }
 }
 
-/// Compares columns by time, by their literals on other variables and then by the low of the variable.
+/// Compares columns by time, then by their literals on other variables, then by the low of this one. So columns that
+/// touch at the variable stand side by side when they are sorted.
 pub(crate) fn compare(variable: u8, a: &Column, b: &Column) -> Ordering
     ensures { result ≡ column_cmp variable a.now b.now }
 {
@@ -83,22 +86,24 @@ pub(crate) fn compare(variable: u8, a: &Column, b: &Column) -> Ordering
     }
 }
 
-/// Whether the columns differ in the variable alone, and the second's range begins where the first's ends.
+/// Whether `b` follows `a`: they have one time and the same literals on other variables, and `b`'s range of this one
+/// begins right behind the end of `a`'s.
 fn is_followed(faults: u8, variable: u8, a: &Column, b: &Column) -> bool
     ensures { result ≡ is_followed faults variable a.now b.now }
 {
+    // in 32 bits, since the high may be the greatest byte
     let next = u32::from(high_of(faults, a.cube.literals(), variable)) + 1;
     next == u32::from(low_of(b.cube.literals(), variable)) && compare_beside(variable, a, b).is_eq()
 }
 
-/// Whether a literal's range is the whole one.
+/// Whether a literal has the whole range of its variable, and so says nothing.
 fn is_whole(faults: u8, literal: &Literal) -> bool
     ensures { result ≡ is_whole faults literal.now }
 {
     literal.low == 0 && literal.high == top(faults, literal.variable)
 }
 
-/// The cube without the literals of the whole range.
+/// Returns a copy of the cube without the literals that have the whole range of their variable.
 fn shorn_cube(alloc: Global, faults: u8, cube: &Cube) -> Result<Cube, OutOfMemory>
     ensures { IfOk result (λ shorn_cube. shorn_cube ≡ shorn faults cube.now) }
 {
@@ -111,7 +116,8 @@ fn shorn_cube(alloc: Global, faults: u8, cube: &Cube) -> Result<Cube, OutOfMemor
     Ok(shorn)
 }
 
-/// The cube with another high of a variable's range.
+/// Returns a copy of the cube with `high` as the end of the variable's range. If no literal is on the variable, it is
+/// an equal cube.
 fn raised_cube(alloc: Global, variable: u8, high: u8, cube: &Cube) -> Result<Cube, OutOfMemory>
     ensures { IfOk result (λ raised_cube. raised_cube ≡ raised variable high cube.now) }
 {
@@ -127,7 +133,8 @@ fn raised_cube(alloc: Global, variable: u8, high: u8, cube: &Cube) -> Result<Cub
     Ok(raised)
 }
 
-/// The two columns made one, if the second follows the first.
+/// Returns `a` with its range of the variable extended to the end of `b`'s; a literal that then has the whole range is
+/// dropped. If `b` follows `a`, this is the two made one. `b`'s other literals and its time aren't looked at.
 fn join(
     alloc: Global,
     faults: u8,
@@ -145,7 +152,7 @@ fn join(
     })
 }
 
-/// Whether the cube has a literal of the whole range.
+/// Whether some literal of the cube has the whole range of its variable.
 fn has_whole(faults: u8, cube: &Cube) -> bool
     ensures { result ≡ list_any (is_whole faults) cube.now }
 {
@@ -154,14 +161,14 @@ fn has_whole(faults: u8, cube: &Cube) -> bool
         .any(|literal| is_whole(faults, literal))
 }
 
-/// Whether some column's cube has a literal of the whole range.
+/// Whether some literal of a column has the whole range of its variable.
 fn has_any_whole(faults: u8, columns: &[Column]) -> bool
     ensures { result ≡ list_any (λ c. list_any (is_whole faults) c.cube) columns.now }
 {
     columns.iter().any(|column| has_whole(faults, &column.cube))
 }
 
-/// Copies of columns without the literals of the whole range.
+/// Returns copies of the columns without the literals that have the whole range of their variable.
 fn shorn_copies(alloc: Global, faults: u8, columns: &[Column]) -> Result<Vec<Column>, OutOfMemory>
     ensures { IfOk result (λ r. r.items ≡ all_shorn faults columns.now) }
 {
@@ -176,7 +183,8 @@ fn shorn_copies(alloc: Global, faults: u8, columns: &[Column]) -> Result<Vec<Col
     Ok(shorn)
 }
 
-/// Columns without the literals of the whole range. If no column has such a literal, they stay as they are.
+/// Returns the columns without the literals that have the whole range of their variable. Usually there are none, and
+/// the columns are returned as they are.
 pub(crate) fn shorn_columns(
     alloc: Global,
     faults: u8,
@@ -184,14 +192,14 @@ pub(crate) fn shorn_columns(
 ) -> Result<Vec<Column>, OutOfMemory>
     ensures { IfOk result (λ r. r.items ≡ all_shorn faults columns.items) }
 {
-    // usual: nothing to take out
+    // nothing has to be taken out
     if !has_any_whole(faults, columns.as_slice()) {
         return Ok(columns);
     }
     shorn_copies(alloc, faults, columns.as_slice())
 }
 
-/// Whether some column follows the one before it.
+/// Whether some column follows the one before it at the variable; false if there are fewer than two.
 fn is_any_followed(faults: u8, variable: u8, columns: &[Column]) -> bool
     ensures { result ≡ is_any_followed faults variable columns.now }
 {
@@ -208,7 +216,8 @@ fn is_any_followed(faults: u8, variable: u8, columns: &[Column]) -> bool
     false
 }
 
-/// Makes neighbours one if the second follows the first.
+/// Returns the columns with neighbours made one where the second follows the first. A column that was joined may be
+/// joined with the next one too.
 fn join_neighbours(
     alloc: Global,
     faults: u8,
@@ -220,12 +229,12 @@ fn join_neighbours(
     let mut joined = Vec::new(alloc);
     joined.reserve(columns.len())?;
     let mut rest = columns.into_iter();
-    // no columns at all
+    // there are no columns
     let Some(first) = rest.next() else {
         return Ok(joined);
     };
     let mut current = first;
-    // `current` is the last column, as far as it is joined
+    // `current` is the last column so far, with those that it was joined with
     for next in rest {
         if is_followed(faults, variable, &current, &next) {
             current = join(alloc, faults, variable, &current, &next)?;
@@ -237,7 +246,8 @@ fn join_neighbours(
     Ok(joined)
 }
 
-/// Joins neighbours if the second follows the first, and leaves the columns as they are if none does.
+/// Returns the columns with neighbours made one where the second follows the first. If none does, they are returned as
+/// they are.
 pub(crate) fn joined_columns(
     alloc: Global,
     faults: u8,
@@ -246,7 +256,7 @@ pub(crate) fn joined_columns(
 ) -> Result<Vec<Column>, OutOfMemory>
     ensures { IfOk result (λ r. r.items ≡ walked_over faults variable columns.items) }
 {
-    // usual: nothing to join
+    // nothing has to be joined
     if !is_any_followed(faults, variable, columns.as_slice()) {
         return Ok(columns);
     }

@@ -1,4 +1,4 @@
-//! Rows of columns that are as few as can be.
+//! Merging: rows get as few columns as can be, by joining those that differ in one variable alone.
 #![tactic(auto)]
 
 mod demands;

@@ -1,4 +1,4 @@
-//! Rows with as few columns as can be.
+//! Joining the columns of a row, variable by variable, until no two touch.
 ghost use Rattle.std.specs.Prelude.{ℕ, ◌≡◌, ◌<◌, ◌≤◌, IfOk, IsPermutation, false};
 ghost use Rattle.cpg_base.specs.Numbers.{numbers_below};
 ghost use Rattle.cpg_base.specs.Graph.{IsVariable, process_count};
@@ -14,7 +14,7 @@ use cpg_base::{FIRST_VALUE, Order, OutOfMemory, Problem};
 use cpg_cube::{Column, Listing};
 use std::alloc::Global;
 
-/// Joins columns that touch at a variable.
+/// Returns the columns with those joined that touch at the variable. They are sorted for that.
 fn joined_on(
     alloc: Global,
     problem: &Problem,
@@ -26,13 +26,13 @@ fn joined_on(
     ensures { IfOk result (λ r. IsPassed problem.now (λ v. v ≡ variable) columns.items r.items) }
 {
     let k = problem.faults();
-    // most columns stand in runs that are sorted already, which the stable sort makes use of
+    // the sort is stable and makes use of runs that are sorted already, as most columns stand in such
     let mut columns = columns;
     columns.sort_by(|a, b| compare(variable, a, b))?;
     joined_columns(alloc, k, variable, columns)
 }
 
-/// Marks columns as not known to stand by their least scenarios.
+/// Returns the columns as a listing that isn't known to be sorted by least scenarios.
 fn unsorted(columns: Vec<Column>) -> Listing
     ensures { result ≡ record { columns = columns; is_sorted = false } }
 {
@@ -42,7 +42,7 @@ fn unsorted(columns: Vec<Column>) -> Listing
     }
 }
 
-/// Joins columns that touch at a variable, if it is marked.
+/// Joins columns that touch at the variable. If it isn't marked, none do, and nothing changes.
 fn joined_at(
     alloc: Global,
     problem: &Problem,
@@ -58,25 +58,25 @@ fn joined_at(
 {
     // called for its contract: the graph is within its limits
     let _processes = problem.processes();
-    // nothing touches at this variable
+    // no two columns touch at this variable
     if !marked.marks[variable as usize] {
         return Ok(marked);
     }
     let Marked { listing, marks } = marked;
     let before = listing.columns.len();
     let columns = joined_on(alloc, problem, variable, listing.columns)?;
-    // none was joined, so the marks stay right, but the columns have another order now
+    // none was joined, so the marks stay right, but the sort has moved columns
     if columns.len() == before {
         return Ok(Marked {
             listing: unsorted(columns),
             marks,
         });
     }
-    // columns were joined, so the marks are found anew
+    // joined columns may touch at other variables, so the marks are found anew
     Marked::of(alloc, problem, unsorted(columns))
 }
 
-/// Joins columns that touch at one of the variables from `first` up to, but not including, `end`.
+/// Joins columns that touch at any of the variables from `first` on and below `end`, one variable after another.
 fn joined_over(
     alloc: Global,
     problem: &Problem,
@@ -98,7 +98,8 @@ fn joined_over(
     Ok(marked)
 }
 
-/// Joins columns that touch at any variable.
+/// Joins columns that touch, going over all variables once. Joined columns may touch again at a variable gone over
+/// before.
 fn joined_once(alloc: Global, problem: &Problem, marked: Marked) -> Result<Marked, OutOfMemory>
     requires shorn { IsShorn problem.now marked.listing.columns.items }
     requires marked { AreMarked problem.now marked.marks marked.listing.columns.items }
@@ -110,15 +111,15 @@ fn joined_once(alloc: Global, problem: &Problem, marked: Marked) -> Result<Marke
     if !marked.marks.contains(&true) {
         return Ok(marked);
     }
-    // first the fault counts of the processes, then the values of the conditions
+    // the variables are the fault counts, from 0 on, and the values, from `FIRST_VALUE` on
     let processes = problem.processes().len() as u8;
     let marked = joined_over(alloc, problem, 0, processes, marked)?;
     let end = FIRST_VALUE + problem.conditions() as u8;
     joined_over(alloc, problem, FIRST_VALUE, end, marked)
 }
 
-/// Joins columns until no two of one time touch at any variable. They stand by their least scenarios only if they did and
-/// none was joined or moved.
+/// Joins columns until no two of one time touch at any variable. The result is known to be sorted only if the columns
+/// were, and none was joined or moved.
 fn settled(alloc: Global, problem: &Problem, listing: Listing) -> Result<Listing, OutOfMemory>
     requires { IsShorn problem.now listing.columns.items }
     ensures settled { IfOk result (λ r. AreSettled problem.now listing.columns.items r.columns.items) }
@@ -134,13 +135,10 @@ fn settled(alloc: Global, problem: &Problem, listing: Listing) -> Result<Listing
     }
 }
 
-/// The columns of a row that have the times of the given ones in every scenario of at most as many faults as the problem
-/// has, and are as few as can be: no two of them have one time, equal ranges of all variables but one, and ranges of that
-/// one which touch. Each column's ranges contain those of the given ones that match together with it. No literal has the
-/// whole range of its variable, and the columns stand by the least scenario that they match along the order.
-///
-/// Each given column must match some scenario, and no scenario two of them; their literals must be on variables of the problem
-/// and within their ranges. The one error is `OutOfMemory`.
+/// Returns the columns of a row, merged: they have the times of the given ones in every scenario of at most as many
+/// faults as the problem has, and no two have one time, equal ranges of all variables but one, and ranges of that one
+/// which touch. Each allows all that a given column allows which matches together with it. No literal has the whole
+/// range of its variable, and the columns stand by the least scenario along the order that each matches.
 pub fn merged(
     alloc: Global,
     problem: &Problem,
@@ -156,8 +154,9 @@ pub fn merged(
     listing.sorted(alloc, problem, order)
 }
 
-/// What `merged` returns for columns of which no literal has the whole range of its variable. If they are known to
-/// stand by the least scenario that they match, and no two may touch at any variable, they aren't sorted.
+/// Returns what `merged` returns, for columns of which no literal has the whole range of its variable. They aren't
+/// sorted if they are known to stand by the least scenario that each matches and none is joined. The one error is
+/// `OutOfMemory`.
 pub fn merged_tidy(
     alloc: Global,
     problem: &Problem,

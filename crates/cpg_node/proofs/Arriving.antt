@@ -10,12 +10,13 @@ use Rattle.cpg_table.specs.Table.{Row, columns_in}
 use Rattle.cpg_node.specs.Dispatcher.{OwnTable, Frame, no_column}
 use Rattle.cpg_node.specs.State.{arrives}
 
--- an item with a column has a row
+-- an item of which some row has a column has a row; by induction: the columns of an item are those of its first row
 has_row : (rows : List Row) (x i : ℕ) → i < length (columns_in rows x) →
     list_any (λ (row : Row). row.item == x) rows ≡ true
 has_row [] x i l = absurd (omega (arith, l))
 has_row (row ∷ rows) x i l = go (row.item == x) (has_row rows x i) l
   where
+    -- by whether the first row is of item x
     go : (b : Bool) → (i < length (columns_in rows x) → list_any (λ (row : Row). row.item == x) rows ≡ true) →
         i < length (cond b row.columns (columns_in rows x)) →
         (b || list_any (λ (row : Row). row.item == x) rows) ≡ true
@@ -23,7 +24,8 @@ has_row (row ∷ rows) x i l = go (row.item == x) (has_row rows x i) l
     go false later l = later l
 
 module _ (table : OwnTable) (arrival : ℕ) (f : Frame) where
-  -- a frame arrives at a time if and only if the column that it names has that time
+  -- a frame that names a column arrives at a time if and only if the column has that time: the first two conditions of
+  -- `arrives`, that there is a row and such a column, hold
   pub arrives_at : (c : Column) → slice_get (columns_in table.hears f.item) f.column ≡ Some c →
       (c.time == arrival) ≡ arrives table arrival f
   arrives_at c is =
@@ -37,7 +39,7 @@ module _ (table : OwnTable) (arrival : ℕ) (f : Frame) where
       ∙ ap (λ (d : Column). d.time == arrival)
       (get_or_from_slice_get (columns_in table.hears f.item) f.column c no_column is))
 
-  -- a frame that names no column does not arrive
+  -- a frame that names no column of its item arrives at no time: the second condition of `arrives` fails
   pub arrives_nowhere : slice_get (columns_in table.hears f.item) f.column ≡ None → false ≡ arrives table arrival f
   arrives_nowhere is = elim (cases_lt f.column (length (columns_in table.hears f.item))) [
     | inl l ↦ absurd (none-some (get_or (columns_in table.hears f.item) f.column no_column)
@@ -48,6 +50,7 @@ module _ (table : OwnTable) (arrival : ℕ) (f : Frame) where
         ∙ never (list_any (λ (row : Row). row.item == f.item) table.hears))
   ]
     where
+      -- the frame's column isn't there, so the frame doesn't arrive, whether the item has a row or not
       never : (b : Bool) →
           (b && false && ((get_or (columns_in table.hears f.item) f.column no_column).time == arrival)) ≡ false
       never true = refl

@@ -15,14 +15,15 @@ use Rattle.cpg_node.specs.Dispatcher.{no_column, is_contradicted, is_strange}
 use Rattle.cpg_node.specs.State.{running_in, running_of, MayFinish}
 use Rattle.cpg_node.proofs.Turning.{next_reported}
 
--- a report leaves what other processes run
+-- a report leaves the execution of another process as it is
 
 kept_run : (f : Ended) (o : Own) (run : Option Running) → o.process ≢ f.process → with_report f o run ≡ run
 kept_run f o None ne = refl
 kept_run f o (Some run) ne = cond-false (o.process == f.process) (Some (record run { report = Some f })) (Some run)
     (ne_eqb o.process f.process ne)
 
--- a report does not change the execution of another process
+-- the execution of a process other than the reported one, looked up by its number, stays the same; by induction on
+-- the own processes
 pub other_running : (f : Ended) (p : ℕ) → f.process ≢ p → (os : List Own) (runs : List (Option Running)) →
     running_in os (zip_with (with_report f) os runs) p ≡ running_in os runs p
 other_running f p ne [] runs = refl
@@ -34,13 +35,14 @@ other_running f p ne (o ∷ os) (run ∷ runs) = elim (cases_eq o.process p) [
       ∙ sym (cond-false (o.process == p) _ _ (ne_eqb o.process p far))
 ]
 
--- a report changes no instant
+-- a report leaves the next instant as it is
 pub next_same : (d : Dispatcher) (f : Ended) → next (finished d f) ≡ next d
 next_same d f = next_reported f d.table d.heard d.running d.last
 
 -- a report that may come may still come after another one, and could have come before it
 
--- an execution that may be reported may still be reported after the report of another process
+-- an execution that may be reported may still be reported after the report of another process: neither its run nor the
+-- next instant changes
 pub may_then : (d : Dispatcher) (f : Ended) (time : ℕ) (e : Ended) → f.process ≢ e.process → MayFinish d time e →
     MayFinish (finished d f) time e
 may_then d f time e ne m = record {
@@ -55,7 +57,7 @@ may_then d f time e ne m = record {
   before = subst (λ o. IfSome o (λ n. time ≤ n)) (sym (next_same d f)) m.before;
 }
 
--- an execution that may be reported after the report of another process may be reported before it
+-- an execution that may be reported after the report of another process may be reported before it, for the same reason
 pub may_before : (d : Dispatcher) (f : Ended) (time : ℕ) (e : Ended) → f.process ≢ e.process →
     MayFinish (finished d f) time e →
     MayFinish d time e
@@ -73,7 +75,8 @@ may_before d f time e ne m = record {
 
 -- two reports leave the same in either order
 
--- the reports of two processes leave the same executions in either order
+-- the reports of two processes leave the same executions in either order: at each place at least one of the two changes
+-- nothing
 swapped : (x y : Ended) → x.process ≢ y.process → (os : List Own) (runs : List (Option Running)) →
     zip_with (with_report y) os (zip_with (with_report x) os runs)
     ≡ zip_with (with_report x) os (zip_with (with_report y) os runs)
@@ -81,6 +84,7 @@ swapped x y ne [] runs = refl
 swapped x y ne (o ∷ os) [] = refl
 swapped x y ne (o ∷ os) (run ∷ runs) = ap₂ ◌∷◌ one (swapped x y ne os runs)
   where
+    -- at one place: the process there is at most one of the two, so one of the reports changes nothing
     one : with_report y o (with_report x o run) ≡ with_report x o (with_report y o run)
     one = elim (cases_eq o.process x.process) [
       | inl e ↦ let far : o.process ≢ y.process = λ s. ne (sym e ∙ s) in
@@ -94,9 +98,9 @@ pub swap : (d : Dispatcher) (x y : Ended) → x.process ≢ y.process →
 swap d x y ne = ap (λ runs. record { table = d.table; heard = d.heard; running = runs; last = d.last })
     (swapped x y ne d.table.own d.running)
 
--- an execution that is reported doesn't end again
+-- an execution is reported once
 
--- after a report of a process, its execution has the report
+-- after the report of a process, its execution, if it has one, has that report; by induction on the own processes
 reported_run : (f : Ended) (os : List Own) (runs : List (Option Running)) →
     running_in os (zip_with (with_report f) os runs) f.process
     ≡ option_map (λ (run : Running). record { start = run.start; report = Some f }) (running_in os runs f.process)
@@ -118,11 +122,12 @@ reported_run f (o ∷ os) (run ∷ runs) = elim (cases_eq o.process f.process) [
     own (Some run) b =
         cond-true (o.process == f.process) (Some (record { start = run.start; report = Some f })) (Some run) b
 
--- an execution is reported at most once
+-- an execution whose report was noted isn't one without a report
 pub reported_once : (d : Dispatcher) (f : Ended) (run : Running) → running_of (finished d f) f.process ≡ Some run →
     run.report ≡ None → ⊥
 reported_once d f run e none = go (running_of d f.process) (sym (reported_run f d.table.own d.running) ∙ e)
   where
+    -- by whether the process had an execution
     go : (o : Option Running) →
         option_map (λ (run : Running). record { start = run.start; report = Some f }) o ≡ Some run → ⊥
     go None e = none-some run e
@@ -130,17 +135,18 @@ reported_once d f run e none = go (running_of d f.process) (sym (reported_run f 
 
 -- Frames of one time may be heard in either order.
 
+-- a range that is cut by two literals is the same in either order
 cut_ranges : (r : Range) (a b : Literal) → cut_range (cut_range r a) b ≡ cut_range (cut_range r b) a
 cut_ranges r a b =
     let low : max (max r.low a.low) b.low ≡ max (max r.low b.low) a.low = omega arith in
     let high : min (min r.high a.high) b.high ≡ min (min r.high b.high) a.high = omega arith in
     λ i. record { low = low i; high = high i }
 
--- a range for places behind the list
+-- the range that `range_of` gives for a place past the list's end
 abbrev nothing : Range
 nothing = record { low = 0; high = 0 }
 
--- to cut the range of one variable twice is to cut it at once by both
+-- to cut the range of variable v by a and then by b is to put the range that both cut in its place
 cut_same : (h : List Range) (v : ℕ) (a b : Literal) → v < length h →
     set (set h v (cut_range (range_of h v) a)) v (cut_range (range_of (set h v (cut_range (range_of h v) a)) v) b)
     ≡ set h v (cut_range (cut_range (range_of h v) a) b)
@@ -149,7 +155,8 @@ cut_same h v a b within =
     ap (λ r. set (set h v one) v (cut_range r b)) (get_or-set_same h v one nothing within)
     ∙ set-set h v one (cut_range one b)
 
--- on one variable the greatest low and the least high stay, in either order; on two nothing meets
+-- ranges are the same cut by a and then b as by b and then a. A variable past the list's end changes nothing; on one
+-- variable the greatest low and the least high stay, in either order; two variables have places of their own
 cut_twice : (h : List Range) (a b : Literal) → cut (cut h a) b ≡ cut (cut h b) a
 cut_twice h a b =
     let one : Range = cut_range (range_of h a.variable) a in
@@ -172,12 +179,12 @@ cut_twice h a b =
       ]
     ]
 
--- ranges may be narrowed by one literal before or after others
+-- ranges may be cut by one literal before or after others; by induction on the others
 cut_over : (ls : List Literal) (h : List Range) (l : Literal) → cut_all (cut h l) ls ≡ cut (cut_all h ls) l
 cut_over [] h l = refl
 cut_over (m ∷ ls) h l = ap (λ h. cut_all h ls) (cut_twice h l m) ∙ cut_over ls (cut h m) l
 
--- ranges that are cut by two lists of literals are the same in either order
+-- ranges that are cut by two lists of literals are the same in either order; by induction on the first list
 cuts_either : (xs ys : List Literal) (h : List Range) → cut_all (cut_all h xs) ys ≡ cut_all (cut_all h ys) xs
 cuts_either [] ys h = refl
 cuts_either (x ∷ xs) ys h = cuts_either xs ys (cut h x) ∙ ap (λ h. cut_all h xs) (cut_over ys h x)
@@ -187,7 +194,8 @@ pub hear_either : (d : Dispatcher) (x y : Frame) → hear (hear d x) y ≡ hear 
 hear_either d x y = ap (λ h. record { table = d.table; heard = h; running = d.running; last = d.last })
     (cuts_either (frame_literals d.table x) (frame_literals d.table y) d.heard)
 
--- what contradicts nothing after a literal contradicts nothing before it
+-- if no range is empty (contradicted) after variable v was cut by a literal, none was before: the cut range was at
+-- least as wide. By induction to the place v
 uncut : (h : List Range) (v : ℕ) (l : Literal) →
     list_any is_contradicted (set h v (cut_range (range_of h v) l)) ≡ false →
     list_any is_contradicted h ≡ false
@@ -199,13 +207,15 @@ uncut (r ∷ h) (suc v) l e =
     let p = or_parts (is_contradicted r) (list_any is_contradicted (set h v (cut_range (range_of h v) l))) e in
     or_from (is_contradicted r) (list_any is_contradicted h) p.0 (uncut h v l p.1)
 
--- what contradicts nothing after several literals contradicts nothing before them
+-- if no range is contradicted after several literals, none was before them
 uncut_all : (ls : List Literal) (h : List Range) → list_any is_contradicted (cut_all h ls) ≡ false →
     list_any is_contradicted h ≡ false
 uncut_all [] h e = e
 uncut_all (l ∷ ls) h e = uncut h l.variable l (uncut_all ls (cut h l) e)
 
--- if two frames of one time are fine in one order, they are fine in the other
+-- if x isn't strange, and y isn't after x was heard, then y isn't strange, and x isn't after y was heard. Whether a
+-- frame is unknown (has no row or no column of the time) doesn't hang on what was heard; both orders leave the same
+-- ranges, and before the second frame fewer literals were heard
 pub fine_either : (d : Dispatcher) (time : ℕ) (x y : Frame) → is_strange d time x ≡ false →
     is_strange (hear d x) time y ≡ false →
     (is_strange d time y ≡ false) × (is_strange (hear d y) time x ≡ false)
@@ -220,6 +230,7 @@ fine_either d time x y e f =
       or_from (unknown x) (list_any is_contradicted (hear_frame d.table (hear_frame d.table d.heard y) x)) p.0 both,
     )
   where
+    -- a frame is unknown if its item has no row, or the row no such column, or the column another time
     unknown : Frame → Bool
     unknown f = not (list_any (λ (row : Row). row.item == f.item) d.table.hears)
         || not (nat_lt f.column (length (columns_in d.table.hears f.item)))

@@ -34,12 +34,13 @@ match_of : (tables : List NodeTable) (s : Scenario) (x : ℕ) (c : Column) → C
 match_of tables s x c h = let q = Contains-filter_parts (λ (c : Column). matches c.cube s) (columns_of tables x) c h in
     record { there = q.0; holds = q.1 }
 
--- at some time
+-- true at each moment
 abbrev ever : ℕ → Bool
 ever moment = true
 
 module _ (g : Graph) (tables : List NodeTable) (node time : ℕ) (s : Scenario) (law : IsScenario g s) where
-  -- each fact of a node is one that it learns at some time
+  -- each fact of a node is one that it learns at some time: from the end of one of its processes, or from a frame that
+  -- it hears
   told : (l : Literal) → Contains (facts g tables node s time) l → Learnt g tables s node ever l
   told l h = elim (Contains-append_cases
       (flat_map (facts_of_end g tables s time) (filter (λ p. node_of g p == node) (numbers_below (process_count g))))
@@ -82,7 +83,8 @@ module _ (g : Graph) (tables : List NodeTable) (node time : ℕ) (s : Scenario) 
             })
       ]
 
-  -- the number of a variable is within its greatest
+  -- the number of a variable is at most its top: the faults of a process are at most the budget of all, and a value is
+  -- 0 or 1
   within : (v : ℕ) → number_of s v ≤ top g.faults v
   within v = elim (cases_lt v 128) [
     | inl l ↦ let t = cond-true _ g.faults 1 (lt-ltb v 128 l) in let n = number_of-fault s v l in
@@ -95,6 +97,7 @@ module _ (g : Graph) (tables : List NodeTable) (node time : ℕ) (s : Scenario) 
         omega (arith, t, n, bit (get_or s.values (v - 128) false))
   ]
     where
+      -- the number of a value is 0 or 1
       bit : (b : Bool) → number_of_value b ≤ 1
       bit true = omega arith
       bit false = omega arith
@@ -103,7 +106,8 @@ module _ (g : Graph) (tables : List NodeTable) (node time : ℕ) (s : Scenario) 
   abbrev fs : List Literal
   fs = facts g tables node s time
 
-  -- each fact on the variable of a literal contains the variable's number
+  -- each fact on the variable of a literal contains the variable's number, since each fact that a node learns is true
+  -- (`learnt_true`)
   true_of : (l m : Literal) → Contains (filter (λ (m : Literal). m.variable == l.variable) fs) m →
       (m.low ≤ number_of s l.variable) × (number_of s l.variable ≤ m.high)
   true_of l m n =
@@ -116,7 +120,7 @@ module _ (g : Graph) (tables : List NodeTable) (node time : ℕ) (s : Scenario) 
       let above : number_of s m.variable ≤ m.high = leb-true _ _ t.1 in
       (omega arith, omega arith)
 
-  -- the number of a variable lies within what the facts leave of it
+  -- the low that the facts leave a variable is 0 or that of one of them, which is true: no number is below it
   low : (l : Literal) → kept_low fs l.variable ≤ number_of s l.variable
   low l = elim (greatest_cases (map (λ (m : Literal). m.low) (filter (λ (m : Literal). m.variable == l.variable) fs))) [
     | inl z ↦ omega (arith, z)
@@ -129,7 +133,7 @@ module _ (g : Graph) (tables : List NodeTable) (node time : ℕ) (s : Scenario) 
         )
   ]
 
-  -- no number is above the high that is kept
+  -- the high that they leave is its top or that of one of them: no number is above it
   high : (l : Literal) → number_of s l.variable ≤ kept_high g.faults fs l.variable
   high l = elim (least_cases (top g.faults l.variable)
       (map (λ (m : Literal). m.high) (filter (λ (m : Literal). m.variable == l.variable) fs))) [

@@ -23,9 +23,9 @@ use Rattle.cpg_node.proofs.Rooms.{all_left, times_count, room_turn, room_open}
 use Rattle.cpg_node.proofs.TableBounds.{HaveFewEnds, DoRise, own_rise, own_few_ends}
 use Rattle.cpg_node.specs.Instants.{left_of, planned_times, end_times, entries_left, instants_left}
 
--- What is after a later moment is after an earlier one.
+-- fewer times are left after a later turn
 
--- what is after a turn is after the turn before it
+-- what is after a turn (`time`) is after the turn before it (`last`)
 after_both : (last : Option ℕ) (time x : ℕ) → is_after last time ≡ true → is_after (Some time) x ≡ true →
     is_after last x ≡ true
 after_both None time x a b = refl
@@ -37,7 +37,8 @@ pub fewer_left : (last : Option ℕ) (time : ℕ) (xs : List ℕ) → is_after l
 fewer_left last time xs a =
     length-filter-le (is_after (Some time)) (is_after last) xs (λ x b. after_both last time x a b)
 
--- if a test passes no more than another, what it keeps stays the shorter list
+-- if x passes the first test only if it passes the second, the list that the first test keeps stays the shorter one
+-- with x in front
 one_kept : (b c : Bool) (x : ℕ) (xs ys : List ℕ) → (b ≡ true → c ≡ true) → length xs < length ys →
     length (cond b (x ∷ xs) xs) < length (cond c (x ∷ ys) ys)
 one_kept true true x xs ys h l = omega arith
@@ -45,7 +46,8 @@ one_kept true false x xs ys h l = absurd (true≢false (sym (h refl)))
 one_kept false true x xs ys h l = omega arith
 one_kept false false x xs ys h l = l
 
--- after a later turn fewer of the times are left, if it is at one of them
+-- after a later turn fewer of the times are left, if it is at one of them; by induction: if that is the first one, it
+-- is left no longer, and if it is a later one, fewer of the rest are left
 pub one_less : (last : Option ℕ) (time : ℕ) (xs : List ℕ) → is_after last time ≡ true → Contains xs time →
     left_of (Some time) xs < left_of last xs
 one_less last time [] a c = absurd (Contains-nil time c)
@@ -56,6 +58,7 @@ one_less last time (x ∷ xs) a c = elim (Contains-cases x xs time c) [
       (after_both last time x a) (one_less last time xs a m)
 ]
   where
+    -- the first time is that of the turn, so it counts before the turn alone
     first : (b c : Bool) → b ≡ false → c ≡ true → left_of (Some time) xs ≤ left_of last xs →
         length (cond b (x ∷ filter (is_after (Some time)) xs) (filter (is_after (Some time)) xs))
         < length (cond c (x ∷ filter (is_after last) xs) (filter (is_after last) xs))
@@ -63,17 +66,18 @@ one_less last time (x ∷ xs) a c = elim (Contains-cases x xs time c) [
     first false true e f l = omega arith
     first false false e f l = absurd (true≢false (sym f))
 
--- with one more element in front, no fewer pass
+-- of a list with one more element in front, no fewer pass
 front_left : (p : ℕ → Bool) (x : ℕ) (xs : List ℕ) → length (filter p xs) ≤ length (filter p (x ∷ xs))
 front_left p x xs = go (p x)
   where
+    -- by whether the element in front passes
     go : (b : Bool) → length (filter p xs) ≤ length (cond b (x ∷ filter p xs) (filter p xs))
     go true = omega arith
     go false = omega arith
 
--- The possible ends of executions.
+-- the possible ends of executions
 
--- at most 9 for each process
+-- a process with at most 9 durations has at most 9 possible ends
 few_each : (o : Own) (run : Option Running) → length o.times ≤ 9 → length (possible_ends o run) ≤ 9
 few_each o None l = omega arith
 few_each o (Some run) l = omega (arith, l, length-map o.times (λ d. run.start + d))
@@ -90,14 +94,16 @@ few_ends (o ∷ os) (run ∷ runs) h = omega (
   length-append (possible_ends o run) (flat_map (λ ends. ends) (zip_with possible_ends os runs)),
 )
 
--- Executions that start in a turn are no more than its acts.
+-- a turn starts no more executions than it has acts
 
--- no more pass one of two tests than pass each of them together
+-- no more pass one of two tests than pass the first and pass the second, added up; by induction on the list, by which
+-- of the tests the first one passes
 either_few : (p q : Own → Bool) (os : List Own) →
     length (filter (λ o. p o || q o) os) ≤ length (filter p os) + length (filter q os)
 either_few p q [] = omega arith
 either_few p q (o ∷ os) = go (p o) (q o) (filter (λ o. p o || q o) os) (filter p os) (filter q os) (either_few p q os)
   where
+    -- by whether the first process passes the one test, and whether it passes the other
     go : (a b : Bool) (all some others : List Own) → length all ≤ length some + length others →
         length (cond (a || b) (o ∷ all) all) ≤ length (cond a (o ∷ some) some) + length (cond b (o ∷ others) others)
     go true true all some others l = omega (arith, l)
@@ -105,7 +111,7 @@ either_few p q (o ∷ os) = go (p o) (q o) (filter (λ o. p o || q o) os) (filte
     go false true all some others l = omega (arith, l)
     go false false all some others l = l
 
--- at most one process has a number
+-- at most one own process has a number, since their numbers rise
 once : (x : ℕ) (os : List Own) → DoRise os → length (filter (λ (o : Own). x == o.process) os) ≤ 1
 once x [] h = omega arith
 once x (o ∷ os) h = elim (cases_eq x o.process) [
@@ -128,7 +134,7 @@ once x (o ∷ os) h = elim (cases_eq x o.process) [
 abbrev started : List Act → List Own → List Own
 started acts os = filter (λ (o : Own). list_any (λ (a : Act). a.item == o.process) acts) os
 
--- a turn starts no more executions than it has acts
+-- no more processes are started than there are acts; by induction on the acts, each of which starts one at most
 started_few : (acts : List Act) (os : List Own) → DoRise os → length (started acts os) ≤ length acts
 started_few [] os h = omega (
   arith,
@@ -142,12 +148,13 @@ started_few (a ∷ acts) os h = omega (
   started_few acts os h,
 )
 
--- as many pass of two lists together as of each
+-- as many pass of two lists in a row as pass of the one and of the other
 kept_parts : (p : ℕ → Bool) (xs ys : List ℕ) →
     length (filter p (xs ++ ys)) ≡ length (filter p xs) + length (filter p ys)
 kept_parts p xs ys = ap (λ (l : List ℕ). length l) (filter-append p xs ys) ∙ length-append (filter p xs) (filter p ys)
 
--- a turn adds few possible ends
+-- a turn adds at most 9 possible ends for each process that it starts; by induction on the own processes: one that
+-- starts has its new ends in place of the old, one that ends has none, any other keeps its own
 grown_ends : (p : ℕ → Bool) (ended : List Ended) (acts : List Act) (time : ℕ) (os : List Own)
     (runs : List (Option Running)) →
     HaveFewEnds os →
@@ -162,6 +169,7 @@ grown_ends p ended acts time (o ∷ os) (run ∷ runs) h =
     (flat_map (λ ends. ends) (zip_with possible_ends os runs)) (started acts os)
     (grown_ends p ended acts time os runs (All-tail (λ (o : Own). length o.times ≤ 9) o os h))
   where
+    -- by whether the first process starts in the turn, and whether it ends in it
     go : (starts ends : Bool) (new old : List ℕ) (more : List Own) →
         length (filter p new) ≤ length (filter p old) + length more * 9 →
         length (filter p
@@ -181,15 +189,16 @@ grown_ends p ended acts time (o ∷ os) (run ∷ runs) h =
     go false false new old more l =
         omega (arith, l, kept_parts p (possible_ends o run) new, kept_parts p (possible_ends o run) old)
 
--- The instants of a node.
+-- the instants of a node
 
--- the next instant is planned, or is a possible end
+-- the next instant is a planned time or a possible end, as it is one of the candidates, or 0 before the first turn
 instant_is : (d : Dispatcher) (time : ℕ) → next d ≡ Some time →
     Contains (planned_times d) time ⊎ Contains (end_times d) time
 instant_is d time e = go (is_some d.last)
     (Contains-filter_parts (is_after d.last) (cond (is_some d.last) (candidates d) (0 ∷ candidates d)) time
     (least_of_parts (filter (is_after d.last) (cond (is_some d.last) (candidates d) (0 ∷ candidates d))) time e).0).0
   where
+    -- by whether the node has taken a turn; if not, 0 is an instant too
     go : (b : Bool) → Contains (cond b (candidates d) (0 ∷ candidates d)) time →
         Contains (cond b (fixed_times d.table) (0 ∷ fixed_times d.table)) time ⊎ Contains (end_times d) time
     go true c = Contains-append_cases (fixed_times d.table) (end_times d) time c
@@ -201,11 +210,12 @@ instant_is d time e = go (is_some d.last)
       ]
     ]
 
--- the times of the table are among the planned times
+-- of the table's times no more pass a test than of the planned times, which may have 0 besides
 fixed_left : (d : Dispatcher) (p : ℕ → Bool) →
     length (filter p (fixed_times d.table)) ≤ length (filter p (planned_times d))
 fixed_left d p = go (is_some d.last)
   where
+    -- by whether the node has taken a turn; if not, 0 is planned too
     go : (b : Bool) →
         length (filter p (fixed_times d.table))
         ≤ length (filter p (cond b (fixed_times d.table) (0 ∷ fixed_times d.table)))
@@ -219,7 +229,8 @@ module _ (d : Dispatcher) (time : ℕ) (frames : List Frame) (comes : next d ≡
   after : is_after d.last time ≡ true
   after = (next_is d time comes).after
 
-  -- a turn leaves fewer instants
+  -- a turn leaves fewer instants: its own, planned or an end, is left no longer, and each act adds at most 9 ends but
+  -- takes an entry that counted for 9
   pub turn_less : instants_left (turn d time [] frames) < instants_left d
   turn_less =
       let acts : List Act = acts_of_turn d time [] frames in
@@ -260,8 +271,9 @@ reported_left d (e ∷ es) = reported_left (finished d e) es ∙ ap
     (λ l. left_of d.last (planned_times d) + left_of d.last (flat_map (λ ends. ends) l) + length (entries_left d) * 9)
     (ends_reported e d.table.own d.running)
 
--- How many instants there are at all.
+-- how many instants there are at all
 
+-- a table has a time for each of its columns
 fixed_count : (t : OwnTable) → length (fixed_times t) ≡ column_count (rows_of t)
 fixed_count t = omega (
   arith,
@@ -274,7 +286,8 @@ fixed_count t = omega (
   sum_by-append (λ (row : Row). length row.columns) t.sends t.hears,
 )
 
--- at most 10 instants are left for each entry, one more, and the ends of what runs
+-- at most 10 instants are left for each column (its time, and 9 ends of what it may start), 0 before the first turn,
+-- and 9 ends for each of the 128 processes that may run: 9 · 128 + 1 = 1153
 pub most_instants : (d : Dispatcher) → length d.table.own ≤ 128 → HaveFewEnds d.table.own →
     instants_left d ≤ column_count (rows_of d.table) * 10 + 1153
 most_instants d few ends = omega (
@@ -290,6 +303,7 @@ most_instants d few ends = omega (
   sum_by-append (λ (row : Row). length row.columns) d.table.sends d.table.hears,
 )
   where
+    -- by whether the node has taken a turn; if not, 0 is planned too
     planned : (b : Bool) →
         length (cond b (fixed_times d.table) (0 ∷ fixed_times d.table)) ≤ length (fixed_times d.table) + 1
     planned true = omega arith

@@ -1,4 +1,4 @@
--- The least of lists of times.
+-- The least of a list of times, None if it is empty, and loops that look for it.
 use Rattle.std.proofs.Common.{◌≡◌, ℕ, ◌<◌, ◌≤◌, ◌+◌, Bool, min, List, [], ◌∷◌, ◌++◌, map, filter, fold, length, drop}
 use Rattle.std.proofs.Common.{get_or, Contains, Option, Some, None, refl, sym, ap, ◌∙◌, arith, drop-cons}
 use Rattle.std.proofs.Common.{add-one}
@@ -10,7 +10,7 @@ use Rattle.cpg_node.specs.State.{earlier}
 use Rattle.cpg_node.proofs.Places.{zip_with-drop}
 use Rattle.cpg_node.proofs.Next.{least_of_parts}
 
--- what is in a list and not above any of it is its least
+-- a member of a list that is above no other is the least
 pub least_is : (xs : List ℕ) (t : ℕ) → Contains xs t → ((x : ℕ) → Contains xs x → t ≤ x) → least_of xs ≡ Some t
 least_is [] t c l = absurd (Contains-nil t c)
 least_is (y ∷ ys) t c l = let p = least_of_parts (y ∷ ys) (fold min y ys) refl in
@@ -25,7 +25,7 @@ least_same [] (y ∷ ys) to from = absurd (Contains-nil y (from y (Contains-firs
 least_same (x ∷ xs) ys to from = let p = least_of_parts (x ∷ xs) (fold min x xs) refl in
     sym (least_is ys (fold min x xs) (to (fold min x xs) p.0) (λ y c. p.1 y (from y c)))
 
--- the least of a number and others, in whichever order
+-- the least of a, b and ys is the lesser of a and of the least of b and ys; by induction on ys
 fold_min : (a b : ℕ) (ys : List ℕ) → fold min (min a b) ys ≡ min a (fold min b ys)
 fold_min a b [] = refl
 fold_min a b (y ∷ ys) = ap (λ m. fold min m ys) (min_assoc a b y) ∙ fold_min a (min b y) ys
@@ -33,12 +33,12 @@ fold_min a b (y ∷ ys) = ap (λ m. fold min m ys) (min_assoc a b y) ∙ fold_mi
     min_assoc : (a b y : ℕ) → min (min a b) y ≡ min a (min b y)
     min_assoc a b y = omega arith
 
--- of a time and none, the earlier is the time
+-- the earlier of a time and None is the time, and of None and None None
 pub earlier_none : (o : Option ℕ) → earlier o None ≡ o
 earlier_none None = refl
 earlier_none (Some t) = refl
 
--- the earliest of three times is the same however they are grouped
+-- the earliest of three times, each of which may be None, is the same however they are grouped
 pub earlier_assoc : (a b c : Option ℕ) → earlier (earlier a b) c ≡ earlier a (earlier b c)
 earlier_assoc None b c = refl
 earlier_assoc (Some a) None c = refl
@@ -50,26 +50,28 @@ pub least_cons : (x : ℕ) (xs : List ℕ) → least_of (x ∷ xs) ≡ earlier (
 least_cons x [] = refl
 least_cons x (y ∷ ys) = ap Some (fold_min x y ys)
 
--- the least of two lists together is the earlier of their least times
+-- the least of two lists in a row is the earlier of the least of each; by induction on the first
 pub least_append : (xs ys : List ℕ) → least_of (xs ++ ys) ≡ earlier (least_of xs) (least_of ys)
 least_append [] ys = refl
 least_append (x ∷ xs) ys = least_cons x (xs ++ ys) ∙ ap (earlier (Some x)) (least_append xs ys)
     ∙ sym (earlier_assoc (Some x) (least_of xs) (least_of ys))
     ∙ ap (λ o. earlier o (least_of ys)) (sym (least_cons x xs))
 
--- the least of what passes, of two lists
+-- the least of what passes a test in two lists is the earlier of the least that passes in each
 pub least_passing : (p : ℕ → Bool) (xs ys : List ℕ) →
     least_of (filter p (xs ++ ys)) ≡ earlier (least_of (filter p xs)) (least_of (filter p ys))
 least_passing p xs ys = ap least_of (filter-append p xs ys) ∙ least_append (filter p xs) (filter p ys)
 
--- the step of a loop over lists of times
+-- the step of a loop over lists of times: if `first` and the rest (xs and ys) make the whole, so do `first` with xs,
+-- and the rest then (ys)
 pub least_more : (p : ℕ → Bool) (first : Option ℕ) (xs ys : List ℕ) (whole : Option ℕ) →
     earlier first (least_of (filter p (xs ++ ys))) ≡ whole →
     earlier (earlier first (least_of (filter p xs))) (least_of (filter p ys)) ≡ whole
 least_more p first xs ys whole e = earlier_assoc first (least_of (filter p xs)) (least_of (filter p ys))
     ∙ ap (earlier first) (sym (least_passing p xs ys)) ∙ e
 
--- the step of a loop over two lists whose elements, place by place, give times
+-- the step of a loop over two lists whose elements, place by place, give times: if the least so far (`first`) and what
+-- the places from n on give make the whole, so do the least with the times of place n (`now`), and the places after it
 pub least_zip : {A B : Type 0} (p : ℕ → Bool) (f : A → B → List ℕ) (n : ℕ) (os : List A) (rs : List B) (a : A) (b : B)
     (first now : Option ℕ) (whole : Option ℕ) → n < length os →
     length os ≡ length rs → a ≡ get_or os n a →
@@ -83,7 +85,8 @@ least_zip p f n os rs a b first now whole l e at is h =
     (ap (λ a. earlier first (least_of (filter p (f a (get_or rs n b) ++ rest)))) at
     ∙ ap (λ l. earlier first (least_of (filter p (flat_map (λ l. l) l)))) (sym (zip_with-drop f n os rs a b l e)) ∙ h)
 
--- the step of a loop over the times that a map gives
+-- the step of a loop over the times that f makes of a list: if the least so far and those from place n on make the
+-- whole, so do the least with that of place n (`end` if it passes), and those after it
 pub least_map : (p : ℕ → Bool) (f : ℕ → ℕ) (n : ℕ) (ts : List ℕ) (d : ℕ) (first now end whole : Option ℕ) →
     n < length ts →
     end ≡ least_of (filter p (f (get_or ts n d) ∷ [])) →

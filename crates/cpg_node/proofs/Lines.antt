@@ -10,11 +10,13 @@ use Rattle.cpg_node.specs.Dispatcher.{is_after, least_of}
 use Rattle.cpg_node.specs.Plan.{IsLine}
 use Rattle.cpg_node.proofs.Least.{least_is}
 
--- if the test of the last turn fails, the time has been reached
+-- a time that isn't after the last turn is no later than it
 pub reached_time : (last time : ℕ) → is_after (Some last) time ≡ false → time ≤ last
 reached_time last time e = ltb-false last time e
 
--- the place moves on to the first that is after the new turn
+-- after a turn at `now` the place is `next`, if all from the old place up to it are no later than the turn, and the one
+-- at `next` is: what was before the old place isn't after the last turn, and so not after this one; what is behind
+-- `next` is no earlier than it
 pub moves_on : {X : Type 0} (time : X → ℕ) (last : Option ℕ) (xs : List X) (place next now : ℕ) →
     IsLine time last xs place →
     is_after last now ≡ true →
@@ -31,11 +33,12 @@ moves_on {X = X} time last xs place next now line after l w before here = record
   left = λ i d h k. lt-ltb now (time (get_or xs i d)) (omega (arith, here d (omega arith), line.rises next i d h k));
 }
   where
+    -- what is at the last turn or earlier isn't after this one
     early : (last : Option ℕ) → is_after last now ≡ true → (t : ℕ) → is_after last t ≡ false → t ≤ now
     early None a t e = absurd (true≢false e)
     early (Some s) a t e = omega (arith, ltb-true s now a, reached_time s t e)
 
--- the place moves on to the first that is after the new turn, if a call sees the list
+-- `moves_on` for a loop whose clauses are of an equal list (`seen`)
 pub moves_on_seen : {X : Type 0} (time : X → ℕ) (last : Option ℕ) (xs seen : List X) (place next now : ℕ) →
     IsLine time last xs place → is_after last now ≡ true → seen ≡ xs →
     (place ≤ next) × (next ≤ length seen) → ((i : ℕ) (d : X) → place ≤ i → i < next → time (get_or seen i d) ≤ now) →
@@ -46,7 +49,8 @@ moves_on_seen {X = X} time last xs seen place next now line after e inside befor
     (subst (λ (ys : List X). (i : ℕ) (d : X) → place ≤ i → i < next → time (get_or ys i d) ≤ now) e before)
     (subst (λ (ys : List X). (d : X) → next < length ys → now < time (get_or ys next d)) e here)
 
--- the first after the last turn is the least of all that are
+-- the time at the place, if there is one, is the least of those after the last turn: it is one of them, and the others
+-- stand after it. If the place is past the list's end, there are none
 pub first_left : (last : ℕ) (xs : List ℕ) (place : ℕ) → IsLine (λ t. t) (Some last) xs place →
     slice_get xs place ≡ least_of (filter (is_after (Some last)) xs)
 first_left last xs place line = elim (cases_lt place (length xs)) [
@@ -59,14 +63,14 @@ first_left last xs place line = elim (cases_lt place (length xs)) [
       (none (filter (is_after (Some last)) xs) (λ y c. past h y (Contains-filter_parts (is_after (Some last)) xs y c))))
 ]
   where
-    -- where a member that is after the last turn stands
+    -- a member that is after the last turn stands at the place or after it
     stands : (y i : ℕ) → i < length xs → get_or xs i y ≡ y → is_after (Some last) y ≡ true → place ≤ i
     stands y i l e a = elim (cases_lt i place) [
       | inl k ↦ absurd (true≢false (sym a ∙ ap (is_after (Some last)) (sym e) ∙ line.reached i y k))
       | inr k ↦ k
     ]
 
-    -- nothing after the last turn is before the one at the place
+    -- no member after the last turn is earlier than the one at the place
     least : (y : ℕ) → Contains xs y × (is_after (Some last) y ≡ true) → get_or xs place 0 ≤ y
     least y ((i, l, e), a) = omega (
       arith,
@@ -75,11 +79,11 @@ first_left last xs place line = elim (cases_lt place (length xs)) [
       get_or_default xs place y 0 (omega (arith, stands y i l e a)),
     )
 
-    -- if the place is behind the list, nothing is after the last turn
+    -- if the place is past the list's end, nothing is after the last turn
     past : length xs ≤ place → (y : ℕ) → Contains xs y × (is_after (Some last) y ≡ true) → ⊥
     past h y ((i, l, e), a) = omega (arith, stands y i l e a)
 
-    -- a list in which nothing is is empty
+    -- a list without a member is empty
     none : (ys : List ℕ) → ((y : ℕ) → Contains ys y → ⊥) → ys ≡ []
     none [] h = refl
     none (y ∷ ys) h = absurd (h y (Contains-first y ys))

@@ -1,17 +1,17 @@
--- Two lists of one length, changed place by place.
+-- Loops over two lists of one length, of which the second is changed place by place.
 use Rattle.std.proofs.Common.{◌≡◌, ◌≢◌, ℕ, suc, zero, ◌<◌, ◌+◌, ◌==◌, Bool, true, false, cond, drop, List, [], ◌∷◌}
 use Rattle.std.proofs.Common.{length, set, get_or, refl, sym, ap, ◌∙◌, arith, add-one, eqb-true, Option}
 use Rattle.cpg_node.specs.Dispatcher.{Own, Running, zip_with}
 use Rattle.cpg_node.specs.State.{running_in}
 
--- the first n places are changed
+-- the first n places of the second list, as far as both go, are changed by what the first has there
 abbrev pub zip_front : {A B : Type 0} → (A → B → B) → ℕ → List A → List B → List B
 zip_front f zero os rs = rs
 zip_front f (suc n) [] rs = rs
 zip_front f (suc n) (o ∷ os) [] = []
 zip_front f (suc n) (o ∷ os) (r ∷ rs) = f o r ∷ zip_front f n os rs
 
--- changed up to its length, a list is changed at each place
+-- with all places changed, the lists are zipped; by induction on both
 pub zip_front-whole : {A B : Type 0} (f : A → B → B) (os : List A) (rs : List B) → length os ≡ length rs →
     zip_front f (length os) os rs ≡ zip_with f os rs
 zip_front-whole f [] [] e = refl
@@ -27,7 +27,7 @@ zip_front-length f (suc n) [] rs = refl
 zip_front-length f (suc n) (o ∷ os) [] = refl
 zip_front-length f (suc n) (o ∷ os) (r ∷ rs) = ap (λ l. suc l) (zip_front-length f n os rs)
 
--- at the next place nothing has changed yet
+-- place n, after the first n, is as it was
 pub zip_front-at : {A B : Type 0} (f : A → B → B) (n : ℕ) (os : List A) (rs : List B) (d : B) →
     get_or (zip_front f n os rs) n d ≡ get_or rs n d
 zip_front-at f zero os rs d = refl
@@ -35,7 +35,7 @@ zip_front-at f (suc n) [] rs d = refl
 zip_front-at f (suc n) (o ∷ os) [] d = refl
 zip_front-at f (suc n) (o ∷ os) (r ∷ rs) d = zip_front-at f n os rs d
 
--- to change the next place is to have changed one place more
+-- if place n is changed too, n + 1 places are changed; by induction on n
 pub zip_front-more : {A B : Type 0} (f : A → B → B) (n : ℕ) (os : List A) (rs : List B) (a : A) (b : B) →
     n < length os →
     length os ≡ length rs →
@@ -46,7 +46,8 @@ zip_front-more f zero (o ∷ os) (r ∷ rs) a b l e = refl
 zip_front-more f (suc n) (o ∷ os) (r ∷ rs) a b l e =
     ap (λ l. f o r ∷ l) (zip_front-more f n os rs a b (omega arith) (omega arith))
 
--- the step of a loop that changes place after place
+-- the step of a loop that changes place after place: `ls` is the list with n places changed, a the element of the first
+-- list at n, r the new one
 pub zip_front-next : {A B : Type 0} (f : A → B → B) (n : ℕ) (os : List A) (rs ls : List B) (a : A) (d r : B) →
     n < length os →
     length os ≡ length rs →
@@ -56,13 +57,13 @@ zip_front-next f n os rs ls a d r l e is at s =
     (λ i. set (is i) n ((s ∙ ap (f a) there ∙ ap (λ o. f o (get_or rs n d)) at) i)) ∙ zip_front-more f n os rs a d l e
     ∙ ap (λ m. zip_front f m os rs) (sym (add-one n))
 
--- the end of a loop that changes place after place
+-- the end of such a loop: with the place past the list's end, the lists are zipped
 pub zip_front-done : {A B : Type 0} (f : A → B → B) (n : ℕ) (os : List A) (rs ls : List B) → n ≡ length os →
     length os ≡ length rs → ls ≡ zip_front f n os rs →
     ls ≡ zip_with f os rs
 zip_front-done f n os rs ls all e is = is ∙ ap (λ n. zip_front f n os rs) all ∙ zip_front-whole f os rs e
 
--- what is left of two lists together begins at the place
+-- from place n on, two zipped lists begin with what their elements at n give; by induction on n
 drop_both : {A B C : Type 0} (f : A → B → C) (n : ℕ) (os : List A) (rs : List B) (a : A) (b : B) → n < length os →
     length os ≡ length rs →
     zip_with f (drop n os) (drop n rs)
@@ -72,7 +73,7 @@ drop_both f n (o ∷ os) [] a b l e = absurd (omega arith)
 drop_both f zero (o ∷ os) (r ∷ rs) a b l e = refl
 drop_both f (suc n) (o ∷ os) (r ∷ rs) a b l e = drop_both f n os rs a b (omega arith) (omega arith)
 
--- the step of a loop over two lists: what is left begins with what the place gives
+-- the same for a loop, which adds 1 to the place
 pub zip_with-drop : {A B C : Type 0} (f : A → B → C) (n : ℕ) (os : List A) (rs : List B) (a : A) (b : B) →
     n < length os →
     length os ≡ length rs →
@@ -81,7 +82,7 @@ pub zip_with-drop : {A B C : Type 0} (f : A → B → C) (n : ℕ) (os : List A)
 zip_with-drop f n os rs a b l e = drop_both f n os rs a b l e
     ∙ ap (λ m. f (get_or os n a) (get_or rs n b) ∷ zip_with f (drop m os) (drop m rs)) (sym (add-one n))
 
--- the search for a process goes on past the place of another one
+-- if the own process at n has another number than p, the execution of p is found after n; by induction on n
 running_in-suc : (n : ℕ) (os : List Own) (rs : List (Option Running)) (p : ℕ) (a : Own) → n < length os →
     length os ≡ length rs → a ≡ get_or os n a → a.process ≢ p →
     running_in (drop n os) (drop n rs) p ≡ running_in (drop (suc n) os) (drop (suc n) rs) p
@@ -89,13 +90,14 @@ running_in-suc n [] rs p a l e at other = absurd (omega arith)
 running_in-suc n (o ∷ os) [] p a l e at other = absurd (omega arith)
 running_in-suc zero (o ∷ os) (r ∷ rs) p a l e at other = go (o.process == p) refl
   where
+    -- by whether the first own process is p, which it isn't
     go : (b : Bool) → (o.process == p) ≡ b → cond b r (running_in os rs p) ≡ running_in os rs p
     go true t = absurd (other (ap (λ (o : Own). o.process) at ∙ eqb-true o.process p t))
     go false t = refl
 running_in-suc (suc n) (o ∷ os) (r ∷ rs) p a l e at other =
     running_in-suc n os rs p a (omega arith) (omega arith) at other
 
--- the step of a loop that looks for a process: at a place of another one it goes on
+-- the same for a loop, which adds 1 to the place
 pub running_in-next : (n : ℕ) (os : List Own) (rs : List (Option Running)) (p : ℕ) (a : Own) → n < length os →
     length os ≡ length rs → a ≡ get_or os n a → a.process ≢ p →
     running_in (drop n os) (drop n rs) p ≡ running_in (drop (n + 1) os) (drop (n + 1) rs) p

@@ -16,18 +16,20 @@ use Rattle.cpg_cube.specs.declared.column.Column.{Column}
 use Rattle.cpg_node.specs.Dispatcher.{OwnTable, Range, Act, times_in, has_heard, no_column, acts_of_columns, acts_at}
 use Rattle.cpg_node.specs.Plan.{Planned, plan_of_columns, plan_from, plan_of, no_row, takes, act_of, SameAtEachTime}
 
--- the acts of one entry more come before those of the rest
+-- the acts of entries that pass a test are that of the first, if it passes, and then those of the rest
 pub acts_more : (test : Planned → Bool) (p : Planned) (ps : List Planned) →
     map act_of (filter test (p ∷ ps)) ≡ map act_of (filter test (p ∷ [])) ++ map act_of (filter test ps)
 acts_more test p ps = go (test p)
   where
+    -- by whether the first entry passes
     go : (b : Bool) →
         map act_of (cond b (p ∷ filter test ps) (filter test ps)) ≡ map act_of (cond b (p ∷ []) [])
         ++ map act_of (filter test ps)
     go true = refl
     go false = refl
 
--- the plan of two lists of rows is that of the first and then that of the second
+-- the plan of two lists of rows, the first of which is at `place`, is that of the one and then that of the other; by
+-- induction on the first
 pub plan_from-append : (place : ℕ) (xs ys : List Row) →
     plan_from place (xs ++ ys) ≡ plan_from place xs ++ plan_from (place + length xs) ys
 plan_from-append place [] ys = let e : place ≡ place + 0 = omega arith in ap (λ n. plan_from n ys) e
@@ -38,7 +40,7 @@ plan_from-append place (x ∷ xs) ys =
     ∙ sym (append_assoc (plan_of_columns place x.item 0 x.columns) (plan_from (place + 1) xs)
     (plan_from (place + suc (length xs)) ys)))
 
--- the times of what is planned are those of the rows
+-- the times of what is planned for columns are the columns' times
 times_of_columns : (place x i : ℕ) (cs : List Column) →
     map (λ (p : Planned). p.time) (plan_of_columns place x i cs) ≡ map (λ (c : Column). c.time) cs
 times_of_columns place x i [] = refl
@@ -51,13 +53,14 @@ plan_times place (row ∷ rows) =
     map-append (λ (p : Planned). p.time) (plan_of_columns place row.item 0 row.columns) (plan_from (place + 1) rows)
     ∙ ap₂ ◌++◌ (times_of_columns place row.item 0 row.columns) (plan_times (place + 1) rows)
 
--- The acts of a time are those of what is planned for it, in its order.
+-- the acts of a time are those of what is planned for it, in its order
 
 -- an entry that is planned for the time, and whose literals have been heard
 abbrev is_due : List Row → List Range → ℕ → Planned → Bool
 is_due rows heard time p = (p.time == time) && takes rows heard p
 
--- the acts of a row are those of its planned entries that are due
+-- the acts of the columns of a row from column i on are those of their planned entries that are due; by induction on
+-- the columns. `at`: they are the columns at `place` in the table, where `takes` looks up their cubes
 acts_of_row : (rows : List Row) (heard : List Range) (time place x i : ℕ) (cs : List Column) →
     ((k n : ℕ) → n ≡ i + k → get_or (get_or rows place no_row).columns n no_column ≡ get_or cs k no_column) →
     acts_of_columns heard time x i cs ≡ map act_of (filter (is_due rows heard time) (plan_of_columns place x i cs))
@@ -72,6 +75,7 @@ acts_of_row rows heard time place x i (c ∷ cs) at =
     (filter (is_due rows heard time) (plan_of_columns place x (i + 1) cs))
     (acts_of_columns heard time x (i + 1) cs) rest
   where
+    -- by whether the entry is due, that is, has this time and literals that have all been heard
     go : (p : Planned) (b e : Bool) → e ≡ b → (b ≡ true → p.time ≡ time) → (ps : List Planned) (acts : List Act) →
         acts ≡ map act_of ps →
         cond b (record { time = time; item = p.item; column = p.column } ∷ []) []
@@ -81,7 +85,8 @@ acts_of_row rows heard time place x i (c ∷ cs) at =
         ∙ ap (λ e. map act_of (cond e (p ∷ ps) ps)) (sym s)
     go p false e s t ps acts r = r ∙ ap (λ e. map act_of (cond e (p ∷ ps) ps)) (sym s)
 
--- the acts of rows are those of their planned entries that are due
+-- the acts of rows are those of their planned entries that are due; by induction on the rows, which are those of all
+-- from `place` on
 acts_of_rows : (all : List Row) (heard : List Range) (time place : ℕ) (rows : List Row) →
     ((k n : ℕ) → n ≡ place + k → get_or all n no_row ≡ get_or rows k no_row) →
     flat_map (λ (row : Row). acts_of_columns heard time row.item 0 row.columns) rows
@@ -103,18 +108,19 @@ acts_planned : (t : OwnTable) (heard : List Range) (time : ℕ) →
 acts_planned t heard time = acts_of_rows (t.sends ++ t.starts) heard time 0 (t.sends ++ t.starts)
     (λ k n e. ap (λ n. get_or (t.sends ++ t.starts) n no_row) (let m : n ≡ k = omega arith in m))
 
--- a test of two parts passes what the second keeps of what the first does
+-- to filter by two tests at once is to filter by the one and then by the other
 filter_both : {X : Type 0} (p q : X → Bool) (xs : List X) → filter (λ x. p x && q x) xs ≡ filter q (filter p xs)
 filter_both p q [] = refl
 filter_both p q (x ∷ xs) = go (p x) (filter_both p q xs)
   where
+    -- by whether the first element passes the one test
     go : (b : Bool) → filter (λ x. p x && q x) xs ≡ filter q (filter p xs) →
         cond (b && q x) (x ∷ filter (λ x. p x && q x) xs) (filter (λ x. p x && q x) xs) ≡ filter q
         (cond b (x ∷ filter p xs) (filter p xs))
     go true e = ap (λ l. cond (q x) (x ∷ l) l) e
     go false e = e
 
--- the acts at a time are those of the same entries in another order
+-- the acts of a time are those of its entries in a plan that has the same entries at each time, in the same order
 pub acts_same : (t : OwnTable) (heard : List Range) (time : ℕ) (plan : List Planned) → SameAtEachTime plan (plan_of t) →
     acts_at t heard time
     ≡ map act_of (filter (takes (t.sends ++ t.starts) heard) (filter (λ (p : Planned). p.time == time) plan))
@@ -122,7 +128,8 @@ acts_same t heard time plan same = acts_planned t heard time
     ∙ ap (map act_of) (filter_both (λ (p : Planned). p.time == time) (takes (t.sends ++ t.starts) heard) (plan_of t)
     ∙ ap (filter (takes (t.sends ++ t.starts) heard)) (sym (same time)))
 
--- if the elements that pass stand together, a filter keeps just that part of the list
+-- if just the elements from `first` to before `end` pass, a filter keeps just that part of the list; by induction on
+-- the list and both places
 pub filter_run : {X : Type 0} (test : X → Bool) (xs : List X) (first end : ℕ) → first ≤ end → end ≤ length xs →
     ((i : ℕ) (d : X) → i < first → test (get_or xs i d) ≡ false) →
     ((i : ℕ) (d : X) → first ≤ i → i < end → test (get_or xs i d) ≡ true) →
@@ -130,6 +137,7 @@ pub filter_run : {X : Type 0} (test : X → Bool) (xs : List X) (first end : ℕ
     filter test xs ≡ take (end - first) (drop first xs)
 filter_run {X = X} test [] first end a b before in' after = sym (empty first (end - first))
   where
+    -- each part of an empty list is empty
     empty : (n m : ℕ) → take {A = X} m (drop n []) ≡ []
     empty zero zero = refl
     empty zero (suc m) = refl
@@ -154,7 +162,8 @@ filter_run test (x ∷ xs) (suc first) (suc end) a b before in' after =
     (λ i d h k. after (suc i) d (omega arith) (omega arith))
     ∙ ap (λ n. take n (drop first xs)) (let e : end - first ≡ suc end - suc first = omega arith in e)
 
--- the step of a loop over entries
+-- the step of a loop over entries: if the acts so far and those of the entries from n on are all, so are the acts with
+-- that of entry n, if it passes, and those of the entries after it
 pub acts_next : (test : Planned → Bool) (ps : List Planned) (n : ℕ) (d : Planned) (acts more : List Act) →
     n < length ps →
     acts ++ map act_of (filter test (drop n ps)) ≡ map act_of (filter test ps) →
@@ -167,9 +176,9 @@ acts_next test ps n d acts more l is m =
     ∙ ap (λ m. get_or ps n d ∷ drop m ps) (sym (add-one n))) ∙ acts_more test (get_or ps n d) (drop (n + 1) ps)))
     ∙ is
 
--- Members.
+-- members of plans
 
--- what is planned in another order is planned
+-- an entry of one of two plans with the same entries at each time is one of the other
 pub planned_in : (ps qs : List Planned) → SameAtEachTime ps qs → (p : Planned) → Contains ps p → Contains qs p
 planned_in ps qs same p c = (Contains-filter_parts (λ (q : Planned). q.time == p.time) qs p
     (subst (λ l. Contains l p) (same p.time)
@@ -181,12 +190,13 @@ pub planned_time : (t : OwnTable) (p : Planned) → Contains (plan_of t) p →
 planned_time t p c = subst (λ l. Contains l p.time) (plan_times 0 (t.sends ++ t.starts))
     (Contains-map (λ (p : Planned). p.time) (plan_of t) p c)
 
--- a stable sort by time keeps the order of each time
+-- two times of which neither is less, as `nat_cmp` has it, are the same
 
 tie_is : (a b : ℕ) → (not (is_lt (nat_cmp a b)) && not (is_lt (nat_cmp b a))) ≡ (b == a)
 tie_is a b = grind (arith, nat_tests)
 
--- a list and its stable sort by time have the same entries at each time, in the same order
+-- a list and its stable sort by time have the same entries at each time, in the same order: the sort keeps the order of
+-- entries that tie, and two entries tie if they have the same time (`tie_is`)
 pub same_from_stable : (xs ys : List Planned) → IsStableByKey (λ (p : Planned). p.time) nat_cmp xs ys →
     SameAtEachTime ys xs
 same_from_stable xs ys stable time =
@@ -197,7 +207,8 @@ same_from_stable xs ys stable time =
     ∙ stable x ∙ same_filter (λ p. not (is_lt (nat_cmp time p.time)) && not (is_lt (nat_cmp p.time time)))
     (λ (p : Planned). p.time == time) xs (λ p c. tie_is time p.time)
 
--- the plan of the sends and then that of the starts make the plan of the table
+-- the plan of the sends (`one`) and after it that of the starts, whose places begin after the n sends (`two`), is that
+-- of the table
 pub planned_is : (t : OwnTable) (new one two : List Planned) (sends starts : List Row) (n : ℕ) → new ≡ [] →
     sends ≡ t.sends → starts ≡ t.starts →
     n ≡ length t.sends →

@@ -21,9 +21,9 @@ use Rattle.cpg_node.specs.Plan.{fixed_times}
 use Rattle.cpg_node.specs.Quiet.{QuietTurnsChangeNothing, awaited_faults, awaited_end, TurnsLeftOutAreQuiet, TellsFew}
 use Rattle.cpg_node.specs.Quiet.{AwaitedAreCandidates}
 
--- A quiet turn.
+-- a quiet turn
 
--- a turn without ends and acts leaves what runs
+-- a turn without ends and acts leaves all executions as they are
 same_runs : (time : ℕ) (os : List Own) (runs : List (Option Running)) → length runs ≡ length os →
     zip_with (running_after [] [] time) os runs ≡ runs
 same_runs time [] [] e = refl
@@ -31,7 +31,7 @@ same_runs time [] (run ∷ runs) e = absurd (omega arith)
 same_runs time (o ∷ os) [] e = absurd (omega arith)
 same_runs time (o ∷ os) (run ∷ runs) e = ap (λ l. run ∷ l) (same_runs time os runs (omega arith))
 
--- a quiet turn changes nothing but the last instant
+-- a quiet turn (no end is due, and no act) changes nothing but the last instant, and does nothing
 pub quiet_turns : QuietTurnsChangeNothing
 quiet_turns d time count q =
     let heard : heard_after d time [] [] ≡ d.heard = ap (fold (hear_end d.table) d.heard) q.ends in
@@ -42,7 +42,7 @@ quiet_turns d time count q =
     ∙ same_runs time d.table.own d.running count in
     (λ i. record { table = d.table; heard = heard i; running = runs i; last = Some time }, acts)
 
--- An instant that is no column's and not awaited.
+-- an instant at which nothing is awaited
 
 -- at a time that none of its columns has, a row has no act
 no_acts_of : (heard : List Range) (time x i : ℕ) (cs : List Column) →
@@ -72,7 +72,8 @@ in_rows : (rows : List Row) (row : Row) (time : ℕ) → Contains rows row →
 in_rows rows row time m c =
     Contains-flat_map (λ (row : Row). map (λ (c : Column). c.time) row.columns) rows row time m c
 
--- at a time at which no end is awaited no report is due
+-- at a time at which no end is awaited no report is due; by induction on the own processes: a report that is due then
+-- is of an end that is awaited then
 no_reports : (k time : ℕ) (os : List Own) (runs : List (Option Running)) →
     (Contains (flat_map (λ ends. ends) (zip_with (awaited_end k) os runs)) time → ⊥) →
     flat_map (λ es. es) (zip_with (due_reports_of time) os runs) ≡ []
@@ -81,9 +82,11 @@ no_reports k time (o ∷ os) [] n = refl
 no_reports k time (o ∷ os) (None ∷ runs) n = no_reports k time os runs n
 no_reports k time (o ∷ os) (Some run ∷ runs) n = go run.report n (no_reports k time os runs)
   where
+    -- the awaited ends of the other executions
     rest : List ℕ
     rest = flat_map (λ ends. ends) (zip_with (awaited_end k) os runs)
 
+    -- by whether the first execution has a report
     go : (r : Option Ended) → (Contains ((run.start + get_or o.times (awaited_faults k r) 0) ∷ rest) time → ⊥) →
         ((Contains rest time → ⊥) → flat_map (λ es. es) (zip_with (due_reports_of time) os runs) ≡ []) →
         due_report time o run.start r ++ flat_map (λ es. es) (zip_with (due_reports_of time) os runs) ≡ []
@@ -94,7 +97,8 @@ no_reports k time (o ∷ os) (Some run ∷ runs) n = go run.report n (no_reports
         (Contains-first (run.start + get_or o.times e.faults 0) rest))))
         ∙ ih (λ m. n (Contains-rest _ rest time m))
 
--- at an instant that is not awaited a turn is quiet
+-- a turn at an instant that is neither a column's time nor an awaited end is quiet: no end is due (`no_reports`), and
+-- no row that the node sends or starts has a column of that time (`no_acts_in`)
 pub turns_left_out : TurnsLeftOutAreQuiet
 turns_left_out d time n heard = record {
   ends = no_reports d.table.faults time d.table.own d.running
@@ -112,16 +116,18 @@ turns_left_out d time n heard = record {
       ]);
 }
   where
+    -- the awaited ends of all executions
     ends : List ℕ
     ends = flat_map (λ ends. ends) (zip_with (awaited_end d.table.faults) d.table.own d.running)
 
--- An awaited end is one of those that are possible.
+-- an awaited end is one of the possible ends
 
 -- a process has a duration for each number of faults
 abbrev HasAll : ℕ → Own → Type 0
 HasAll k o = length o.times ≡ k + 1
 
--- each own process of a table has a duration for each number of faults
+-- each own process of a table has a duration for each number of faults; by induction on the processes of the head, of
+-- which each has k + 1 durations
 own_all : (k n node p c : ℕ) (qs : List HeadProcess) → All (IsHeadProcess k n) qs →
     All (HasAll k) (own_from node p c qs)
 own_all k n node p c [] h = All-nil (HasAll k)
@@ -130,6 +136,7 @@ own_all k n node p c (q ∷ qs) h =
     (front (q.node == node))
     (own_all k n node (p + 1) (cond q.condition (c + 1) c) qs (All-tail (IsHeadProcess k n) q qs h))
   where
+    -- by whether the first process is on the node
     front : (b : Bool) →
         All (HasAll k)
         (cond b (record { process = p; condition = cond q.condition (Some c) None; times = q.times } ∷ []) [])
@@ -144,12 +151,13 @@ own_has t h = subst (λ k. All (HasAll k) t.own) (sym h.of.faults)
     (subst (All (HasAll h.head.faults)) (sym h.of.own)
     (own_all h.head.faults (length h.head.nodes) h.node 0 0 h.head.processes h.lawful.processes))
 
--- the faults that are awaited are no more than the table has
+-- the faults of an awaited end, k if none was reported, are at most k
 few_faults : (k : ℕ) (r : Option Ended) → IfSome r (λ (e : Ended). e.faults ≤ k) → awaited_faults k r ≤ k
 few_faults k None h = omega arith
 few_faults k (Some e) h = h
 
--- each awaited end is a possible end
+-- each awaited end is a possible end; by induction on the own processes: the duration with the awaited faults is one of
+-- the k + 1 durations
 possible : (k : ℕ) (os : List Own) (runs : List (Option Running)) → All (HasAll k) os → All (TellsFew k) runs →
     (time : ℕ) →
     Contains (flat_map (λ ends. ends) (zip_with (awaited_end k) os runs)) time →
@@ -172,7 +180,7 @@ possible k (o ∷ os) (Some run ∷ runs) a f time m =
           (possible k os runs (All-tail (HasAll k) o os a) (All-tail (TellsFew k) (Some run) runs f) time r)
     ]
 
--- each awaited instant is a candidate
+-- each awaited instant is a candidate: a time of the table, or an awaited end
 pub awaited_candidates : AwaitedAreCandidates
 awaited_candidates d made few time m =
     let ends : List ℕ = flat_map (λ ends. ends) (zip_with (awaited_end d.table.faults) d.table.own d.running) in

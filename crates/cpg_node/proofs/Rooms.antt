@@ -14,19 +14,21 @@ use Rattle.cpg_node.specs.Dispatcher.{acts_of_turn, heard_after, turn, times_in}
 use Rattle.cpg_node.proofs.Next.{next_is}
 use Rattle.cpg_node.specs.Instants.{entries_left}
 
--- the times of a turn among times
+-- those of the times that are the turn's
 abbrev now : ℕ → List ℕ → List ℕ
 now time ts = filter (λ t. t == time) ts
 
--- A turn does no more acts than there are entries of its time.
+-- a turn does no more acts than there are entries of its time
 
--- a row has no more acts at a time than columns of that time
+-- a row has no more acts at a time than columns of that time; by induction on the columns: one of the time acts if its
+-- cube has been heard
 columns_few : (heard : List Range) (time x i : ℕ) (cs : List Column) →
     length (acts_of_columns heard time x i cs) ≤ length (now time (map (λ (c : Column). c.time) cs))
 columns_few heard time x i [] = omega arith
 columns_few heard time x i (c ∷ cs) =
     go (c.time == time) (list_all (has_heard heard) c.cube) (columns_few heard time x (i + 1) cs)
   where
+    -- by whether the first column has this time, and whether its literals have been heard
     go : (a b : Bool) →
         length (acts_of_columns heard time x (i + 1) cs) ≤ length (now time (map (λ (c : Column). c.time) cs)) →
         length (cond (a && b) (record { time = time; item = x; column = i } ∷ []) []
@@ -36,7 +38,7 @@ columns_few heard time x i (c ∷ cs) =
     go true false l = omega (arith, l)
     go false b l = l
 
--- rows have no more acts at a time than columns of that time
+-- rows have no more acts at a time than columns of that time; by induction on the rows, whose acts and times are added
 rows_few : (heard : List Range) (time : ℕ) (rows : List Row) →
     length (flat_map (λ (row : Row). acts_of_columns heard time row.item 0 row.columns) rows)
     ≤ length (now time (times_in rows))
@@ -54,12 +56,13 @@ rows_few heard time (row ∷ rows) =
       rows_few heard time rows,
     )
 
--- what is no earlier than a time after the last turn is after it too
+-- what is no earlier than a time that is after the last turn is after the last turn too
 pub after_later : (last : Option ℕ) (time x : ℕ) → is_after last time ≡ true → time ≤ x → is_after last x ≡ true
 after_later None time x a h = refl
 after_later (Some l) time x a h = lt-ltb l x (omega (arith, ltb-true l time a, h))
 
--- the entries of a turn's time aren't left after it
+-- of times, those of a turn and those after it are no more than those after the last turn; by induction: each time
+-- counts once at most on the left, and then on the right
 left_then : (last : Option ℕ) (time : ℕ) → is_after last time ≡ true → (ts : List ℕ) →
     length (now time ts) + length (filter (is_after (Some time)) ts) ≤ length (filter (is_after last) ts)
 left_then last time a [] = omega arith
@@ -69,6 +72,7 @@ left_then last time a (t ∷ ts) = go (t == time) (ltb time t) (is_after last t)
     (λ f. after_later last time t a (omega (arith, ltb-true time t f)))
     (left_then last time a ts)
   where
+    -- by whether the first time is that of the turn, is after it, and is after the last turn
     go : (e f b : Bool) → (e ≡ true → f ≡ true → ⊥) → (e ≡ true → b ≡ true) → (f ≡ true → b ≡ true) →
         length (now time ts) + length (filter (is_after (Some time)) ts) ≤ length (filter (is_after last) ts) →
         length (cond e (t ∷ now time ts) (now time ts))
@@ -82,7 +86,7 @@ left_then last time a (t ∷ ts) = go (t == time) (ltb time t) (is_after last t)
     go false false true apart x y h = omega (arith, h)
     go false false false apart x y h = h
 
--- the acts of a turn and the entries that are left after it are no more than the entries that were left before
+-- the acts of a turn and the entries left after it are no more than the entries that were left before it
 pub room_turn : (d : Dispatcher) (time : ℕ) (frames : List Frame) → next d ≡ Some time →
     length (acts_of_turn d time [] frames) + length (entries_left (turn d time [] frames)) ≤ length
     (entries_left d)
@@ -92,11 +96,12 @@ room_turn d time frames e = omega (
   left_then d.last time (next_is d time e).after (times_in (d.table.sends ++ d.table.starts)),
 )
 
--- Among times no more are left than there are.
+-- no more times pass a test than there are
 pub all_left : (p : ℕ → Bool) (xs : List ℕ) → length (filter p xs) ≤ length xs
 all_left p [] = omega arith
 all_left p (x ∷ xs) = go (p x) (all_left p xs)
   where
+    -- by whether the first time passes
     go : (b : Bool) → length (filter p xs) ≤ length xs →
         length (cond b (x ∷ filter p xs) (filter p xs)) ≤ length (x ∷ xs)
     go true l = omega arith
@@ -109,7 +114,7 @@ times_count (row ∷ rows) = length-append (map (λ (c : Column). c.time) row.co
     ∙ ap₂ (λ m n. m + n) (length-map row.columns (λ (c : Column). c.time)) (times_count rows)
     ∙ sym (sum_by-cons (λ (row : Row). length row.columns) row rows)
 
--- At first there are no more than columns of what the node sends and starts.
+-- at most all entries are left
 
 -- no more entries are left than there are columns of what the node sends and starts
 pub room_open : (d : Dispatcher) → length (entries_left d) ≤ column_count d.table.sends + column_count d.table.starts

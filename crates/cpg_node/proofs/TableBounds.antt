@@ -1,4 +1,4 @@
--- What a lawful table says of its times.
+-- What the laws of a table say of its own processes, rows and times.
 use Rattle.std.proofs.Common.{◌≡◌, ℕ, ◌<◌, ◌≤◌, ◌+◌, ◌^◌, Bool, true, false, cond, ◌==◌, List, [], ◌∷◌, ◌++◌, length}
 use Rattle.std.proofs.Common.{map, Contains, Some, None, refl, sym, ap, ◌∙◌, subst, arith, inl, inr}
 use Rattle.std.specs.Prelude.{All}
@@ -19,11 +19,12 @@ use Rattle.cpg_node.specs.Dispatcher.{Own, times_in}
 use Rattle.cpg_node.specs.Plan.{Planned, plan_of, SameAtEachTime, fixed_times}
 use Rattle.cpg_node.proofs.Planning.{planned_in, planned_time}
 
--- the durations of a process
+-- each duration of a process is below 2^60
 abbrev pub AreShort : Own → Type 0
 AreShort o = All (λ d. d < 2 ^ 60) o.times
 
--- the executions of a node's own processes are short, by the head
+-- the durations of a node's own processes are below 2^60, as those of the head are; by induction on the processes of
+-- the head: each is an own one if it is on the node
 own_short : (k n node p c : ℕ) (qs : List HeadProcess) → All (IsHeadProcess k n) qs →
     All AreShort (own_from node p c qs)
 own_short k n node p c [] h = All-nil AreShort
@@ -32,6 +33,7 @@ own_short k n node p c (q ∷ qs) h =
     (front (q.node == node))
     (own_short k n node (p + 1) (cond q.condition (c + 1) c) qs (All-tail (IsHeadProcess k n) q qs h))
   where
+    -- by whether the first process is on the node
     front : (b : Bool) →
         All AreShort
         (cond b (record { process = p; condition = cond q.condition (Some c) None; times = q.times } ∷ []) [])
@@ -39,16 +41,16 @@ own_short k n node p c (q ∷ qs) h =
         [] ((All-head (IsHeadProcess k n) q qs h).times) (All-nil AreShort)
     front false = All-nil AreShort
 
--- an execution takes less than 2 to the 60
+-- each duration of a lawful table is below 2^60, since the processes of its head are lawful
 pub times_short : (t : NodeTable) → IsTable t → All AreShort t.own
 times_short t h = subst (All AreShort) (sym h.of.own)
     (own_short h.head.faults (length h.head.nodes) h.node 0 0 h.head.processes h.lawful.processes)
 
--- a node's processes, by number
+-- own processes rise by number
 abbrev pub DoRise : List Own → Type 0
 DoRise os = Rises (λ (a b : Own). a.process < b.process) os
 
--- a list of one own process, or of none, has only that process's number
+-- a list of x, whose number is p, or of nothing has only processes of this number
 own_number : (p : ℕ) (x o : Own) (b : Bool) → x.process ≡ p → Contains (cond b (x ∷ []) []) o → o.process ≡ p
 own_number p x o true is m = elim (Contains-cases x [] o m) [
   | inl e ↦ ap (λ (o : Own). o.process) (sym e) ∙ is
@@ -56,7 +58,8 @@ own_number p x o true is m = elim (Contains-cases x [] o m) [
 ]
 own_number p x o false is m = absurd (Contains-nil o m)
 
--- by induction on the processes: the own one of the first is p, and the others have higher numbers
+-- the own processes from number p on have at least the number p; by induction: the first of the head's processes is p,
+-- if it is an own one, and the others have at least p + 1
 own_above : (node p c : ℕ) (qs : List HeadProcess) (o : Own) → Contains (own_from node p c qs) o → p ≤ o.process
 own_above node p c [] o m = absurd (Contains-nil o m)
 own_above node p c (q ∷ qs) o m =
@@ -69,7 +72,8 @@ own_above node p c (q ∷ qs) o m =
       | inr n ↦ omega (arith, own_above node (p + 1) (cond q.condition (c + 1) c) qs o n)
     ]
 
--- by induction on the processes: the own one of the first comes before all others
+-- the own processes from number p on rise by number; by induction: the first, p, if it is an own one, comes before all
+-- others (`own_above`)
 own_rises : (node p c : ℕ) (qs : List HeadProcess) → DoRise (own_from node p c qs)
 own_rises node p c [] = tt
 own_rises node p c (q ∷ qs) = Rises-append (λ (a b : Own). a.process < b.process) (own_front node p c q)
@@ -82,6 +86,7 @@ own_rises node p c (q ∷ qs) = Rises-append (λ (a b : Own). a.process < b.proc
       own_above node (p + 1) (cond q.condition (c + 1) c) qs b n,
     ))
   where
+    -- by whether the first process is on the node
     front : (b : Bool) →
         DoRise (cond b (record { process = p; condition = cond q.condition (Some c) None; times = q.times } ∷ []) [])
     front true = (λ o m. absurd (Contains-nil o m), tt)
@@ -91,11 +96,11 @@ own_rises node p c (q ∷ qs) = Rises-append (λ (a b : Own). a.process < b.proc
 pub own_rise : (t : NodeTable) → IsTable t → DoRise t.own
 own_rise t h = subst DoRise (sym h.of.own) (own_rises h.node 0 0 h.head.processes)
 
--- an execution may end at no more than 9 times
+-- each of these processes has at most 9 durations, and so at most 9 possible ends
 abbrev pub HaveFewEnds : List Own → Type 0
 HaveFewEnds os = All (λ (o : Own). length o.times ≤ 9) os
 
--- a node's own processes have at most 9 possible ends each, by the head
+-- a node's own processes have at most 9 durations each: one for each number of faults, 0 to k, and k is at most 8
 own_ends : (k n node p c : ℕ) (qs : List HeadProcess) → k ≤ 8 → All (IsHeadProcess k n) qs →
     HaveFewEnds (own_from node p c qs)
 own_ends k n node p c [] few h = All-nil (λ (o : Own). length o.times ≤ 9)
@@ -104,6 +109,7 @@ own_ends k n node p c (q ∷ qs) few h = All-append (λ (o : Own). length o.time
     (front (q.node == node))
     (own_ends k n node (p + 1) (cond q.condition (c + 1) c) qs few (All-tail (IsHeadProcess k n) q qs h))
   where
+    -- by whether the first process is on the node
     front : (b : Bool) →
         HaveFewEnds
         (cond b (record { process = p; condition = cond q.condition (Some c) None; times = q.times } ∷ []) [])
@@ -112,12 +118,12 @@ own_ends k n node p c (q ∷ qs) few h = All-append (λ (o : Own). length o.time
         (omega (arith, few, (All-head (IsHeadProcess k n) q qs h).count)) (All-nil (λ (o : Own). length o.times ≤ 9))
     front false = All-nil (λ (o : Own). length o.times ≤ 9)
 
--- each own process of a table has at most 9 possible ends
+-- each own process of a lawful table has at most 9 possible ends, since the processes of its head are lawful
 pub own_few_ends : (t : NodeTable) → IsTable t → HaveFewEnds t.own
 own_few_ends t h = subst HaveFewEnds (sym h.of.own)
     (own_ends h.head.faults (length h.head.nodes) h.node 0 0 h.head.processes h.lawful.faults h.lawful.processes)
 
--- rows that are among those of a table have few columns
+-- rows that are among those of a lawful table have at most MOST_COLUMNS columns each
 rows_few : (t : NodeTable) → IsTable t → (rows : List Row) →
     ((row : Row) → Contains rows row → Contains (rows_of t) row) →
     All (λ (row : Row). length row.columns ≤ MOST_COLUMNS) rows
@@ -129,19 +135,19 @@ rows_few t h rows in' = All-weaker (Contains rows) (λ (row : Row). length row.c
 in_sends : (t : NodeTable) (row : Row) → Contains t.sends row → Contains (rows_of t) row
 in_sends t row c = Contains-append_right t.starts (t.sends ++ t.hears) row (Contains-append_left t.sends t.hears row c)
 
--- a row that it starts is one of its rows
+-- a row that the node starts is one of its rows
 in_starts : (t : NodeTable) (row : Row) → Contains t.starts row → Contains (rows_of t) row
 in_starts t row c = Contains-append_left t.starts (t.sends ++ t.hears) row c
 
--- each row that a node sends has few enough columns
+-- each row that a node sends has at most MOST_COLUMNS columns
 pub sends_few : (t : NodeTable) → IsTable t → All (λ (row : Row). length row.columns ≤ MOST_COLUMNS) t.sends
 sends_few t h = rows_few t h t.sends (in_sends t)
 
--- each row that a node starts has few enough columns
+-- each row that a node starts has at most MOST_COLUMNS columns
 pub starts_few : (t : NodeTable) → IsTable t → All (λ (row : Row). length row.columns ≤ MOST_COLUMNS) t.starts
 starts_few t h = rows_few t h t.starts (in_starts t)
 
--- each time of a table's rows is before 2 to the 60
+-- each time of rows that are among those of a lawful table is below 2^60: it is the time of one of their columns
 time_early : (t : NodeTable) → IsTable t → (rows : List Row) →
     ((row : Row) → Contains rows row → Contains (rows_of t) row) → (x : ℕ) → Contains (times_in rows) x → x < 2 ^ 60
 time_early t h rows in' x c =
@@ -150,7 +156,7 @@ time_early t h rows in' x c =
     subst (λ n. n < 2 ^ 60) d.2 ((All-contains (IsLawfulColumn (space_of h.head)) r.0.columns d.0
     ((All-contains (IsLawfulRow (space_of h.head)) (rows_of t) r.0 h.of.lawful (in' r.0 r.1)).columns) d.1).time)
 
--- what is planned is before 2 to the 60
+-- each time of a table's plan, in whatever order the entries are, is below 2^60
 pub plan_early : (t : NodeTable) → IsTable t → (plan : List Planned) → SameAtEachTime plan (plan_of t) →
     All (λ (p : Planned). p.time < 2 ^ 60) plan
 plan_early t h plan same = All-weaker (Contains plan) (λ (p : Planned). p.time < 2 ^ 60)
@@ -158,11 +164,11 @@ plan_early t h plan same = All-weaker (Contains plan) (λ (p : Planned). p.time 
     elim (Contains-append_cases t.sends t.starts row d) [ inl k ↦ in_sends t row k | inr k ↦ in_starts t row k ])
     p.time (planned_time t p (planned_in plan (plan_of t) same p c))) plan (All-contains_itself plan)
 
--- a row that it hears is one of its rows
+-- a row that the node hears is one of its rows
 in_hears : (t : NodeTable) (row : Row) → Contains t.hears row → Contains (rows_of t) row
 in_hears t row c = Contains-append_right t.starts (t.sends ++ t.hears) row (Contains-append_right t.sends t.hears row c)
 
--- all times of the table are before 2 to the 60
+-- all times of the table are below 2^60
 pub fixed_early : (t : NodeTable) → IsTable t → (x : ℕ) → Contains (fixed_times t) x → x < 2 ^ 60
 fixed_early t h x c = elim (Contains-append_cases (times_in t.starts ++ times_in t.sends) (times_in t.hears) x c) [
   | inr k ↦ time_early t h t.hears (in_hears t) x k

@@ -29,7 +29,7 @@ use Rattle.cpg_table.specs.Lawful.{IsTable}
 use Rattle.cpg_node.proofs.TableBounds.{AreShort, times_short, fixed_early}
 use Rattle.cpg_node.proofs.Planning.{filter_run, acts_same, planned_in, planned_time}
 
--- before the first turn all is left
+-- before the first turn all is left, and the place is at the front
 pub line_open : {X : Type 0} (time : X → ℕ) (xs : List X) → IsNonDecreasingBy time xs → IsLine time None xs 0
 line_open time xs up =
     record { within = omega arith; rises = up; reached = λ i d h. absurd (omega arith); left = λ i d h k. refl }
@@ -39,14 +39,15 @@ fold_zero : (xs : List ℕ) → fold min 0 xs ≡ 0
 fold_zero [] = refl
 fold_zero (x ∷ xs) = let e : min 0 x ≡ 0 = omega arith in ap (λ n. fold min n xs) e ∙ fold_zero xs
 
--- before the first turn the next instant is 0
+-- before the first turn the next instant is 0, which is a candidate besides then
 pub next_open : (d : Dispatcher) → d.last ≡ None → Some 0 ≡ next d
 next_open d e =
     sym (ap (λ last. least_of (filter (is_after last) (cond (is_some last) (candidates d) (0 ∷ candidates d)))) e
     ∙ ap Some (fold_zero (filter (is_after None) (candidates d))))
 
--- after a turn the next instant is the first of the table's times that is left, or the first possible end if that is
--- earlier
+-- after a turn the next instant is the table's time at the place, or the least possible end after the turn if that is
+-- earlier. The sorted times have the same members as the table's, so the least of those that are left is the one at the
+-- place
 pub next_found : (table : OwnTable) (heard : List Range) (running : List (Option Running)) (last : ℕ) (times : List ℕ)
     (place : ℕ) →
     IsPermutation (fixed_times table) times →
@@ -65,17 +66,20 @@ next_found table heard running last times place p line =
     (kept times (fixed_times table) (IsPermutation-sym (fixed_times table) times p)) ∙
     sym (first_left last times place line))
   where
+    -- permuted lists have the same times after the last turn
     kept : (xs ys : List ℕ) → IsPermutation xs ys → (x : ℕ) → Contains (filter (is_after (Some last)) xs) x →
         Contains (filter (is_after (Some last)) ys) x
     kept xs ys p x c = let r = Contains-filter_parts (is_after (Some last)) xs x c in
         Contains-filter (is_after (Some last)) ys x r.1 (Contains-permutation xs ys x p r.0)
 
--- A report changes no time.
+-- a report changes no time
 
+-- a report leaves the possible ends of an execution as they were
 same_ends : (e : Ended) (o : Own) (run : Option Running) → possible_ends o (with_report e o run) ≡ possible_ends o run
 same_ends e o None = refl
 same_ends e o (Some run) = go (o.process == e.process)
   where
+    -- by whether the report is of this process
     go : (b : Bool) →
         possible_ends o (cond b (Some (record { start = run.start; report = Some e })) (Some run))
         ≡ possible_ends o (Some run)
@@ -103,11 +107,12 @@ timed_report : (e : Ended) (o : Own) (run : Option Running) → IsTimed run → 
 timed_report e o None h = h
 timed_report e o (Some run) h = go (o.process == e.process)
   where
+    -- by whether the report is of this process
     go : (b : Bool) → IsTimed (cond b (Some (record { start = run.start; report = Some e })) (Some run))
     go true = h
     go false = h
 
--- what leaves each start small leaves all starts small
+-- if f leaves each start below 2^60, so it does place by place; by induction on the own processes
 timed_zip : (f : Own → Option Running → Option Running) →
     ((o : Own) (run : Option Running) → IsTimed run → IsTimed (f o run)) →
     (os : List Own) (runs : List (Option Running)) → AreTimed runs →
@@ -117,44 +122,48 @@ timed_zip f keep (o ∷ os) [] h = All-nil IsTimed
 timed_zip f keep (o ∷ os) (run ∷ runs) h = All-cons IsTimed (f o run) (zip_with f os runs)
     (keep o run (All-head IsTimed run runs h)) (timed_zip f keep os runs (All-tail IsTimed run runs h))
 
--- a report leaves starts small
+-- after a report all starts are still below 2^60
 pub timed_reported : (e : Ended) (os : List Own) (runs : List (Option Running)) → AreTimed runs →
     AreTimed (zip_with (with_report e) os runs)
 timed_reported e = timed_zip (with_report e) (timed_report e)
 
--- what a turn starts begins at its time
+-- an execution after a turn started below 2^60 if it did before: one that the turn starts has the turn's time, which is
+-- below 2^60 if the turn has acts
 timed_after : (ended : List Ended) (acts : List Act) (time : ℕ) → (0 < length acts → time < 2 ^ 60) →
     (o : Own) (run : Option Running) → IsTimed run →
     IsTimed (running_after ended acts time o run)
 timed_after ended acts time early o run h =
     go (list_any (λ (a : Act). a.item == o.process) acts) refl (list_any (λ (e : Ended). e.process == o.process) ended)
   where
+    -- if an act starts the process, there is an act
     some : (acts : List Act) → list_any (λ (a : Act). a.item == o.process) acts ≡ true → 0 < length acts
     some [] e = absurd (true≢false (sym e))
     some (a ∷ acts) e = omega arith
 
+    -- by whether an act starts the process, and whether an end is of it
     go : (b : Bool) → list_any (λ (a : Act). a.item == o.process) acts ≡ b → (c : Bool) →
         IsTimed (cond b (Some (record { start = time; report = None })) (cond c None run))
     go true e c = early (some acts e)
     go false e true = tt
     go false e false = h
 
--- a turn leaves starts small
+-- after a turn all starts are still below 2^60, as each is (`timed_after`)
 pub timed_turn : (ended : List Ended) (acts : List Act) (time : ℕ) → (0 < length acts → time < 2 ^ 60) →
     (os : List Own) (runs : List (Option Running)) → AreTimed runs →
     AreTimed (zip_with (running_after ended acts time) os runs)
 timed_turn ended acts time early = timed_zip (running_after ended acts time) (timed_after ended acts time early)
 
--- two lists of one length, put together place by place, have that length
+-- two lists of one length, zipped, have that length
 pub length_zip : {A B C : Type 0} (f : A → B → C) (os : List A) (rs : List B) → length rs ≡ length os →
     length (zip_with f os rs) ≡ length os
 length_zip f [] rs e = refl
 length_zip f (o ∷ os) [] e = absurd (omega arith)
 length_zip f (o ∷ os) (r ∷ rs) e = ap (λ n. suc n) (length_zip f os rs (omega arith))
 
--- What a turn does.
+-- what a turn does
 
--- the state after a turn, by its parts
+-- parts that were worked out one by one make the state after the turn, and its acts: the reports that are due, what has
+-- been heard after the ends, the due ones and the frames, the acts then, and what runs then
 pub turn_is : (table : OwnTable) (heard : List Range) (running : List (Option Running)) (last : Option ℕ) (time : ℕ)
     (ended due : List Ended) (frames : List Frame)
     (after : List Range) (acts : List Act) (runs : List (Option Running)) →
@@ -175,7 +184,7 @@ turn_is table heard running last time ended due frames after acts runs is h a r 
     r ∙ ap₂ (λ es bs. zip_with (running_after (ended ++ es) bs time) table.own running) is acts' in
     ((λ i. record { table = table; heard = heard' i; running = runs' i; last = Some time }), acts')
 
--- the entries of the turn stand together after the place; ps and qs are the plan, as calls see it
+-- the entries of the turn stand together after the place
 -- `same`, `line`: the plan has the columns of the table, in order of time. `comes`: the next instant is `time`.
 -- `seen`, `sliced`: ps and qs are the plan. `inside`, `before`, `here`: the entries from `place` to `end` are those
 -- of no later time, and the next one is later.
@@ -191,24 +200,24 @@ module _ (table : OwnTable) (heard : List Range) (running : List (Option Running
   abbrev node : Dispatcher
   node = record { table = table; heard = heard; running = running; last = last }
 
-  -- the instant is the next one
+  -- it is after the last turn, and no candidate that isn't reached is earlier
   next' : NextIs node time
   next' = next_is node time comes
 
-  -- the plan is walked from the place on
+  -- the end isn't before the place
   from : place ≤ end
   from = inside.0
 
-  -- what is due at the instant ends within the plan
+  -- the end is within the plan
   within : end ≤ length plan
   within = omega (arith, inside.1, ap length seen)
 
-  -- what is passed over is due by the instant
+  -- the entries from the place to the end are no later than the instant
   before' : (i : ℕ) (d : Planned) → place ≤ i → i < end → (get_or plan i d).time ≤ time
   before' = subst (λ (ps : List Planned). (i : ℕ) (d : Planned) → place ≤ i → i < end → (get_or ps i d).time ≤ time)
       seen before
 
-  -- what comes behind is later
+  -- the entry at the end, if there is one, is later
   here' : (d : Planned) → end < length plan → time < (get_or plan end d).time
   here' = subst (λ (ps : List Planned). (d : Planned) → end < length ps → time < (get_or ps end d).time) seen here
 
@@ -224,12 +233,13 @@ module _ (table : OwnTable) (heard : List Range) (running : List (Option Running
         | inr k ↦ Contains-append_left (times_in table.starts) (times_in table.sends) x k
       ]))
 
-  -- each time of the plan is one that the node may come to
+  -- the time of each entry of the plan is a candidate
   candidate : (i : ℕ) (d : Planned) → i < length plan → Contains (candidates node) (get_or plan i d).time
   candidate i d l = planned_time' (get_or plan i d).time (planned_time table (get_or plan i d)
       (planned_in plan (plan_of table) same (get_or plan i d) (Contains-get_or plan i d l)))
 
-  -- the time of an entry in the run
+  -- the entries from the place to the end have the instant's time: they are no later, and as candidates that are left
+  -- they are no earlier
   at_time : (i : ℕ) (d : Planned) → place ≤ i → i < end → (get_or plan i d).time ≡ time
   at_time i d k l = omega (
     arith,
@@ -238,7 +248,7 @@ module _ (table : OwnTable) (heard : List Range) (running : List (Option Running
         (not_by last (get_or plan i d).time (line.left i d k (omega (arith, within)))),
   )
 
-  -- a time up to the last turn isn't the instant
+  -- a time that isn't after the last turn isn't the instant
   other : (t : ℕ) → is_after last t ≡ false → (t == time) ≡ false
   other t e = false_from_ne_true (t == time)
       (λ s. true≢false (sym next'.after ∙ ap (is_after last) (sym (eqb-true t time s)) ∙ e))
@@ -247,14 +257,14 @@ module _ (table : OwnTable) (heard : List Range) (running : List (Option Running
   later : (t : ℕ) → time < t → (t == time) ≡ false
   later t l = false_from_ne_true (t == time) (λ s. absurd (omega (arith, l, eqb-true t time s)))
 
-  -- what is due at the instant is what was passed over
+  -- the entries of the instant are just those from the place to the end, the run
   run : filter (λ (p : Planned). p.time == time) plan ≡ take (end - place) (drop place plan)
   run = filter_run (λ (p : Planned). p.time == time) plan place end from within
       (λ i d l. other (get_or plan i d).time (line.reached i d l))
       (λ i d k l. eq-eqb (get_or plan i d).time time (at_time i d k l))
       (λ i d k l. later (get_or plan i d).time (omega (arith, here' d (omega arith), line.rises end i d k l)))
 
-  -- the acts of the turn are those of the entries in the run whose literals have been heard
+  -- the acts of the entries in the run whose literals have been heard are those of the table at the instant
   pub acts_are : (after : List Range) (acts : List Act) →
       acts ≡ map act_of (filter (takes (table.sends ++ table.starts) after) (take (end - place) (drop place qs))) →
       acts ≡ acts_at table after time
@@ -263,11 +273,11 @@ module _ (table : OwnTable) (heard : List Range) (running : List (Option Running
       ∙ sym (acts_same table after time plan same
       ∙ ap (λ l. map act_of (filter (takes (table.sends ++ table.starts) after) l)) run)
 
-  -- after the turn the place of the plan is behind the run
+  -- after the turn the place of the plan is the end of the run
   pub line_moves : IsLine (λ (p : Planned). p.time) (Some time) plan end
   line_moves = moves_on (λ (p : Planned). p.time) last plan place end time line next'.after from within before' here'
 
-  -- a turn that does something is early enough for a sum
+  -- a turn that does something is below 2^60: its run has an entry, whose time it is
   pub early_turn : (after : List Range) (acts : List Act) →
       acts ≡ map act_of (filter (takes (table.sends ++ table.starts) after) (take (end - place) (drop place qs))) →
       All (λ (p : Planned). p.time < 2 ^ 60) plan → 0 < length acts → time < 2 ^ 60
@@ -277,12 +287,13 @@ module _ (table : OwnTable) (heard : List Range) (running : List (Option Running
     | inr l ↦ absurd (omega (arith, some, ap length e ∙ none (end - place) (omega arith)))
   ]
     where
+      -- an empty run has no entries, so it gives no acts
       none : (n : ℕ) → n ≡ 0 →
           length (map act_of (filter (takes (table.sends ++ table.starts) after) (take n (drop place qs)))) ≡ 0
       none n z =
           ap (λ n. length (map act_of (filter (takes (table.sends ++ table.starts) after) (take n (drop place qs))))) z
 
--- The clauses of a turn, about the state as a caller sees it.
+-- the clauses of a turn, about the state as a caller sees it
 
 -- a turn of the dispatcher is one of the state that a caller sees
 pub returned_turn : (now : NodeState) (d : Dispatcher) (acts : List Act) (time : ℕ) (after : Dispatcher)
@@ -305,9 +316,9 @@ returned_acts now d acts time after ended frames view comes is =
     subst (λ (s : NodeState). IfSome (next s.dispatcher) (λ t. after ≡ acts_of_turn s.dispatcher t ended frames)) view
     (subst (λ o. IfSome o (λ t. after ≡ acts_of_turn d t ended frames)) (sym comes) is)
 
--- Times stay small.
+-- times stay small
 
--- each possible end is before 2 to the 61
+-- each possible end is below 2^61: a start and a duration, both below 2^60; by induction on the own processes
 ends_early : (os : List Own) (runs : List (Option Running)) → All AreShort os → AreTimed runs → (t : ℕ) →
     Contains (flat_map (λ ends. ends) (zip_with possible_ends os runs)) t → t < 2 ^ 61
 ends_early [] runs s h t c = absurd (Contains-nil t c)
@@ -318,6 +329,7 @@ ends_early (o ∷ os) (r ∷ rs) s h t c =
       | inr k ↦ ends_early os rs (All-tail AreShort o os s) (All-tail IsTimed r rs h) t k
     ]
   where
+    -- the ends of one execution: a start and a duration, both below 2^60
     one : (run : Option Running) → IsTimed run → Contains (possible_ends o run) t → t < 2 ^ 61
     one None h k = absurd (Contains-nil t k)
     one (Some x) h k =
@@ -325,7 +337,7 @@ ends_early (o ∷ os) (r ∷ rs) s h t c =
         let d = All-contains (λ d. d < 2 ^ 60) o.times q.0 (All-head AreShort o os s) q.1 in
         omega (arith, h, d, q.2)
 
--- the next instant is before 2 to the 61
+-- the next instant is below 2^61: it is 0, a time of the table or a possible end
 pub next_early : (table : OwnTable) (heard : List Range) (running : List (Option Running)) (last : Option ℕ) (t : ℕ) →
     IsTable table →
     AreTimed running →
@@ -341,6 +353,7 @@ next_early table heard running last t made h e =
           ]
     ]
   where
+    -- the candidates for the next instant
     all : List ℕ
     all = candidates (record { table = table; heard = heard; running = running; last = last })
 

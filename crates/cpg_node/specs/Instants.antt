@@ -8,7 +8,7 @@ use Rattle.cpg_node.specs.Plan.{fixed_times}
 abbrev pub left_of : Option ℕ → List ℕ → ℕ
 left_of last times = length (filter (is_after last) times)
 
--- the instants that a table plans; before the first turn, instant 0 is one more
+-- the times of a table's columns; before the first turn, 0 is one more
 abbrev pub planned_times : Dispatcher → List ℕ
 planned_times d = if is_some d.last then fixed_times d.table else 0 ∷ fixed_times d.table
 
@@ -16,11 +16,11 @@ planned_times d = if is_some d.last then fixed_times d.table else 0 ∷ fixed_ti
 abbrev pub end_times : Dispatcher → List ℕ
 end_times d = flat_map (λ ends. ends) (zip_with possible_ends d.table.own d.running)
 
--- the times of the columns that a node sends and starts, after the last turn
+-- the times after the last turn of the columns of what a node sends and starts
 abbrev pub entries_left : Dispatcher → List ℕ
 entries_left d = filter (is_after d.last) (times_in (d.table.sends ++ d.table.starts))
 
--- How many instants a node may still come to: those that its table plans, the ends of running executions, and those of
--- executions that its entries may still start. An execution may end at 9 times.
+-- a bound on how many instants a node may still come to: those of its table, the possible ends of what runs, and those
+-- of what its entries may still start. An execution may end at 9 times at most, with 0 to 8 faults
 abbrev pub instants_left : Dispatcher → ℕ
 instants_left d = left_of d.last (planned_times d) + left_of d.last (end_times d) + length (entries_left d) * 9

@@ -1,4 +1,4 @@
--- The invariant of a node between its calls.
+-- What holds of the fields of a node between calls.
 use Rattle.std.specs.Prelude.{◌≡◌, ◌≤◌, ◌<◌, ◌^◌, length, All, IsPermutation}
 use Rattle.std.specs.Vec.{vec_capacity}
 use Rattle.cpg_table.specs.Lawful.{IsTable}
@@ -7,11 +7,11 @@ use Rattle.cpg_node.specs.Dispatcher.{Dispatcher, next}
 use Rattle.cpg_node.specs.Plan.{Planned, plan_of, fixed_times, SameAtEachTime, IsLine}
 use Rattle.cpg_node.specs.State.{NodeState, AreTimed}
 
--- the dispatcher of a node's fields
+-- the dispatcher that a node's fields make
 abbrev pub dispatcher_of : Inside → Dispatcher
 dispatcher_of n = record { table = n.table; heard = n.heard.items; running = n.running.items; last = n.last }
 
--- the state of a node's fields
+-- the state that a node's fields make
 abbrev pub state_of : Inside → NodeState
 state_of n = record { dispatcher = dispatcher_of n; acts = n.acts.items }
 
@@ -19,19 +19,21 @@ state_of n = record { dispatcher = dispatcher_of n; acts = n.acts.items }
 pub record IsSound (n : Inside) : Type 0 where
   -- the table is lawful
   pub made : IsTable n.table
-  -- one execution, or none, for each of its own processes
+  -- an execution, or none, for each of its own processes
   pub count : length n.running.items ≡ length n.table.own
   -- room for a copy of what has been heard
   pub mirror : length n.heard.items ≡ length n.before.items
+  -- each execution started before 2^60, so its start and a duration fit 64 bits
   pub starts : AreTimed n.running.items
-  -- the plan has all columns that the node sends or starts
+  -- the plan has all columns of what the node sends or starts, those of one time in the order of the table
   pub planned : SameAtEachTime n.plan.items (plan_of n.table)
+  -- its times are below 2^60, so a time and a duration fit 64 bits
   pub early : All (λ (p : Planned). p.time < 2 ^ 60) n.plan.items
-  -- it is in order of time, and `plan_place` is behind the last turn
+  -- it is in order of time, and `plan_place` is the place of the first entry after the last turn
   pub entries : IsLine (λ (p : Planned). p.time) n.last n.plan.items n.plan_place
-  -- all times of the table
+  -- `times` has all times of the table
   pub times : IsPermutation (fixed_times n.table) n.times.items
-  -- they are in order, and `times_place` is behind the last turn
+  -- they are in order, and `times_place` is the place of the first after the last turn
   pub instants : IsLine (λ t. t) n.last n.times.items n.times_place
   -- the next instant is found already
   pub next : n.next ≡ next (dispatcher_of n)

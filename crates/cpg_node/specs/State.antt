@@ -12,7 +12,7 @@ pub record NodeState : Type 0 where
   pub dispatcher : Dispatcher
   pub acts : List Act
 
--- the execution of a process if it runs, given the node's processes and what they run
+-- the execution of process p, if it runs: the first of the node's processes with this number has it at its place
 abbrev pub running_in : List Own → List (Option Running) → ℕ → Option Running
 running_in [] runs p = None
 running_in (o ∷ os) [] p = None
@@ -34,41 +34,43 @@ report_of d p = option_and_then (λ (run : Running). run.report) (running_of d p
 abbrev pub has_reported : Dispatcher → ℕ → Bool
 has_reported d p = is_some (report_of d p)
 
--- how long an execution of a process of the node lasts with this many faults
+-- how long an execution of process p of the node lasts with this many faults; 0 if it isn't the node's
 abbrev pub time_of : Dispatcher → ℕ → ℕ → ℕ
 time_of d p faults = get_or (own_of d.table p).times faults 0
 
--- an execution that hasn't reported, and with its faults ends at this time
+-- the end e is of an execution that hasn't reported and that with e's faults ends at `time`
 pub record EndsAt (d : Dispatcher) (time : ℕ) (e : Ended) : Type 0 where
   -- the process runs
   pub run : Running
   pub runs : running_of d e.process ≡ Some run
   -- its end hasn't been reported
   pub unreported : run.report ≡ None
+  -- at most the faults of a cycle
   pub few : e.faults ≤ d.table.faults
   -- the start and the duration with these faults are together this time
   pub planned : run.start + time_of d e.process e.faults ≡ time
 
--- a frame whose column arrives at the time
+-- the hear row of the frame's item has its column, at this time
 pub record ArrivesAt (d : Dispatcher) (time : ℕ) (f : Frame) : Type 0 where
   pub there : f.column < length (columns_in d.table.hears f.item)
   pub arrives : (get_or (columns_in d.table.hears f.item) f.column no_column).time ≡ time
 
--- there is a next instant, at which these executions end and these frames arrive
+-- the node has a next instant, `time`, at which these executions end and these frames arrive
 pub record MayTurn (d : Dispatcher) (ended : List Ended) (frames : List Frame) : Type 0 where
   pub time : ℕ
   pub comes : next d ≡ Some time
   pub ends : All (EndsAt d time) ended
   pub arrive : All (ArrivesAt d time) frames
 
--- An execution that hasn't reported may have ended at this time: after its start and no later than planned, and after
--- the last turn and no later than the next instant.
+-- The end e may be reported at this time: its process runs and hasn't reported, the time is after its start and no later
+-- than its planned end, and after the last turn and no later than the next instant.
 pub record MayFinish (d : Dispatcher) (time : ℕ) (e : Ended) : Type 0 where
   -- the process runs
   pub run : Running
   pub runs : running_of d e.process ≡ Some run
   -- its end hasn't been reported
   pub unreported : run.report ≡ None
+  -- at most the faults of a cycle
   pub few : e.faults ≤ d.table.faults
   -- a process without a condition gives no value
   pub plain : (own_of d.table e.process).condition ≡ None → e.value ≡ false
@@ -87,16 +89,16 @@ arrives table arrival f =
     list_any (λ (row : Row). row.item == f.item) table.hears && nat_lt f.column (length (columns_in table.hears f.item))
     && ((get_or (columns_in table.hears f.item) f.column no_column).time == arrival)
 
--- the lesser of two times, if they are given
+-- the lesser of two times; None is no time, so the other one counts
 abbrev pub earlier : Option ℕ → Option ℕ → Option ℕ
 earlier None other = other
 earlier (Some time) None = Some time
 earlier (Some time) (Some other) = Some (min time other)
 
--- every running execution has started at a time that is small enough to be added to
+-- an execution, if there is one, has started at a time to which a duration can be added
 abbrev pub IsTimed : Option Running → Type 0
 IsTimed running = IfSome running (λ (run : Running). run.start < 2 ^ 60)
 
--- all of these executions have
+-- all of these executions have started at such times
 abbrev pub AreTimed : List (Option Running) → Type 0
 AreTimed runs = All IsTimed runs

@@ -13,7 +13,7 @@ pub struct Act {
     pub column: u32,
 }
 
-/// Adds acts to those so far.
+/// Adds acts to those so far, for which there is room.
 pub fn append_acts(acts: &mut Vec<Act>, more: &[Act])
     requires { length (acts.old.items ++ more.now) ≤ vec_capacity acts.old }
     ensures acts { acts.new.items ≡ acts.old.items ++ more.now }

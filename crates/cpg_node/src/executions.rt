@@ -1,4 +1,4 @@
-//! What runs on a node, by place in its own processes.
+//! What runs on a node: an execution or none for each of its own processes, in their order.
 ghost use Rattle.std.specs.Prelude.{◌≡◌, ◌≤◌, ◌<◌, ◌+◌, ◌^◌, ◌++◌, ◌∷◌, [], ◌||◌, ◌==◌, List, All, IfSome, Some, map, filter, length, option_to_list};
 ghost use Rattle.std.specs.List.{flat_map, list_any};
 ghost use Rattle.std.specs.Vec.{vec_len, vec_capacity};
@@ -8,7 +8,7 @@ ghost use Rattle.cpg_node.specs.State.{earlier, running_in, IsTimed, AreTimed};
 use crate::{Act, Ended, Running};
 use cpg_table::Own;
 
-/// The execution of a process, if it runs here.
+/// Returns the execution of a process, or `None` if the process isn't the node's own or doesn't run.
 pub fn running_in(own: &[Own], running: &[Option<Running>], process: u32) -> Option<Running>
     requires { length own.now ≡ length running.now }
     ensures { result ≡ running_in own.now running.now process }
@@ -21,11 +21,11 @@ pub fn running_in(own: &[Own], running: &[Option<Running>], process: u32) -> Opt
     None
 }
 
-/// The lesser of two times.
+/// Returns the lesser of two times; if one is `None`, the other.
 pub fn earlier(time: Option<u64>, other: Option<u64>) -> Option<u64>
     ensures { result ≡ earlier time other }
 {
-    // `None` stands for never, so the other is the earlier one
+    // `None` is no time, so the other one counts
     let Some(first) = time else {
         return other;
     };
@@ -35,7 +35,7 @@ pub fn earlier(time: Option<u64>, other: Option<u64>) -> Option<u64>
     Some(first.min(second))
 }
 
-/// A possible end, if it is after the last turn.
+/// Returns the end of an execution with this start and duration, or `None` if it isn't after the last turn.
 fn end_after(start: u64, duration: u64, last: u64) -> Option<u64>
     requires { start + duration < 2 ^ 64 }
     ensures { result ≡ least_of (filter (is_after (Some last)) ((start + duration) ∷ [])) }
@@ -44,7 +44,8 @@ fn end_after(start: u64, duration: u64, last: u64) -> Option<u64>
     if end > last { Some(end) } else { None }
 }
 
-/// The first possible end of an execution after the last turn.
+/// Returns the first end after the last turn of an execution that may take each of these times, or `None` if there is
+/// none.
 fn first_end(times: &[u64], start: u64, last: u64) -> Option<u64>
     requires times { All (λ d. d < 2 ^ 60) times.now }
     requires start { start < 2 ^ 60 }
@@ -57,7 +58,7 @@ fn first_end(times: &[u64], start: u64, last: u64) -> Option<u64>
     first
 }
 
-/// The first possible end of a process after the last turn.
+/// Returns the first possible end of a process after the last turn, or `None` if there is none.
 fn first_end_of(own: &Own, running: Option<Running>, last: u64) -> Option<u64>
     requires times { All (λ d. d < 2 ^ 60) own.now.times }
     requires start { IsTimed running }
@@ -70,7 +71,7 @@ fn first_end_of(own: &Own, running: Option<Running>, last: u64) -> Option<u64>
     first_end(own.times.times(), running.start, last)
 }
 
-/// The first possible end on the node after the last turn.
+/// Returns the first possible end of anything that runs on the node after the last turn, or `None` if there is none.
 pub fn earliest_end(own: &[Own], running: &[Option<Running>], last: u64) -> Option<u64>
     requires same { length own.now ≡ length running.now }
     requires times { All (λ o. All (λ d. d < 2 ^ 60) o.times) own.now }
@@ -85,10 +86,12 @@ pub fn earliest_end(own: &[Own], running: &[Option<Running>], last: u64) -> Opti
     first
 }
 
-/// An execution after a report. It keeps the report if the report is its own.
+/// Returns what a process runs after a report, which its execution keeps if the report is of this process; `None` exactly
+/// if it doesn't run.
 fn with_report(ended: Ended, own: &Own, running: Option<Running>) -> Option<Running>
     ensures { result ≡ with_report ended own.now running }
 {
+    // a process that doesn't run keeps nothing
     let running = running?;
     // the report is of another process
     if own.process != ended.process {
@@ -110,16 +113,17 @@ pub fn note_report(own: &[Own], running: &mut [Option<Running>], ended: Ended)
     }
 }
 
-/// The report of an execution, if its planned end is at the time.
+/// Returns the report of a process whose planned end is at the time, or `None` if it doesn't run, hasn't reported, or
+/// its planned end is at another time.
 fn due_report(own: &Own, running: Option<Running>, time: u64) -> Option<Ended>
     requires times { All (λ d. d < 2 ^ 60) own.now.times }
     requires start { IsTimed running }
     ensures { option_to_list result ≡ due_reports_of time own.now running }
 {
+    // it doesn't run, or hasn't reported
     let running = running?;
-    // no report yet: nothing is due
     let ended = running.report?;
-    // the planned end is the start and the duration with the faults that the report has
+    // the planned end is the start plus the duration with the reported faults, which the process has; 0 isn't used
     let duration = own
         .times
         .times()
@@ -133,7 +137,7 @@ fn due_report(own: &Own, running: Option<Running>, time: u64) -> Option<Ended>
     }
 }
 
-/// Adds the report of an execution, if its planned end is at the time.
+/// Adds the report of a process, if its planned end is at the time.
 fn add_due(own: &Own, running: Option<Running>, time: u64, due: &mut Vec<Ended>)
     requires times { All (λ d. d < 2 ^ 60) own.now.times }
     requires start { IsTimed running }
@@ -148,7 +152,7 @@ fn add_due(own: &Own, running: Option<Running>, time: u64, due: &mut Vec<Ended>)
     }
 }
 
-/// Gathers the reports whose planned end is at the time.
+/// Puts the reports whose planned end is at the time in place of what `due` had.
 pub fn gather_due(own: &[Own], running: &[Option<Running>], time: u64, due: &mut Vec<Ended>)
     requires same { length own.now ≡ length running.now }
     requires times { All (λ o. All (λ d. d < 2 ^ 60) o.times) own.now }
@@ -163,21 +167,22 @@ pub fn gather_due(own: &[Own], running: &[Option<Running>], time: u64, due: &mut
     }
 }
 
-/// Whether one of these acts starts the process.
+/// Returns whether one of these acts starts the process, whose start has its number as item.
 fn is_started(acts: &[Act], process: u32) -> bool
     ensures { result ≡ list_any (λ a. a.item == process) acts.now }
 {
     acts.iter().any(|act| act.item == process)
 }
 
-/// Whether one of these ends is of the process.
+/// Returns whether one of these ends is an end of the process.
 fn is_ended(ended: &[Ended], process: u32) -> bool
     ensures { result ≡ list_any (λ e. e.process == process) ended.now }
 {
     ended.iter().any(|end| end.process == process)
 }
 
-/// What a process runs after a turn: it runs from its last start until it ends.
+/// Returns what a process runs after a turn with these ends, due reports and acts: a new execution if an act starts it,
+/// otherwise `None` if it ended, and else what it ran.
 fn running_after(
     ended: &[Ended],
     due: &[Ended],
@@ -206,7 +211,7 @@ fn running_after(
     running
 }
 
-/// What runs after a turn.
+/// Turns what runs into what runs after a turn with these ends, due reports and acts.
 pub fn turn_executions(
     ended: &[Ended],
     due: &[Ended],

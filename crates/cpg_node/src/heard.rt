@@ -15,10 +15,10 @@ use cpg_cube::{Column, Literal};
 use cpg_table::NodeTable;
 use std::alloc::Global;
 
-/// How many variables there may be.
+/// How many variables there may be: those of fault counts, and after them those of values.
 const VARIABLES: u8 = FIRST_VALUE + MOST_CONDITIONS as u8;
 
-/// The range of a variable of which nothing has been heard.
+/// Returns the range of a variable of which nothing has been heard.
 fn whole_range(faults: u8, variable: u8) -> Range
     ensures { result ≡ whole_range faults variable }
 {
@@ -26,7 +26,8 @@ fn whole_range(faults: u8, variable: u8) -> Range
     Range { low: 0, high }
 }
 
-/// The ranges of all variables before anything is heard: each may have any number that the faults allow.
+/// Returns the ranges of all variables before anything is heard: a count may be any number up to `faults`, a value 0 or 1.
+/// `Err` only if memory runs out.
 pub fn whole_ranges(alloc: Global, faults: u8) -> Result<Vec<Range>, OutOfMemory>
     ensures { IfOk result (λ heard. heard.items ≡ map (whole_range faults) (numbers_below variable_count)) }
 {
@@ -38,11 +39,11 @@ pub fn whole_ranges(alloc: Global, faults: u8) -> Result<Vec<Range>, OutOfMemory
     Ok(heard)
 }
 
-/// Notes that a variable's number is known.
+/// Notes that a variable's number is known, whatever was heard of it.
 fn know(heard: &mut [Range], variable: usize, number: u8)
     ensures { heard.new ≡ know heard.old variable number }
 {
-    // a variable that isn't there changes nothing
+    // for a variable that isn't there nothing changes
     if variable < heard.len() {
         heard[variable] = Range {
             low: number,
@@ -51,11 +52,11 @@ fn know(heard: &mut [Range], variable: usize, number: u8)
     }
 }
 
-/// Notes that a variable's number is in a range.
+/// Notes that a variable's number is in a range: what was heard of it is cut to that.
 fn cut(heard: &mut [Range], variable: usize, low: u8, high: u8)
     ensures { heard.new ≡ cut heard.old (record { variable = variable; low = low; high = high }) }
 {
-    // a variable that isn't there changes nothing
+    // for a variable that isn't there nothing changes
     if variable < heard.len() {
         let range = heard[variable];
         heard[variable] = Range {
@@ -74,11 +75,11 @@ fn cut_all(heard: &mut [Range], literals: &[Literal])
     }
 }
 
-/// Whether a literal is known to hold.
+/// Returns whether a literal follows from what has been heard.
 fn has_heard(heard: &[Range], literal: &Literal) -> bool
     ensures { result ≡ has_heard heard.now literal.now }
 {
-    // for a variable that isn't there, which no table has
+    // for a variable without a range; no literal of a table is on one
     let unknown = Range { low: 0, high: 0 };
     let range = heard
         .get(literal.variable as usize)
@@ -87,34 +88,33 @@ fn has_heard(heard: &[Range], literal: &Literal) -> bool
     literal.low <= range.low && range.high <= literal.high
 }
 
-/// Whether literals are known to hold.
+/// Returns whether literals all follow from what has been heard.
 pub fn have_heard(heard: &[Range], literals: &[Literal]) -> bool
     ensures { result ≡ list_all (has_heard heard.now) literals.now }
 {
     literals.iter().all(|literal| has_heard(heard, literal))
 }
 
-/// The condition of a process of the node, if it has one.
+/// Returns the condition of a process, or `None` if it has none or is of another node.
 fn condition_of(table: &NodeTable, process: u32) -> Option<u32>
     ensures { result ≡ (own_of table.now process).condition }
 {
-    // `None` also for a process of another node
     let own = own_of(table, process)?;
     own.condition
 }
 
-/// The place of the range of a condition's value.
+/// Returns the place of the range of a condition's value: those of fault counts come first.
 fn value_place(condition: u32) -> usize
     ensures { result ≡ value_variable condition }
 {
     usize::from(FIRST_VALUE) + condition as usize
 }
 
-/// Hears an end, which tells the faults and the value of its process.
+/// Hears an end, which makes known the fault count and the value of its process.
 fn hear_end(table: &NodeTable, heard: &mut [Range], ended: &Ended)
     ensures { heard.new ≡ hear_end table.now heard.old ended.now }
 {
-    // the variable of a process is its count of faults
+    // a fault count has the number of its process as variable
     know(heard, ended.process as usize, ended.faults);
     if let Some(condition) = condition_of(table, ended.process) {
         let number = u8::from(ended.value);
@@ -131,7 +131,7 @@ fn hear_ends(table: &NodeTable, heard: &mut [Range], ended: &[Ended])
     }
 }
 
-/// Notes that the literals of a column hold.
+/// Notes that the literals of the column with this number hold. If there is no such column, nothing changes.
 fn cut_column(heard: &mut [Range], columns: &[Column], column: u32)
     ensures { heard.new ≡ cut_all heard.old (get_or columns.now column no_column).cube }
 {
@@ -140,13 +140,13 @@ fn cut_column(heard: &mut [Range], columns: &[Column], column: u32)
     }
 }
 
-/// Hears a frame, which tells the literals of its column and, for a broadcast, the value.
+/// Hears a frame, which makes known the literals of its column and, for a broadcast, the value.
 fn hear_frame(table: &NodeTable, heard: &mut [Range], frame: &Frame)
     ensures { heard.new ≡ hear_frame table.now heard.old frame.now }
 {
     let columns = table.heard_columns(frame.item);
     cut_column(heard, columns, frame.column);
-    // a broadcast: its value stands behind the literals of its column
+    // a broadcast: after the literals of its column, its value
     if frame.item >= table.first_broadcast() {
         let condition = frame.item - table.first_broadcast();
         let number = u8::from(frame.value);
@@ -179,14 +179,15 @@ pub fn hear_all(
     hear_frames(table, heard, frames);
 }
 
-/// Whether some variable has no number left.
+/// Returns whether some variable has no number left.
 fn are_contradicted(heard: &[Range]) -> bool
     ensures { result ≡ list_any is_contradicted heard.now }
 {
     heard.iter().any(|range| range.high < range.low)
 }
 
-/// Whether the node hears the item of a frame, by the column that it names, at this time.
+/// Returns whether a frame arrives at this time: the node has a hear row of the frame's item, and the frame's column in
+/// this row has this time.
 pub fn arrives(table: &NodeTable, arrival: u64, frame: &Frame) -> bool
     ensures { result ≡ arrives table.now arrival frame.now }
 {
@@ -196,7 +197,8 @@ pub fn arrives(table: &NodeTable, arrival: u64, frame: &Frame) -> bool
     }
 }
 
-/// Takes a frame, unless it contradicts what has been heard. In that case nothing changes.
+/// Hears a frame and returns true, unless it contradicts what has been heard: then nothing changes, and it returns false.
+/// `before` is memory for a copy of what has been heard.
 pub fn hears(table: &NodeTable, heard: &mut [Range], before: &mut [Range], frame: &Frame) -> bool
     requires { length heard.old ≡ length before.old }
     ensures fits { result ≡ not (list_any is_contradicted (hear_frame table.now heard.old frame.now)) }

@@ -20,14 +20,19 @@ use std::marker::Model;
 /// turn.
 #[derive(Drop)]
 pub struct Node {
+    /// When it starts, sends and hears its items.
     table: NodeTable,
+    /// The range of each variable.
     heard: Vec<Range>,
+    /// What each of the table's own processes runs.
     running: Vec<Option<Running>>,
+    /// The instant of the last turn.
     last: Option<u64>,
+    /// The acts of the last turn.
     acts: Vec<Act>,
-    /// The next instant.
+    /// The next instant, if there is one.
     next: Option<u64>,
-    /// What the node sends and starts, in order of time, and the place of the first after the last turn.
+    /// The columns of what the node sends and starts, in order of time, and the place of the first after the last turn.
     plan: Vec<Planned>,
     plan_place: usize,
     /// All times of the table, in order, and the place of the first after the last turn.
@@ -52,7 +57,8 @@ impl Model for Node {
 }
 
 impl Node {
-    /// The node of a table before its first turn. Reserves all the room that the node will need.
+    /// Returns the node of a table before its first turn. It reserves all the memory that the node will need; `Err` only if
+    /// there isn't so much.
     pub fn new(alloc: Global, table: NodeTable) -> Result<Node, OutOfMemory>
         ensures { IfOk result (λ node. node ≡ record { dispatcher = initial_dispatcher table; acts = [] }) }
     {
@@ -72,6 +78,7 @@ impl Node {
             running,
             last: None,
             acts,
+            // the first turn is at 0
             next: Some(0),
             plan,
             plan_place: 0,
@@ -82,15 +89,15 @@ impl Node {
         })
     }
 
-    /// The table that it acts by.
+    /// Returns the table that the node acts by.
     pub fn table(&self) -> &NodeTable
         ensures { result.now ≡ self.now.dispatcher.table }
     {
         &self.table
     }
 
-    /// When the execution of a process started, in time units of the graph file. `None` exactly if that process
-    /// isn't running on this node.
+    /// Returns when the execution of a process started, in time units of the graph file, or `None` if the process
+    /// doesn't run on this node.
     pub fn running(&self, process: u32) -> Option<u64>
         ensures { result ≡ start_of self.now.dispatcher process }
     {
@@ -98,15 +105,14 @@ impl Node {
         Some(running.start)
     }
 
-    /// Whether a process runs on this node and has reported its end. The report is kept until the planned end. Any
-    /// process number is accepted.
+    /// Returns whether a process runs on this node and has reported its end; the report is kept until the planned end.
     pub fn reported(&self, process: u32) -> bool
         ensures { result ≡ has_reported self.now.dispatcher process }
     {
         self.report(process).is_some()
     }
 
-    /// The report of a process that runs on this node. `None` exactly if it hasn't `reported`.
+    /// Returns the kept report of a process, or `None` if it doesn't run on this node or hasn't reported its end.
     pub fn report(&self, process: u32) -> Option<Ended>
         ensures { result ≡ report_of self.now.dispatcher process }
     {
@@ -114,7 +120,7 @@ impl Node {
         running.report
     }
 
-    /// What runs, by place in the table's own processes.
+    /// Returns what runs: an execution or `None` for each of the table's own processes, in their order.
     pub fn executions(&self) -> &[Option<Running>]
         ensures executions { result.now ≡ self.now.dispatcher.running }
         ensures count { length self.now.dispatcher.running ≡ length self.now.dispatcher.table.own }
@@ -122,7 +128,8 @@ impl Node {
         self.running.as_slice()
     }
 
-    /// The next instant at which something may happen, in time units of the graph file. `None` exactly if there is none.
+    /// Returns the next instant at which something may happen, in time units of the graph file, or `None` if there is
+    /// none.
     pub fn next(&self) -> Option<u64>
         ensures next { result ≡ next self.now.dispatcher }
         ensures early { IfSome result (λ time. time < 2 ^ 61) }
@@ -130,22 +137,21 @@ impl Node {
         self.next
     }
 
-    /// The acts of the last turn: sends by item, then starts.
+    /// Returns the acts of the last turn: sends by item, then starts by process; none before the first turn.
     pub fn acts(&self) -> &[Act]
         ensures { result.now ≡ self.now.acts }
     {
         self.acts.as_slice()
     }
 
-    /// Takes a frame that arrives at a time. The frame is strange exactly if the node doesn't hear its item, if its
-    /// column isn't there or doesn't arrive then, or if what it tells contradicts what has been heard. A strange frame
-    /// changes nothing.
+    /// Hears a frame that arrives at a time. `Err` exactly if it is strange: the node doesn't hear its item, its column isn't
+    /// there or arrives at another time, or what it says contradicts what has been heard. A strange frame changes nothing.
     pub fn hear(&mut self, arrival: u64, frame: Frame) -> Result<(), StrangeFrame>
         ensures strange { IsErr result ↔ (is_strange self.old.dispatcher arrival frame ≡ true) }
         ensures heard { OnOk result (self.new ≡ record self.old { dispatcher = hear self.old.dispatcher frame }) }
         ensures same { OnErr result (self.new ≡ self.old) }
     {
-        // the table has no such column for the item, or it arrives at another time
+        // the table has no such column of the item, or has it at another time
         if !arrives(&self.table, arrival, &frame) {
             return Err(StrangeFrame);
         }
@@ -161,8 +167,8 @@ impl Node {
         }
     }
 
-    /// Notes an execution that ended at a time, maybe early. Its report is kept until its planned end. The contract alone
-    /// names `time`.
+    /// Notes that an execution ended at a time, perhaps early. Its report is kept until its planned end, and taken by the
+    /// turn of that. `time` is there for the contract alone.
     pub fn finished(&mut self, time: u64, ended: Ended)
         requires { MayFinish self.old.dispatcher time ended }
         ensures { self.new ≡ record self.old { dispatcher = finished self.old.dispatcher ended } }
@@ -170,9 +176,9 @@ impl Node {
         note_report(self.table.own(), self.running.as_mut_slice(), ended);
     }
 
-    /// Takes the turn of the next instant. It first takes the ends of executions that weren't given to `finished`, and
-    /// the kept reports of this instant, and then the frames that arrive. Then it does every entry that is planned for
-    /// this instant and whose literals have all been heard.
+    /// Takes the turn of the next instant. It first takes the ends of executions, those given here and the kept reports of
+    /// this instant, and then the frames, those that weren't given to `hear`. Then it does each entry of this instant whose
+    /// literals all follow from what has been heard.
     pub fn turn(&mut self, ended: &[Ended], frames: &[Frame])
         requires { MayTurn self.old.dispatcher ended.now frames.now }
         // if there is a next turn, the dispatcher is as after it
@@ -180,7 +186,7 @@ impl Node {
         // if there is a next turn, the acts are those of this turn
         ensures acts { IfSome (next self.old.dispatcher) (λ time. self.new.acts ≡ acts_of_turn self.old.dispatcher time ended.now frames.now) }
     {
-        // no next instant: nothing can happen any more
+        // no next instant: nothing can happen any more, and nothing changes
         let Some(time) = self.next else {
             return;
         };
@@ -197,7 +203,7 @@ impl Node {
             self.due.as_slice(),
             frames,
         );
-        // the entries of this instant are those from the last place up to the first later one
+        // the entries of this instant are those from the place on up to the first later one
         let plan_end = past_entries(self.plan.as_slice(), self.plan_place, time);
         let plan = &self.plan[self.plan_place..plan_end];
         gather_acts(&self.table, self.heard.as_slice(), plan, &mut self.acts);
@@ -209,11 +215,11 @@ impl Node {
             self.table.own(),
             self.running.as_mut_slice(),
         );
-        // both places go on behind this instant
+        // both places go on to what is after this instant
         self.plan_place = plan_end;
         self.times_place = past_times(self.times.as_slice(), self.times_place, time);
         self.last = Some(time);
-        // the next instant is the next time in the table, or an end that may come before it
+        // the next instant is the next time in the table or, if that is earlier, the next possible end
         let end = earliest_end(self.table.own(), self.running.as_slice(), time);
         let time = time_at(self.times.as_slice(), self.times_place);
         self.next = earlier(time, end);

@@ -4,7 +4,7 @@ ghost use Rattle.cpg_node.specs.Dispatcher.{own_of};
 
 use cpg_table::{NodeTable, Own};
 
-/// The node's own process with this number, if there is one.
+/// Returns the node's own process with this number, or `None` if it isn't one of the node's.
 pub fn own_of(table: &NodeTable, process: u32) -> Option<&Own>
     ensures some { IfSome result (λ own. own.now ≡ own_of table.now process) }
     ensures none { IfNone result (own_of table.now process ≡ record { process = 0; condition = None; times = [] }) }

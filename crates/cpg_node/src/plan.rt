@@ -1,4 +1,5 @@
-//! What a node may do, in order of time.
+//! What a node may do, in order of time: the entries of its plan, each a column of a send or a start. The errors are those
+//! of memory.
 ghost use Rattle.std.specs.Prelude.{◌≡◌, ◌≤◌, ◌<◌, ◌+◌, ◌^◌, ◌++◌, ◌∷◌, [], ℕ, Some, None, IsPermutation, slice_get, IfOk, OnOk, All, length, map, filter, get_or, slice_index, slice_index_or};
 ghost use Rattle.cpg_base.specs.declared.limits.TheConstants.{MOST_COLUMNS};
 ghost use Rattle.std.specs.List.Sorted.{IsNonDecreasingBy};
@@ -20,7 +21,7 @@ use std::alloc::Global;
 pub struct Planned {
     /// Its time, in time units of the graph file.
     pub time: u64,
-    /// The place of its row: sends first, then starts.
+    /// The place of its row in the table's sends, and after them its starts.
     pub row: usize,
     /// The item of the row.
     pub item: u32,
@@ -28,7 +29,7 @@ pub struct Planned {
     pub column: u32,
 }
 
-/// Adds the columns of a row.
+/// Adds the entries of a row's columns; `row` is the place of the row. Here and below, `Err` only if memory runs out.
 fn plan_columns(
     plan: &mut Vec<Planned>,
     row: usize,
@@ -51,7 +52,7 @@ fn plan_columns(
     Ok(())
 }
 
-/// Adds the columns of rows, the first of which has this place.
+/// Adds the entries of rows, the first of which has the place `first`.
 fn plan_rows(plan: &mut Vec<Planned>, first: usize, rows: &[Row]) -> Result<(), OutOfMemory>
     requires few { All (λ row. length row.columns ≤ MOST_COLUMNS) rows.now }
     requires place { first + length rows.now < 2 ^ 64 }
@@ -65,20 +66,20 @@ fn plan_rows(plan: &mut Vec<Planned>, first: usize, rows: &[Row]) -> Result<(), 
     Ok(())
 }
 
-/// All columns of what a node sends and starts, in order of time. Those of one time are in order of their places.
+/// Returns the entries of all that a node sends and starts, in order of time; those of one time in the order of the table.
 pub fn plan_of(alloc: Global, table: &NodeTable) -> Result<Vec<Planned>, OutOfMemory>
     ensures same { IfOk result (λ plan. SameAtEachTime plan.items (plan_of table.now)) }
     ensures rises { IfOk result (λ plan. IsNonDecreasingBy (λ p. p.time) plan.items) }
 {
     let mut plan = Vec::new(alloc);
-    // sends first, then starts: the sort keeps this order at each time
+    // sends first, then starts: the sort is stable, so it keeps this order at each time
     plan_rows(&mut plan, 0, table.sends())?;
     plan_rows(&mut plan, table.sends().len(), table.starts())?;
     plan.sort_by_key(|planned| planned.time)?;
     Ok(plan)
 }
 
-/// Adds the times of a row.
+/// Adds the times of columns.
 pub fn add_times(times: &mut Vec<u64>, columns: &[Column]) -> Result<(), OutOfMemory>
     ensures { OnOk result (times.new.items ≡ times.old.items ++ map (λ c. c.time) columns.now) }
 {
@@ -88,7 +89,7 @@ pub fn add_times(times: &mut Vec<u64>, columns: &[Column]) -> Result<(), OutOfMe
     Ok(())
 }
 
-/// Adds the times of rows.
+/// Adds the times of all columns of rows.
 fn add_times_in(times: &mut Vec<u64>, rows: &[Row]) -> Result<(), OutOfMemory>
     ensures { OnOk result (times.new.items ≡ times.old.items ++ times_in rows.now) }
 {
@@ -98,7 +99,7 @@ fn add_times_in(times: &mut Vec<u64>, rows: &[Row]) -> Result<(), OutOfMemory>
     Ok(())
 }
 
-/// All times of a table, in order.
+/// Returns the times of all columns of a table, in order.
 pub fn times_of(alloc: Global, table: &NodeTable) -> Result<Vec<u64>, OutOfMemory>
     ensures same { IfOk result (λ times. IsPermutation (fixed_times table.now) times.items) }
     ensures rises { IfOk result (λ times. IsNonDecreasingBy (λ t. t) times.items) }
@@ -111,14 +112,14 @@ pub fn times_of(alloc: Global, table: &NodeTable) -> Result<Vec<u64>, OutOfMemor
     Ok(times)
 }
 
-/// The time at a place, if there is one.
+/// Returns the time at a place, or `None` if there is none.
 pub fn time_at(times: &[u64], place: usize) -> Option<u64>
     ensures { result ≡ slice_get times.now place }
 {
     times.get(place).copied()
 }
 
-/// The place of the first time that is later than this, from a place on, and the number of times if none is.
+/// Returns the place of the first time from `from` on that is after `time`; how many times there are if none is.
 pub fn past_times(times: &[u64], from: usize, time: u64) -> usize
     requires within { from ≤ length times.now }
     ensures within { (from ≤ result) × (result ≤ length times.now) }
@@ -126,7 +127,7 @@ pub fn past_times(times: &[u64], from: usize, time: u64) -> usize
     ensures here { (d : ℕ) → result < length times.now → time < slice_index_or times.now result d }
 {
     let mut place = from;
-    // from place to place until the first later time: a turn passes few
+    // one after another, as a turn passes few
     while place < times.len() {
         if times[place] > time {
             return place;
@@ -136,7 +137,7 @@ pub fn past_times(times: &[u64], from: usize, time: u64) -> usize
     place
 }
 
-/// The place of the first entry that is later than this, from a place on, and the plan's length if none is.
+/// Returns the place of the first entry from `from` on that is after `time`; the plan's length if none is.
 pub fn past_entries(plan: &[Planned], from: usize, time: u64) -> usize
     requires within { from ≤ length plan.now }
     ensures within { (from ≤ result) × (result ≤ length plan.now) }
@@ -144,7 +145,7 @@ pub fn past_entries(plan: &[Planned], from: usize, time: u64) -> usize
     ensures here { (d : Planned) → result < length plan.now → time < (slice_index_or plan.now result d).time }
 {
     let mut place = from;
-    // from place to place until the first later entry: a turn passes few
+    // one after another, as a turn passes few
     while place < plan.len() {
         if plan[place].time > time {
             return place;
@@ -154,41 +155,39 @@ pub fn past_entries(plan: &[Planned], from: usize, time: u64) -> usize
     place
 }
 
-/// The columns of the row at a place, or none if there is no row.
+/// Returns the columns of the row at a place; none if there is no row.
 fn columns_at(rows: &[Row], place: usize) -> &[Column]
     ensures { result.now ≡ (get_or rows.now place no_row).columns }
 {
-    // no row stands there
     let Some(row) = rows.get(place) else {
         return &[];
     };
     row.columns()
 }
 
-/// The columns of the row at a place. Sends come first, then starts.
+/// Returns the columns of the row at a place in the table's sends, and after them its starts; none if there is no row.
 fn columns_of(table: &NodeTable, place: usize) -> &[Column]
     ensures { result.now ≡ (get_or (table.now.sends ++ table.now.starts) place no_row).columns }
 {
     let sends = table.sends();
-    // the places of the sends come first, and those of the starts count on from them
+    // places of starts count on from those of sends
     if place < sends.len() {
         return columns_at(sends, place);
     }
     columns_at(table.starts(), place - sends.len())
 }
 
-/// The literals of the column at a place, or none if there is no column.
+/// Returns the literals of the column at a place; none if there is no column.
 fn literals_at(columns: &[Column], place: usize) -> &[Literal]
     ensures { result.now ≡ (get_or columns.now place no_column).cube }
 {
-    // no column stands there, so there is nothing to be heard
     let Some(entry) = columns.get(place) else {
         return &[];
     };
     entry.cube.literals()
 }
 
-/// Whether all literals of an entry have been heard.
+/// Returns whether all literals of an entry follow from what has been heard.
 fn takes(table: &NodeTable, heard: &[Range], planned: &Planned) -> bool
     ensures { result ≡ takes (table.now.sends ++ table.now.starts) heard.now planned.now }
 {
@@ -196,10 +195,9 @@ fn takes(table: &NodeTable, heard: &[Range], planned: &Planned) -> bool
     have_heard(heard, literals_at(columns, planned.column as usize))
 }
 
-/// Adds the act of an entry, if all of its literals have been heard.
+/// Adds the act of an entry, if its literals all follow from what has been heard.
 fn add_act(table: &NodeTable, heard: &[Range], planned: &Planned, acts: &mut Vec<Act>)
     requires { vec_len acts.old < vec_capacity acts.old }
-    // the act of the entry is added if the node has heard what its column asks for
     ensures added { acts.new.items ≡ acts.old.items ++ map act_of (filter (takes (table.now.sends ++ table.now.starts) heard.now) (planned.now ∷ [])) }
     ensures one { vec_len acts.new ≤ vec_len acts.old + 1 }
     ensures room { vec_capacity acts.new ≡ vec_capacity acts.old }
@@ -213,13 +211,12 @@ fn add_act(table: &NodeTable, heard: &[Range], planned: &Planned, acts: &mut Vec
     }
 }
 
-/// Gathers the acts of entries whose literals have all been heard.
+/// Puts the acts of those entries whose literals all follow from what has been heard in place of what `acts` had.
 pub fn gather_acts(table: &NodeTable, heard: &[Range], plan: &[Planned], acts: &mut Vec<Act>)
     requires room { length plan.now ≤ vec_capacity acts.old }
     ensures acts { acts.new.items ≡ map act_of (filter (takes (table.now.sends ++ table.now.starts) heard.now) plan.now) }
     ensures room { vec_capacity acts.new ≡ vec_capacity acts.old }
 {
-    // the room was reserved for all entries of the plan, so no act needs more
     acts.clear();
     for planned in plan {
         add_act(table, heard, planned, acts);

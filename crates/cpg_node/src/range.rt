@@ -1,4 +1,4 @@
-//! What is known of a variable.
+//! What has been heard of a variable.
 
 /// The numbers that a variable may still have, ends included.
 #[derive(Clone, Copy, Debug, PartialEq, Eq)]

@@ -7,6 +7,6 @@ use crate::Ended;
 pub struct Running {
     /// When it started, in time units of the graph file.
     pub start: u64,
-    /// Its report, if it has ended early.
+    /// The report of its end, once that has come; it is kept until the planned end.
     pub report: Option<Ended>,
 }

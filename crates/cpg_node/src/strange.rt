@@ -1,6 +1,6 @@
-//! Strange frames, which are refused.
+//! Strange frames, which aren't heard.
 
-/// A frame is strange if the node doesn't hear its item, if its column isn't there or doesn't arrive then, or if it
-/// contradicts what has been heard.
+/// A frame is strange: the node doesn't hear its item, its column isn't there or arrives at another time, or it contradicts
+/// what has been heard.
 #[derive(Clone, Copy, Debug, PartialEq, Eq)]
 pub struct StrangeFrame;

@@ -5,9 +5,9 @@
 pub struct Ended {
     /// The number of the process.
     pub process: u32,
-    /// How often it failed.
+    /// How many faults it had.
     pub faults: u8,
-    /// The value of its condition, and false if it has none.
+    /// The value of its condition; false if it has none.
     pub value: bool,
 }
 
@@ -16,7 +16,7 @@ pub struct Ended {
 pub struct Frame {
     /// The number of the message's or broadcast's item.
     pub item: u32,
-    /// The place in the item's row of the column by which it was sent.
+    /// The number of the column by which it was sent, in the item's row.
     pub column: u32,
     /// The value that a broadcast carries. A message carries none, and its value is ignored.
     pub value: bool,

@@ -74,9 +74,13 @@ module _ (g : Graph) (order : List ℕ) (topological : IsTopological g order) wh
 -- different processes of the graph, each with an edge from the next, and the last with one from the process that comes
 -- next
 pub record IsWalkBack (g : Graph) (walk : List ℕ) (process : ℕ) : Type 0 where
+  -- no process is in the walk twice
   pub apart : AllPairs (λ p q. p ≢ q) walk
+  -- each is one of the graph
   pub below : (p : ℕ) → Contains walk p → p < process_count g
+  -- each has an edge from the next
   pub next : (k : ℕ) → k + 1 < length walk → has_edge g (get_or walk (k + 1) 0) (get_or walk k 0) ≡ true
+  -- the last has an edge from the process that comes next
   pub last : 0 < length walk → has_edge g process (get_or walk (length walk - 1) 0) ≡ true
 
 module _ (g : Graph) where
@@ -102,7 +106,8 @@ module _ (g : Graph) where
     end_is : get_or (walk ++ process ∷ []) (length walk) 0 ≡ process
     end_is = get_or-append_seam walk process [] 0
 
-    -- with one more process at its end, the walk still has an edge to each process from the next
+    -- With one more process at its end, the walk still has an edge to each process from the next.
+    -- k is a place before the last one, as in the walk before, or the last, where the new process has the edge.
     next_more : (k : ℕ) → k + 1 < length walk + 1 →
         has_edge g (get_or (walk ++ process ∷ []) (k + 1) 0) (get_or (walk ++ process ∷ []) k 0) ≡ true
     next_more k l = elim (cases_lt (k + 1) (length walk)) [
@@ -114,7 +119,8 @@ module _ (g : Graph) where
           (grown k (omega arith) ∙ ap (λ i. get_or walk i 0) f) ∙ is.last (omega arith)
     ]
 
-    -- a process that is not in the walk back is added to it, and a process with an edge to it comes next
+    -- A process that is not in the walk back is added to it, and a process with an edge to it comes next.
+    -- The new process differs from all others, since it isn't among them.
     pub walk_more : (next : ℕ) → process < process_count g → is_in walk process ≡ false →
         has_edge g next process ≡ true →
         IsWalkBack g (walk ++ process ∷ []) next
@@ -139,7 +145,8 @@ module _ (g : Graph) where
           ap (λ i. has_edge g next (get_or (walk ++ process ∷ []) i 0)) e ∙ ap (has_edge g next) end_is ∙ edge);
     }
 
-    -- if the walk back meets itself, the walk from that place on is a cycle
+    -- If the walk back meets itself, the walk from that place on is a cycle.
+    -- Each field is that of the walk, `from` places further on; the last process has an edge from the one at `from`.
     pub walk_meets : (from : ℕ) → from < length walk → get_or walk from 0 ≡ process → IsCycleBack g (drop from walk)
     walk_meets from l at =
         let long = length-drop from walk in
@@ -178,7 +185,8 @@ pub down_within : (m n k : ℕ) → m < n → k < n → place_down m n k < n
 down_within m n k h l =
     elim (cases_lt m k) [ inl a ↦ omega (arith, down_after m n k a) | inr b ↦ omega (arith, down_before m n k b) ]
 
--- going down and around takes no place twice in n steps
+-- Going down and around takes no place twice in n steps.
+-- By whether the steps i and j are before the turn around or after it.
 pub down_apart : (m n i j : ℕ) → m < n → i < j → j < n → place_down m n i ≢ place_down m n j
 down_apart m n i j h a b e = elim (cases_lt m i) [
   | inl c ↦ omega (arith, down_after m n i c, down_after m n j (omega arith))
@@ -188,7 +196,8 @@ down_apart m n i j h a b e = elim (cases_lt m i) [
   ]
 ]
 
--- the next place is one further down, or the highest after the lowest
+-- The next place is one further down, or the highest after the lowest.
+-- By whether step k comes just before the turn around, before that, or after it.
 pub down_next : (m n k : ℕ) → m < n → k < n →
     ((place_down m n k ≡ 0) × (place_down m n (k + 1) ≡ n - 1)) ⊎
     ((0 < place_down m n k) × (place_down m n (k + 1) + 1 ≡ place_down m n k))
@@ -222,7 +231,8 @@ module _ (g : Graph) (back : List ℕ) (is : IsCycleBack g back) (m : ℕ) (insi
         ∙ is.next (place_down m (length back) (k + 1)) (omega (arith, down_within m (length back) k inside l))
   ]
 
-  -- going down and around meets no process twice
+  -- Going down and around meets no process twice.
+  -- The two places differ, so one is before the other, and a cycle has different processes at them.
   down_elements_apart : (i j : ℕ) → i < j → j < length back →
       get_or back (place_down m (length back) i) 0 ≢ get_or back (place_down m (length back) j) 0
   down_elements_apart i j a b e =
@@ -234,7 +244,8 @@ module _ (g : Graph) (back : List ℕ) (is : IsCycleBack g back) (m : ℕ) (insi
         | inr (inr l) ↦ is.apart (place_down m (length back) j) (place_down m (length back) i) 0 l p (sym e)
       ]
 
-  -- a cycle against the edges, read backwards from its least process on, is a cycle of the graph
+  -- A cycle against the edges, read backwards from its least process on, is a cycle of the graph.
+  -- Each step down is one edge forward; the step around the end is the edge that closes the cycle.
   pub cycle_from_back : (walk : List ℕ) →
       walk ≡ map (λ k. get_or back (place_down m (length back) k) 0) (numbers_below (length back))
       → ((k : ℕ) → k < length back → get_or back m 0 ≤ get_or back k 0) → IsCycle g walk

@@ -13,7 +13,8 @@ module _ (key : ℕ → ℕ) where
   abbrev pub with_key : ℕ → ℕ → List ℕ
   with_key n k = filter (λ x. key x == k) (numbers_below n)
 
-  -- when the number n is added to the list of its key, each list has the numbers up to n with its key
+  -- When the number n is added to the list of its key, each list has the numbers up to n with its key.
+  -- List i is that of n's key, which gets n, or another one, which n doesn't belong to.
   filed_at : (n k i : ℕ) (lists : List (List ℕ)) → key n < k → i < k → lists ≡ map (with_key n) (numbers_below k) →
       get_or (set lists (key n) (with_key n (key n) ++ n ∷ [])) i [] ≡ with_key (n + 1) i
   filed_at n k i lists h l is =
@@ -29,7 +30,8 @@ module _ (key : ℕ → ℕ) where
             ∙ filter_below_skips (λ x. key x == i) (with_key n i) n refl (ne_eqb (key n) i (λ e. other (sym e)))
       ]
 
-  -- the next number goes to the end of the list of its key
+  -- The next number goes to the end of the list of its key.
+  -- The lists are equal place by place, by `filed_at`.
   pub filed : (n k : ℕ) (lists : List (List ℕ)) → key n < k → lists ≡ map (with_key n) (numbers_below k) →
       set lists (key n) (with_key n (key n) ++ n ∷ []) ≡ map (with_key (n + 1)) (numbers_below k)
   filed n k lists h is =

@@ -23,9 +23,13 @@ or_nothing false c e = e
 
 -- the first i numbers of a list are below its length and differ, and the marks say which they are
 pub record AreSeen (list : List ℕ) (seen : List Bool) (i : ℕ) : Type 0 where
+  -- there is a mark for each number below the length
   pub long : length seen ≡ length list
+  -- the first i numbers differ
   pub apart : AllPairs (λ x y. x ≢ y) (take i list)
+  -- each is below the length
   pub below : (x : ℕ) → Contains (take i list) x → x < length list
+  -- a mark is set exactly if its number is among them
   pub marks : (x : ℕ) → x < length list → get_or seen x false ≡ is_in (take i list) x
 
 module _ (list : List ℕ) where
@@ -44,10 +48,12 @@ module _ (list : List ℕ) where
     pub seen_more : get_or list i 0 < length list → get_or seen (get_or list i 0) false ≡ false →
         AreSeen list (set seen (get_or list i 0) true) (i + 1)
     seen_more small fresh =
+        -- the number isn't among those before
         let new : is_in (take i list) (get_or list i 0) ≡ false = sym (are.marks (get_or list i 0) small) ∙ fresh in
         -- the numbers so far with this one: different, below the length, and marked
         record {
           long = length-set seen (get_or list i 0) true ∙ are.long;
+          -- the number differs from those before, which differ
           apart = subst (AllPairs (λ x y. x ≢ y)) (sym (take_more list i 0 l))
               (AllPairs-append (λ x y. x ≢ y) (take i list) (get_or list i 0 ∷ []) are.apart
               (AllPairs-cons_by (λ x y. x ≢ y) (get_or list i 0) [] (λ y c. absurd (Contains-nil y c))
@@ -57,6 +63,7 @@ module _ (list : List ℕ) where
                     (is_in_from (take i list) (get_or list i 0) (subst (Contains (take i list)) (e ∙ sym s) c))
                 | inr n ↦ Contains-nil y n
               ]));
+          -- it is below the length, as they are
           below = λ x c. elim (Contains-append_cases (take i list) (get_or list i 0 ∷ []) x
               (subst (λ xs. Contains xs x) (take_more list i 0 l) c)) [
                 | inl d ↦ are.below x d
@@ -65,6 +72,7 @@ module _ (list : List ℕ) where
                   | inr n ↦ absurd (Contains-nil x n)
                 ]
               ];
+          -- a number that is marked now is this one, or was marked before
           marks = λ x m.
               let more = list_any_more (λ y. y == x) list i 0 l in
               elim (cases_eq x (get_or list i 0)) [

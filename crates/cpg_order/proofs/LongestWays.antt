@@ -30,8 +30,11 @@ turn-le false n = omega arith
 
 -- the tails of the last `done` processes of the order are found, and no tail is longer than these processes allow
 pub record AreFound (g : Graph) (order tails : List ℕ) (done : ℕ) : Type 0 where
+  -- there is a tail for each process
   pub long : length tails ≡ process_count g
+  -- the tails of the last `done` processes in the order are found
   pub found : (p : ℕ) → p < process_count g → process_count g ≤ done + place order p → get_or tails p 0 ≡ tail g p
+  -- each process adds at most its execution and a round, which take less than 7 * 10^11 time units
   pub low : (p : ℕ) → get_or tails p 0 ≤ done * 700000000000
 
 -- given a topological order of a graph within the limits
@@ -40,7 +43,8 @@ module _ (g : Graph) (within : IsWithinLimits g) (order : List ℕ) (topological
   order_long : length order ≡ process_count g
   order_long = length_order (process_count g) order topological.all
 
-  -- at the start, with zeros alone, no tail is found
+  -- At the start, with zeros alone, no tail is found.
+  -- No process has a place behind the end of the order, so there is nothing to show of tails.
   pub none_found : (tails : List ℕ) → length tails ≡ process_count g →
       ((p : ℕ) → p < process_count g → get_or tails p 0 ≡ 0) →
       AreFound g order tails 0
@@ -79,7 +83,8 @@ module _ (g : Graph) (within : IsWithinLimits g) (order : List ℕ) (topological
         ∙ ap (λ k. get_or order k 0) e
         ∙ get_or-place order p 0 (Contains-order (process_count g) order topological.all p inside)
 
-    -- with the tail of the next process, going backwards through the order, one more is found
+    -- With the tail of the next process, going backwards through the order, one more is found.
+    -- A process is p, whose tail was set, or one after it in the order, whose tail was found before.
     pub found_more : AreFound g order (set tails p (duration g p 0 + longest_from g tails p)) (done + 1)
     found_more = record {
       long = length-set tails p _ ∙ are.long;

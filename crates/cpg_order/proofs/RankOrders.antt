@@ -62,7 +62,8 @@ module _ (tails : List ℕ) (sorted : List UrgencyRank)
       (sym (get_or-map (rank_of tails) (numbers_below (length tails)) k 0 d
       (omega (arith, length-map (numbers_below (length tails)) (rank_of tails))))) refl)
 
-  -- of two neighbours in the sorted ranks the first goes first
+  -- Of two neighbours in the sorted ranks the first goes first.
+  -- The tails in the ranks are those of their processes, and the two processes differ, since none stands twice.
   one_after : (k : ℕ) (r s : UrgencyRank) → k + 1 < length sorted → r ≡ get_or sorted k r →
       s ≡ get_or sorted (k + 1) r →
       (s.tail.0 < r.tail.0) ⊎ ((r.tail.0 ≡ s.tail.0) × (r.process ≤ s.process)) →
@@ -87,7 +88,8 @@ module _ (tails : List ℕ) (sorted : List UrgencyRank)
             (omega arith) (omega arith)
       ]
 
-  -- the processes of sorted ranks are ranked: a longer way first, and of equal ones the lower number
+  -- The processes of sorted ranks are ranked: a longer way first, and of equal ones the lower number.
+  -- The order is transitive, so it is enough that each goes before its neighbour.
   pub ranked_from_sorted : ((k : ℕ) (d : UrgencyRank) → k + 1 < length sorted →
       ((get_or sorted (k + 1) d).tail.0 < (get_or sorted k d).tail.0) ⊎
       (((get_or sorted k d).tail.0 ≡ (get_or sorted (k + 1) d).tail.0) ×
@@ -113,7 +115,8 @@ module _ (tails : List ℕ) (sorted : List UrgencyRank)
 
 -- ---- the urgency order
 
--- processes ranked by their tails are in urgency order
+-- Processes ranked by their tails are in urgency order.
+-- The tail at each process is the graph's, so both orders compare the same numbers.
 pub urgency_from_ranks : (g : Graph) (tails order : List ℕ) → tails ≡ map (tail g) (numbers_below (process_count g)) →
     AreRanked tails order →
     IsUrgencyOrder g order

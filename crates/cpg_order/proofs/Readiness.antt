@@ -68,11 +68,12 @@ permutation_of_all n xs apart below long = permutation_of_same (numbers_below n)
 
 -- ---- ready processes
 
--- no number stands twice
+-- no number of a list stands in it twice
 abbrev Apart : List ℕ → Type 0
 Apart xs = AllPairs (λ x y. x ≢ y) xs
 
--- at the start those processes are ready that wait for no input
+-- At the start those processes are ready that wait for no input.
+-- They are a filter of the numbers, which are all different.
 pub ready_first : (waiting ready : List ℕ) →
     ready ≡ filter (λ p. get_or waiting p 0 == 0) (numbers_below (length waiting)) →
     AreReady waiting ready
@@ -105,7 +106,8 @@ module _ (waiting ready : List ℕ) (are : AreReady waiting ready) (p left : ℕ
   kept_all q n l e =
       are.all q (omega (arith, length-set waiting p left)) (sym (get_or-set_other waiting p q left 0 n) ∙ e)
 
-  -- while a process still waits for inputs, the same processes are ready
+  -- While a process still waits for inputs, the same processes are ready.
+  -- p wasn't ready and isn't now; for any other process nothing changed.
   pub ready_kept : left ≢ 0 → AreReady (set waiting p left) ready
   ready_kept some = record {
     apart = are.apart;
@@ -117,7 +119,8 @@ module _ (waiting ready : List ℕ) (are : AreReady waiting ready) (p left : ℕ
     ];
   }
 
-  -- a process that waits for no more inputs becomes ready
+  -- A process that waits for no more inputs becomes ready.
+  -- p is new among the ready ones, since it waited before; for any other process nothing changed.
   pub ready_more : left ≡ 0 → AreReady (set waiting p left) (ready ++ p ∷ [])
   ready_more none = record {
     apart = AllPairs-append (λ x y. x ≢ y) ready (p ∷ []) are.apart
@@ -150,6 +153,7 @@ passing p xs = length (filter p xs)
 passing_one : (p : ℕ → Bool) (x : ℕ) (xs : List ℕ) → passing p (x ∷ xs) ≡ cond (p x) 1 0 + passing p xs
 passing_one p x xs = go (p x)
   where
+    -- by whether the first number passes
     go : (b : Bool) → length (cond b (x ∷ filter p xs) (filter p xs)) ≡ cond b 1 0 + length (filter p xs)
     go true = omega arith
     go false = omega arith
@@ -189,7 +193,8 @@ all_passing p (x ∷ xs) h = let r = all_passing p xs h in
     let t : cond {A = ℕ} (p x) 1 0 ≡ 1 = ap {B = ℕ} (λ b. cond b 1 0) (h x) in
     omega arith
 
--- one element is counted alike on both sides
+-- One element is counted alike on both sides.
+-- By whether the element passes the first test (tx), and whether it is the one that was settled (sx).
 one_of : (tx sx ux vx : Bool) (a b c : ℕ) → (sx ≡ true → ux ≡ true) → (sx ≡ true → vx ≡ false) →
     (sx ≡ false → ux ≡ vx) → a ≡ b + c
     → cond tx (cond ux 1 0) 0 + a ≡ cond tx (cond vx 1 0) 0 + b + (cond sx (cond tx 1 0) 0 + c)
@@ -277,7 +282,8 @@ Contains-take xs i j x l c =
       get_or-take j xs c.0 x (omega (arith, c.1)) ∙ sym (get_or-take i xs c.0 x (omega (arith, c.1))) ∙ c.2,
     )
 
--- in a list of different numbers none occurs before its own place
+-- In a list of different numbers none occurs before its own place.
+-- A number before the place would be equal to the one at it.
 pub apart_before : (xs : List ℕ) (d : ℕ) → Apart xs → d < length xs → is_in (take d xs) (get_or xs d 0) ≡ false
 apart_before xs d apart l = elim (cases_Bool (is_in (take d xs) (get_or xs d 0))) [
   | inl t ↦
@@ -318,7 +324,8 @@ module _ (g : Graph) (waiting : List ℕ) where
         ∙ ap (λ xs. waits g xs q + passing (λ e. target g e == q) (outputs g (get_or ready d 0)))
         (sym (take_more ready d 0 more))
 
-    -- no process has more inputs from the next settled process than it waits for
+    -- No process has more inputs from the next settled process than it waits for.
+    -- A process of the graph waits for at least these inputs, and no edge leads to any other number.
     pub enough : ((e : ℕ) → e < edge_count g → target g e < process_count g) → (q : ℕ) →
         passing (λ e. target g e == q) (outputs g (get_or ready d 0)) ≤ get_or waiting q 0
     enough ends q = elim (cases_lt q (process_count g)) [
@@ -377,7 +384,8 @@ module _ (g : Graph) (waiting ready : List ℕ) (are : AreSettled g (length read
   pub settled_all : process_count g ≤ length ready → IsPermutation (numbers_below (process_count g)) ready
   settled_all long = permutation_of_all (process_count g) ready are.listed.apart ready_below long
 
-  -- if all processes are settled, they stand in a topological order
+  -- If all processes are settled, they stand in a topological order.
+  -- The target of each edge is among them, and its sources stand before it.
   pub settled_topological : ((e : ℕ) → e < edge_count g → target g e < process_count g) →
       process_count g ≤ length ready →
       IsTopological g ready
@@ -405,7 +413,8 @@ module _ (g : Graph) (waiting ready : List ℕ) (are : AreSettled g (length read
     | inr n ↦ omega arith
   ]
 
-  -- if some processes are left, each of them waits for another one of them
+  -- If some processes are left, each of them waits for another one of them.
+  -- Not all are ready, so one is left; one that isn't ready waits for an input whose source isn't ready either.
   pub settled_stuck : ((e : ℕ) → e < edge_count g → source g e < process_count g) → length ready < process_count g →
       AreStuck g waiting
   settled_stuck ends short = record {
@@ -455,7 +464,8 @@ pub within_waiting : (waiting : List ℕ) (p : ℕ) → 0 < get_or waiting p 0 �
 within_waiting waiting p h =
     elim (cases_lt p (length waiting)) [ inl l ↦ l | inr l ↦ absurd (omega (arith, get_or_past waiting p 0 l)) ]
 
--- after one more edge its target waits for one input less, and the sums with the edges done stay the same
+-- After one more edge its target waits for one input less, and the sums with the edges done stay the same.
+-- p is the target, of which one edge more is done and one input less is left, or another process, of which nothing changes.
 pub left_next : (f : ℕ → ℕ) (xs waiting next : List ℕ) (old : ℕ → ℕ) (i t : ℕ) → i < length xs → t ≡ f (get_or xs i 0) →
     0 < get_or waiting t 0 →
     next ≡ set waiting t (get_or waiting t 0 - 1)

@@ -43,12 +43,17 @@ module _ (g : Graph) where
 
   -- where the outcomes first differ
   pub record FirstDiffers (o p : List Bool) (c : ℕ) : Type 0 where
+    -- the condition is one of the graph
     pub within : c < condition_count g
+    -- it is false in the first outcome
     pub one : get_or o c false ≡ false
+    -- it is true in the second
     pub other : get_or p c false ≡ true
+    -- the outcomes agree on all more urgent conditions
     pub same : agree_on (earlier_conditions g c) o p ≡ true
 
-  -- an outcome that comes before another is false at the first condition at which they differ
+  -- An outcome that comes before another is false at the first condition at which they differ.
+  -- The condition is the one that passes the test, and these are the parts of the test.
   pub before_parts : (o p : List Bool) → is_outcome_before g o p ≡ true → (c : ℕ) × FirstDiffers o p c
   before_parts o p e =
       let r = list_any_parts (λ c. not (get_or o c false) && get_or p c false && agree_on (earlier_conditions g c) o p)
@@ -74,10 +79,13 @@ module _ (g : Graph) where
       (and_from (not (get_or o c false) && get_or p c false) (agree_on (earlier_conditions g c) o p)
       (and_from (not (get_or o c false)) (get_or p c false) (not_from_false (get_or o c false) h.one) h.other) h.same)
 
-  -- of two outcomes at most one comes before the other
+  -- Of two outcomes at most one comes before the other.
+  -- The two first conditions at which they differ are different, and one is more urgent; at that one the outcomes would
+  -- agree.
   pub before_one_way : (o p : List Bool) → is_outcome_before g o p ≡ true → is_outcome_before g p o ≡ true → ⊥
   before_one_way o p h k = go (before_parts o p h) (before_parts p o k)
     where
+      -- by which of the two first differences is the more urgent
       go : (c : ℕ) × FirstDiffers o p c → (d : ℕ) × FirstDiffers p o d → ⊥
       go a b = elim (urgent_total g (process_of g a.0) (process_of g b.0)
           (conditions_apart a.0 b.0 (a.1).within (b.1).within ne)) [
@@ -87,6 +95,7 @@ module _ (g : Graph) where
                 (a.1).same (Contains-earlier a.0 b.0 (b.1).within m) ∙ (b.1).one)
           ]
         where
+          -- the two conditions differ, since their values do
           ne : a.0 ≢ b.0
           ne e = true≢false (sym (b.1).other ∙ ap (λ c. get_or o c false) (sym e) ∙ (a.1).one)
 
@@ -122,6 +131,7 @@ module _ (g : Graph) where
             })
           ]
         where
+          -- the two conditions differ, since their values do
           ne : a.0 ≢ b.0
           ne e = true≢false (sym (a.1).other ∙ ap (λ c. get_or p c false) e ∙ (b.1).one)
 
@@ -162,7 +172,8 @@ module _ (g : Graph) where
     in_order : List ℕ
     in_order = sorted sooner (filter (differ o p) (numbers_below (condition_count g)))
 
-    -- the conditions in which o and p differ are listed, no others are, and they stand by urgency
+    -- The conditions in which o and p differ are listed, no others are, and they stand by urgency.
+    -- The list is a filter of all conditions, sorted by urgency, which is total on them.
     listed : Listed in_order
     unfolding in_order
     listed =
@@ -184,10 +195,12 @@ module _ (g : Graph) where
               (numbers_apart (condition_count g))),
         )
 
-    -- there is one, since the outcomes differ
+    -- There is one, since the outcomes differ.
+    -- Were there none, they would agree on each condition, and so be equal.
     not_empty : in_order ≡ [] → ⊥
     not_empty e = some_differ (none (filter (differ o p) (numbers_below (condition_count g))) refl)
       where
+        -- by whether some condition differs in the outcomes
         none : (xs : List ℕ) → filter (differ o p) (numbers_below (condition_count g)) ≡ xs → xs ≡ []
         none [] f = refl
         none (c ∷ cs) f =
@@ -202,6 +215,7 @@ module _ (g : Graph) where
     first_of [] e = absurd (not_empty e)
     first_of (c ∷ cs) e = go (get_or o c false) (get_or p c false) refl refl
       where
+        -- what is known of the listed conditions, with c as the first of them
         here : Listed (c ∷ cs)
         here = subst Listed e listed
 
@@ -227,7 +241,8 @@ module _ (g : Graph) where
         differs : same_bool (get_or o c false) (get_or p c false) ≡ false
         differs = not-true (same_bool (get_or o c false) (get_or p c false)) (here.0 c (Contains-first c cs)).1
 
-        -- the outcome that has c false comes first
+        -- The outcome that has c false comes first.
+        -- By the two values, which can't be the same.
         go : (a b : Bool) → get_or o c false ≡ a → get_or p c false ≡ b →
             (is_outcome_before g o p ≡ true) ⊎ (is_outcome_before g p o ≡ true)
         go true true x y = absurd (both_ways (same_bool (get_or o c false) (get_or p c false)) differs
@@ -257,7 +272,8 @@ module _ (g : Graph) where
 
 -- ---- there is one
 
--- each graph has a list of tracks
+-- Each graph has a list of tracks.
+-- All tracks, sorted: of two different outcomes of one length one comes first.
 pub tracks_exist : (g : Graph) → (tracks : List (List Bool)) × AreTracks g tracks
 tracks_exist g = let all : List (List Bool) = filter (is_track g) (outcomes (condition_count g)) in (
   sorted (is_outcome_before g) all,
@@ -294,6 +310,7 @@ module _ (g : Graph) (free : (c : ℕ) → c < condition_count g → inputs g (p
       (λ c k. let l = numbers-Contains (condition_count g) c k in
       or_right (not (get_or o c false)) (active g o (process_of g c)) (there c l (process_count g) refl))
     where
+      -- by the number of processes, which isn't 0 if there is a condition
       there : (c : ℕ) → c < condition_count g → (n : ℕ) → process_count g ≡ n →
           is_active (activation_within n g o (process_of g c)) ≡ true
       there c l zero e = absurd (omega (arith, process_of_below g c l))

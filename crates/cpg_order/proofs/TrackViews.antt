@@ -37,7 +37,8 @@ module _ (g : Graph) where
   abbrev if_quiet : List ℕ → List Bool → ℕ
   if_quiet reached o = cond (is_quiet g reached o) (views_of_outcome g reached o) 0
 
-  -- an outcome that is no track has no views, as it isn't quiet
+  -- An outcome that is no track has no views, as it isn't quiet.
+  -- A quiet outcome is a track; one that isn't quiet has 0 on both sides.
   none_but_tracks : (reached : List ℕ) (o : List Bool) → if_quiet reached o ≡ cond (is_track g o) (if_quiet reached o) 0
   none_but_tracks reached o = ⊎_elim
       (λ (t : is_quiet g reached o ≡ true). ap (λ b. cond b (if_quiet reached o) 0) (sym (track_of_quiet reached o t)))
@@ -47,11 +48,13 @@ module _ (g : Graph) where
       ap (λ n. cond (is_track g o) n 0) (sym e))
       (cases_Bool (is_quiet g reached o))
     where
+      -- the same number on both sides of a test is that number
       stays : (b : Bool) (n : ℕ) → cond b n n ≡ n
       stays true n = refl
       stays false n = refl
 
-  -- the views of a reach are the sum of the views of the tracks that are quiet
+  -- The views of a reach are the sum of the views of the tracks that are quiet.
+  -- Outcomes that aren't quiet add nothing, nor do those that are no tracks, so tracks alone are left.
   pub views_of_tracks : (reached : List ℕ) (tracks : List (List Bool)) → process_count g ≤ 128 → AreTracks g tracks →
       views g reached ≡ sum_by (views_of_outcome g reached) (filter (is_quiet g reached) tracks)
   views_of_tracks reached tracks few are =
@@ -74,7 +77,8 @@ module _ (g : Graph) where
       let b = length-range_with_len 0 (process_count g) in omega arith)
       g.faults faults
 
-  -- with at most 16,384 tracks a reach has at most 2^56 views
+  -- With at most 16,384 tracks a reach has at most 2^56 views.
+  -- 2^14 tracks of at most 2^42 views each.
   pub views_small : process_count g ≤ 128 → g.faults ≤ 8 → (reached : List ℕ) (tracks : List (List Bool)) →
       AreTracks g tracks → length tracks ≤ 16384 →
       views g reached ≤ 2 ^ 56

@@ -40,6 +40,7 @@ module _ (g : Graph) where
       (Contains-append_cases (chosen g reached cs o)
       (cond (is_value_free g reached o c) (chosen g reached cs (set o c true)) []) q k)
     where
+      -- by whether the condition may be true: only then are there outcomes with it
       second : (b : Bool) → Contains (cond b (chosen g reached cs (set o c true)) []) q →
           (Contains (chosen g reached cs (set o c true)) q → get_or (set o c true) d false ≡ get_or q d false) →
           get_or o d false ≡ get_or q d false
@@ -63,11 +64,12 @@ module _ (g : Graph) where
       both_ways (get_or o r.0 false) (not-true (get_or o r.0 false) q.0) q.1
 
   module _ (order : List ℕ) (urgency : IsUrgencyOrder g order) (reached : List ℕ) where
-    -- the place of a condition's process
+    -- the place of a condition's process in the order
     abbrev at : ℕ → ℕ
     at c = place order (process_of g c)
 
-    -- an outcome that is false at c comes before one that is true at c, if both agree on the earlier conditions
+    -- An outcome that is false at c comes before one that is true at c, if both agree on the earlier conditions.
+    -- c is the condition that the test asks for.
     false_first : (c : ℕ) (q r : List Bool) → c < condition_count g → get_or q c false ≡ false →
         get_or r c false ≡ true → ((e : ℕ) → at e < at c → get_or q e false ≡ get_or r e false) → Before q r
     false_first c q r h x y agree =
@@ -113,6 +115,7 @@ module _ (g : Graph) where
         ∙ sym (get_or-set_other o c e true false (λ m. let x = ap at m in omega arith)) ∙
         agree_chosen reached cs (set o c true) r k e (earlier e l))))
       where
+        -- by whether the condition may be true: only then are there outcomes with it
         if_free : (b : Bool) → AllPairs Before (chosen g reached cs (set o c true)) →
             AllPairs Before (cond b (chosen g reached cs (set o c true)) [])
         if_free true p = p
@@ -127,7 +130,9 @@ module _ (g : Graph) where
 
   -- ---- the tracks
 
-  -- the outcomes chosen along an urgency order that is topological are the tracks, in order
+  -- The outcomes chosen along an urgency order that is topological are the tracks, in order.
+  -- The chosen outcomes are the quiet ones with every value in reach, which are the tracks. Each differs from the others,
+  -- since it comes before or after them.
   pub tracks_are : (order : List ℕ) → IsUrgencyOrder g order → IsTopological g order →
       AreTracks g (tracks_along g order)
   tracks_are order urgency topological =

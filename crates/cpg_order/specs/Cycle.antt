@@ -3,15 +3,19 @@ use Rattle.std.specs.Prelude.{ℕ, ◌+◌, ◌-◌, ◌≢◌, ◌<◌, ◌≤�
 use Rattle.std.specs.List.{list_any}
 use Rattle.cpg_base.specs.Graph.{Graph}
 
--- whether an edge leads from one process to another
+-- whether an edge leads from process p to process q
 abbrev pub has_edge : Graph → ℕ → ℕ → Bool
 has_edge g p q = list_any (λ e. (e.from == p) && (e.to == q)) g.edges
 
--- different processes, the least first, each with an edge to the next and the last with one to the first
+-- A walk is a cycle if it has processes, all different, and each has an edge to the next and the last one to the first.
+-- The least comes first, so that each cycle is listed in one way only.
 pub record IsCycle (g : Graph) (walk : List ℕ) : Type 0 where
+  -- it has processes, and all are different
   pub some : 0 < length walk
   pub apart : AllPairs (λ p q. p ≢ q) walk
+  -- the first process is the least
   pub least : (k : ℕ) → k < length walk → get_or walk 0 0 ≤ get_or walk k 0
+  -- edges lead from each process to the next, and from the last back to the first
   pub next : (k : ℕ) → k + 1 < length walk → IsTrue (has_edge g (get_or walk k 0) (get_or walk (k + 1) 0))
   pub back : IsTrue (has_edge g (get_or walk (length walk - 1) 0) (get_or walk 0 0))
 

@@ -11,12 +11,12 @@ use Rattle.cpg_order.specs.Urgency.{tail, IsUrgencyOrder, IsTopological}
 use Rattle.cpg_order.specs.Cycle.{HasCycle}
 use Rattle.cpg_order.specs.Deciding.{decides, deciding, agree_on}
 
--- each graph has one urgency order
+-- each graph has exactly one urgency order
 abbrev pub HasOneUrgencyOrder : Type 0
 HasOneUrgencyOrder = (g : Graph) →
     ((order : List ℕ) × IsUrgencyOrder g order) × ((a b : List ℕ) → IsUrgencyOrder g a → IsUrgencyOrder g b → a ≡ b)
 
--- if a graph has a topological order, its urgency order is one
+-- if a graph within the limits has some topological order, its urgency order is topological too
 abbrev pub UrgencyOrderIsTopological : Type 0
 UrgencyOrderIsTopological = (g : Graph) (some order : List ℕ) → IsWithinLimits g → IsTopological g some →
     IsUrgencyOrder g order → IsTopological g order
@@ -25,19 +25,19 @@ UrgencyOrderIsTopological = (g : Graph) (some order : List ℕ) → IsWithinLimi
 abbrev pub OrderLeavesNoCycle : Type 0
 OrderLeavesNoCycle = (g : Graph) (order : List ℕ) → IsTopological g order → HasCycle g → ⊥
 
--- under a topological order a process is active by its inputs, an input being live by its source
+-- In a graph with a topological order, a process is active by its inputs as `activation_by` says: depths play no part.
 abbrev pub ActivationFollowsInputs : Type 0
 ActivationFollowsInputs =
     (g : Graph) (order : List ℕ) → IsTopological g order → (values : List Bool) (p : ℕ) → p < process_count g →
     activation g values p ≡ activation_by (process_at g p).join (inputs g p) (live g values)
 
--- under a topological order a way goes on over the output with the longest way
+-- in a graph with a topological order, a tail is the process's execution and then the longest way over one of its outputs
 abbrev pub TailFollowsOutputs : Type 0
 TailFollowsOutputs = (g : Graph) (order : List ℕ) → IsTopological g order → (p : ℕ) → p < process_count g →
     tail g p ≡ duration g p 0
     + greatest (map (λ e. (if is_message g e then round g else 0) + tail g (target g e)) (outputs g p))
 
--- the process of a condition that decides another process is active
+-- if a condition decides a process in an outcome, the condition's own process is active in that outcome
 abbrev pub DecidingIsActive : Type 0
 DecidingIsActive = (g : Graph) (order : List ℕ) → IsUrgencyOrder g order → IsTopological g order →
     (values : List Bool) (p c : ℕ) → c < condition_count g →

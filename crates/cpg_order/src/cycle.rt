@@ -9,26 +9,31 @@ use crate::Links;
 use cpg_base::{OutOfMemory, Problem};
 use std::alloc::Global;
 
-/// Some process that waits for an input.
+/// Returns the least process that waits for an input.
 fn waiting_process(problem: &Problem, waiting: &[u32]) -> u32
+    // some process waits, and each that waits does so for one that waits
     requires { AreStuck problem.now waiting.now }
     ensures within { result < process_count problem.now }
     ensures waits { 0 < get_or waiting.now result 0 }
 {
     for process in 0..problem.processes().len() as u32 {
+        // processes are met by number, so this is the least
         if waiting[process as usize] > 0 {
             return process;
         }
     }
+    // some process waits
     unreachable!()
 }
 
-/// A waiting process with an edge to this waiting process.
+/// Returns the source of the first input of a waiting process that comes from a waiting process.
 fn waiting_source(problem: &Problem, links: &Links, waiting: &[u32], process: u32) -> u32
     requires links { links.now ≡ links_of problem.now }
+    // some process waits, and each that waits does so for one that waits
     requires stuck { AreStuck problem.now waiting.now }
     requires within { process < process_count problem.now }
     requires waits { 0 < get_or waiting.now process 0 }
+    // the source is a process that waits, with an edge to this one
     ensures within { result < process_count problem.now }
     ensures waits { 0 < get_or waiting.now result 0 }
     ensures edge { IsTrue (has_edge problem.now result process) }
@@ -39,26 +44,28 @@ fn waiting_source(problem: &Problem, links: &Links, waiting: &[u32], process: u3
             return source;
         }
     }
+    // each process that waits does so for one that waits
     unreachable!()
 }
 
-/// The place of a process in a walk, if it is there.
+/// Returns the place of a process in a walk, and `None` exactly if it isn't there.
 fn place_in(walk: &[u32], process: u32) -> Option<usize>
     ensures { result ≡ position (λ p. p == process) walk.now }
 {
     walk.iter().position(|p| *p == process)
 }
 
-/// A walk against the edges, and the place in it that the next step would lead back to.
+/// A walk against the edges that has met itself.
 #[derive(Drop)]
 struct WalkBack {
-    /// The processes of the walk, each with an edge from the next.
+    /// The processes of the walk, each with an edge from the next. They are all different.
     walk: Vec<u32>,
-    /// The place in the walk that the next step would lead back to.
+    /// The place of the process to which one more step would lead. The cycle is the walk from here on.
     from: usize,
 }
 
-/// Walks against the edges until the walk meets itself.
+/// Returns the walk against the edges from the least waiting process, always on to a waiting source, until the next
+/// process is in it already.
 fn walk_back(
     alloc: Global,
     problem: &Problem,
@@ -66,15 +73,18 @@ fn walk_back(
     waiting: &[u32],
 ) -> Result<WalkBack, OutOfMemory>
     requires links { links.now ≡ links_of problem.now }
+    // some process waits, and each that waits does so for one that waits
     requires stuck { AreStuck problem.now waiting.now }
     ensures within { IfOk result (λ w. w.from < length w.walk.items) }
+    // the walk from that place on is a cycle, listed against its edges
     ensures cycle { IfOk result (λ w. IsCycleBack problem.now (drop w.from w.walk.items)) }
 {
     let mut walk = Vec::new(alloc);
+    // the processes of a walk are different, so there are no more than these
     walk.reserve(waiting.len())?;
     let mut process = waiting_process(problem, waiting);
     loop {
-        // the walk has met itself
+        // the walk meets itself here
         if let Some(from) = place_in(walk.as_slice(), process) {
             return Ok(WalkBack { walk, from });
         }
@@ -83,7 +93,7 @@ fn walk_back(
     }
 }
 
-/// The place of the least number.
+/// Returns the place of the least of these numbers, and the first such place if there are several.
 fn least_place(numbers: &[u32]) -> usize
     requires { 0 < length numbers.now }
     ensures within { result < length numbers.now }
@@ -91,6 +101,7 @@ fn least_place(numbers: &[u32]) -> usize
 {
     let mut least = 0;
     for (place, number) in numbers.iter().enumerate() {
+        // an equal number doesn't count, so the first place stays
         if *number < numbers[least] {
             least = place;
         }
@@ -98,9 +109,10 @@ fn least_place(numbers: &[u32]) -> usize
     least
 }
 
-/// A cycle in the direction of its edges, from the least process on.
+/// Returns the cycle that `back` lists against its edges, now in their direction and from its least process on.
 fn forwards(alloc: Global, back: &[u32]) -> Result<Vec<u32>, OutOfMemory>
     requires { 0 < length back.now }
+    // if the list is a cycle told backwards, the walk is the cycle
     ensures { IfOk result (λ walk. (g : Graph) → IsCycleBack g back.now → IsCycle g walk.items) }
 {
     let mut walk = Vec::new(alloc);
@@ -108,7 +120,7 @@ fn forwards(alloc: Global, back: &[u32]) -> Result<Vec<u32>, OutOfMemory>
     let mut place = least_place(back);
     for _ in 0..back.len() {
         walk.push(back[place])?;
-        // one step down, and from the start around to the end
+        // along the edges is backwards in the list, and from its first process around to the last
         place = if place == 0 {
             back.len() - 1
         } else {
@@ -118,7 +130,8 @@ fn forwards(alloc: Global, back: &[u32]) -> Result<Vec<u32>, OutOfMemory>
     Ok(walk)
 }
 
-/// A cycle of edges of a graph in which some processes wait for each other.
+/// Returns a cycle of a graph in which some processes wait, each for the source of an input that waits too. The cycle
+/// follows the edges and begins with its least process.
 pub(crate) fn cycle(
     alloc: Global,
     problem: &Problem,
@@ -126,9 +139,11 @@ pub(crate) fn cycle(
     waiting: &[u32],
 ) -> Result<Vec<u32>, OutOfMemory>
     requires links { links.now ≡ links_of problem.now }
+    // some process waits, and each that waits does so for one that waits
     requires stuck { AreStuck problem.now waiting.now }
     ensures { IfOk result (λ walk. IsCycle problem.now walk.items) }
 {
     let found = walk_back(alloc, problem, links, waiting)?;
+    // what the walk has before this place leads to the cycle, but isn't part of it
     forwards(alloc, &found.walk[found.from..])
 }

@@ -4,9 +4,11 @@ ghost use Rattle.std.specs.Prelude.{◌≡◌};
 use cpg_base::OutOfMemory;
 use std::marker::Model;
 
-/// Different processes in the order in which edges lead through them, seen as their numbers.
+/// Processes along edges, seen as their numbers. In a fault it is a cycle: all are different, and the last has an edge to
+/// the first.
 #[derive(Debug, Drop)]
 pub struct Walk {
+    /// The numbers of the processes, along the edges.
     processes: Vec<u32>,
 }
 
@@ -19,14 +21,14 @@ impl Model for Walk {
 }
 
 impl Walk {
-    /// A walk through these processes.
+    /// Returns the walk through these processes, which are listed along edges.
     pub(crate) fn through(processes: Vec<u32>) -> Walk
         ensures { result ≡ processes.items }
     {
         Walk { processes }
     }
 
-    /// The numbers of the processes.
+    /// Returns the numbers of the processes.
     pub fn processes(&self) -> &[u32]
         ensures { result.now ≡ self.now }
     {
@@ -34,10 +36,10 @@ impl Walk {
     }
 }
 
-/// Why there is no urgency order.
+/// Why no urgency order is returned for a graph.
 #[derive(Debug, Drop)]
 pub enum OrderFault {
-    /// The edges lead around in a cycle: this one, the least process first.
+    /// The edges lead around in a cycle: this one, which begins with its least process.
     Cycle(Walk),
     /// Out of memory.
     OutOfMemory,

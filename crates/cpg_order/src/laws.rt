@@ -1,12 +1,12 @@
 //! Laws on orders, activations, tails and deciding conditions.
 ghost use Rattle.cpg_order.specs.Laws.{HasOneUrgencyOrder, UrgencyOrderIsTopological, OrderLeavesNoCycle, ActivationFollowsInputs, TailFollowsOutputs, DecidingIsActive, DecidingFixesActivation};
 
-/// Each graph has one urgency order.
+/// Each graph has exactly one urgency order.
 pub fn has_one_urgency_order()
     ensures { HasOneUrgencyOrder }
 {}
 
-/// If a graph has a topological order, its urgency order is one.
+/// If a graph within its limits has some topological order, its urgency order is topological too.
 pub fn urgency_order_is_topological()
     ensures { UrgencyOrderIsTopological }
 {}
@@ -16,17 +16,18 @@ pub fn order_leaves_no_cycle()
     ensures { OrderLeavesNoCycle }
 {}
 
-/// Under a topological order a process is active by its inputs.
+/// In a graph with a topological order, a process is active by its inputs, and each of these is live by its source.
 pub fn activation_follows_inputs()
     ensures { ActivationFollowsInputs }
 {}
 
-/// Under a topological order the longest way from a process goes on over one of its outputs.
+/// In a graph with a topological order, the longest way from a process is its execution, and then the longest way on over
+/// one of its outputs.
 pub fn tail_follows_outputs()
     ensures { TailFollowsOutputs }
 {}
 
-/// The process of a condition that decides another one is active.
+/// If a condition decides a process in an outcome, the condition's own process is active in that outcome.
 pub fn deciding_is_active()
     ensures { DecidingIsActive }
 {}

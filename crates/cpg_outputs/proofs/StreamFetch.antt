@@ -6,7 +6,7 @@ use Rattle.cpg_io.specs.State.{SinkState}
 use Rattle.cpg_live.specs.Following.{IsStreamed, Stream}
 use Rattle.cpg_live.specs.declared.following.Broken.{Broken}
 
--- a stream that was followed, to its close or not, is one fetch more
+-- following a stream adds one fetch to the history, whether it came to the close or broke off
 pub fetch_of : (Is : Stream → Type 0) (Breaks : Broken → Stream → Type 0) (name : List ℕ) (past now : List Fetch)
     (start : List ℕ) (old new : SinkState) (result : Result Unit Broken) →
     MatchResult result (λ _. IsStreamed Is name past now start old new)

@@ -1,4 +1,4 @@
--- The lines of a tuning: where one list is used up.
+-- The lines of the parts of all processes, when a walk over both lists has come to the end of one.
 use Rattle.std.proofs.Common.{ℕ, ◌≡◌, ◌⊎◌, ◌∙◌, List, [], ◌∷◌, ◌++◌, length, refl, sym, ap, inl, inr, arith, append-nil}
 use Rattle.cpg_base.specs.declared.process.Process.{Process}
 use Rattle.cpg_outputs.specs.Tunes.{parts_lines}
@@ -10,7 +10,7 @@ parts_done (p ∷ ps) [] e = refl
 parts_done (p ∷ ps) (n ∷ parts) (inl e) = absurd (let l = ap length e in omega (arith, l))
 parts_done (p ∷ ps) (n ∷ parts) (inr e) = absurd (let l = ap length e in omega (arith, l))
 
--- once the processes or the counts are used up, the lines so far are all
+-- `whole` is what is written now and then the lines of what is left; if one list is used up, it is just what is written
 pub parts_whole : (ps : List Process) (parts whole now : List ℕ) → whole ≡ now ++ parts_lines ps parts →
     (ps ≡ []) ⊎ (parts ≡ []) → now ≡ whole
 parts_whole ps parts whole now h e = sym (h ∙ (ap (λ rest. now ++ rest) (parts_done ps parts e) ∙ append-nil now))

@@ -5,7 +5,7 @@ use Rattle.cpg_io.specs.Sink.{Took, TookPrefix}
 use Rattle.cpg_io.specs.State.{SinkState}
 use Rattle.cpg_codec.specs.declared.fault.WriteFault.{WriteFault}
 
--- what a run sees of a sink: its count of faults and its bytes, before and after
+-- a sink before and after a run
 pub record SinkSeen : Type 0 where
   -- the count of faults before the run, and after
   pub before : ℕ
@@ -14,11 +14,11 @@ pub record SinkSeen : Type 0 where
   pub old : List ℕ
   pub new : List ℕ
 
--- what a run sees of a sink, from the sink's states before and after
+-- what was written to a sink, from its states before and after a run
 abbrev pub sent : SinkState → SinkState → SinkSeen
 sent old new = record { before = old.faults; now = new.faults; old = old.taken; new = new.taken }
 
--- the sink took the bytes whole, and met no fault
+-- the sink took just these bytes, and met no fault
 pub record Whole (sink : SinkSeen) (bytes : List ℕ) : Type 0 where
   pub faultless : sink.now ≡ sink.before
   pub taken : Took sink.old sink.new bytes
@@ -33,14 +33,15 @@ pub record Part (sink : SinkSeen) (bytes : List ℕ) : Type 0 where
   pub rose : Rose sink.before sink.now
   pub prefix : TookPrefix sink.old sink.new bytes
 
--- Bytes were sent to a sink under a status. Status 3 means that the sink met a fault; under any other they were taken
--- whole.
+-- bytes were sent to a sink, and the status tells how that went
 pub record Sent (sink : SinkSeen) (status wanted : ℕ) (bytes : List ℕ) : Type 0 where
+  -- any status but 3 is the wanted one, and the sink took the bytes whole
   pub whole : status ≢ 3 → (status ≡ wanted) × Whole sink bytes
+  -- status 3 means that the sink met a fault
   pub part : status ≡ 3 → Part sink bytes
 
--- The result of writing an output. At Ok it was taken whole. After a fault only a part was taken, and if memory ran
--- out, nothing was.
+-- What a sink took of an output, by the result of writing it: all of it, a proper prefix at a fault, or nothing if memory
+-- ran out before anything was written.
 abbrev pub IsWritten : SinkSeen → Result Unit WriteFault → List ℕ → Type 0
 IsWritten sink (Ok done) bytes = Whole sink bytes
 IsWritten sink (Err WriteFault.Failed) bytes = Part sink bytes

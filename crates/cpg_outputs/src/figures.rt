@@ -1,11 +1,11 @@
-//! The figures of a trial.
+//! What a trial measures.
 
 /// The result of a play.
 #[derive(Clone, Copy)]
 pub struct Ending {
     /// The greatest end of an execution, in time units; 0 if there is none.
     pub finish: u64,
-    /// How often a node that was asked had to wait.
+    /// How often a node that was asked to take its turn had to wait.
     pub waits: u64,
 }
 
@@ -20,16 +20,16 @@ pub struct Endings {
     pub all_true: Ending,
 }
 
-/// The figures of a trial: the sizes of its number's graph and of the tables, and the results of three plays.
+/// What a trial measures: the sizes of a generated graph and of its tables, and the results of three plays.
 #[derive(Clone, Copy)]
 pub struct Trial {
     /// How many processes there are.
     pub processes: u32,
-    /// How many edges.
+    /// How many edges there are.
     pub edges: u32,
-    /// How many conditions.
+    /// How many conditions there are.
     pub conditions: u32,
-    /// How many columns all tables have, with those of hear rows.
+    /// How many columns the tables of all nodes have, those of what they hear included.
     pub columns: u64,
     /// The greatest finish in any scenario, in time units.
     pub worst: u64,

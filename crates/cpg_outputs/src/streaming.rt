@@ -1,4 +1,4 @@
-//! A stream that a node follows, piece by piece.
+//! Lets a node follow a stream, piece by piece.
 ghost use Rattle.std.specs.Prelude.{◌≡◌, ◌≤◌, Err, IfErr, IfOk, OnOk};
 ghost use Rattle.cpg_io.specs.Agreement.{AreFetched, LeavesRest};
 ghost use Rattle.cpg_io.specs.Causes.{Rose};
@@ -11,10 +11,10 @@ ghost use Rattle.cpg_live.specs.declared.following.Broken.{Broken};
 use cpg_io::{Failed, Shelf, Sink};
 use cpg_live::{Broken, Follower};
 
-/// The most bytes of a piece.
+/// The most bytes that are asked of the stream at once: the length of the buffer.
 const PIECE: usize = 65_536;
 
-/// Follows all pieces to the end of the stream.
+/// Follows all pieces to the end of the stream. The error says what broke it off: the shelf, `out` or a rejected record.
 fn follow_pieces<S: Shelf, O: Sink>(
     follower: &mut Follower,
     shelf: &mut S,
@@ -37,13 +37,14 @@ fn follow_pieces<S: Shelf, O: Sink>(
             Ok(count) => count,
             Err(broken) => return Err(broken),
         };
+        // an empty piece is the end of the stream
         if count == 0 {
             return Ok(());
         }
     }
 }
 
-/// Follows the rest of a stream to its close.
+/// Follows the pieces of a stream that is fetched, and its close.
 fn follow_rest<S: Shelf, O: Sink>(
     follower: &mut Follower,
     shelf: &mut S,
@@ -66,7 +67,7 @@ fn follow_rest<S: Shelf, O: Sink>(
 }
 
 /// Follows the named stream to its close. After each piece it writes the lines of what the node does, and at last the line of
-/// the close.
+/// the close. The error says what broke it off: the shelf, `out` or a rejected record.
 pub fn follow<S: Shelf, O: Sink>(
     follower: &mut Follower,
     shelf: &mut S,

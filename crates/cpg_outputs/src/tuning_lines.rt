@@ -1,4 +1,4 @@
-//! The text of a tuning.
+//! Makes the text of a tuning.
 ghost use Rattle.std.specs.Prelude.{◌≡◌, ◌<◌, ◌++◌, All, IfOk, OnOk, codes, string_bytes};
 ghost use Rattle.cpg_base.specs.Graph.{item_count};
 ghost use Rattle.cpg_refusal.specs.Lines.{item_text};
@@ -9,7 +9,7 @@ use cpg_label::write_item;
 use cpg_tune::{Judged, Tuned};
 use std::alloc::{AllocError, Global};
 
-/// Writes the best number of parts of one process.
+/// Writes the best number of parts of one process, as a line.
 fn write_part(out: &mut String, process: &Process, parts: u32) -> Result<(), AllocError>
     ensures { OnOk result (string_bytes out.new ≡ string_bytes out.old ++ parts_line process.now parts) }
 {
@@ -17,7 +17,7 @@ fn write_part(out: &mut String, process: &Process, parts: u32) -> Result<(), All
     write!(out, "{name} parts {parts}\n")
 }
 
-/// Writes the best parts of each process.
+/// Writes the best number of parts of each process, a line for each.
 fn write_parts(out: &mut String, problem: &Problem, parts: &[u32]) -> Result<(), AllocError>
     ensures { OnOk result (string_bytes out.new ≡ string_bytes out.old ++ parts_lines problem.now.processes parts.now) }
 {
@@ -36,7 +36,7 @@ fn write_wide(out: &mut String, problem: &Problem, item: u32) -> Result<(), Allo
     write_item(out, problem, item)
 }
 
-/// Writes the answer of a compile.
+/// Writes what a compile answers: the greatest finish, that of a late graph, or the item that is too wide.
 fn write_judged(out: &mut String, problem: &Problem, judged: Judged) -> Result<(), AllocError>
     requires { IsNamedRow problem.now judged }
     ensures { OnOk result (string_bytes out.new ≡ string_bytes out.old ++ judged_text problem.now judged) }
@@ -48,7 +48,7 @@ fn write_judged(out: &mut String, problem: &Problem, judged: Judged) -> Result<(
     }
 }
 
-/// Writes the answer for one fault number.
+/// Writes what a compile answers under one fault number, as a line.
 fn write_row(
     out: &mut String,
     problem: &Problem,
@@ -63,7 +63,7 @@ fn write_row(
     out.push_str("\n")
 }
 
-/// Writes the answer for each fault number.
+/// Writes what a compile answers under each fault number from 0 on, a line for each.
 fn write_rows(out: &mut String, problem: &Problem, rows: &[Judged]) -> Result<(), AllocError>
     requires { All (IsNamedRow problem.now) rows.now }
     ensures { OnOk result (string_bytes out.new ≡ string_bytes out.old ++ row_lines problem.now 0 rows.now) }
@@ -74,7 +74,7 @@ fn write_rows(out: &mut String, problem: &Problem, rows: &[Judged]) -> Result<()
     Ok(())
 }
 
-/// Writes how many faults are tolerated.
+/// Writes the greatest fault number that is tolerated, or that none is.
 fn write_tolerates(out: &mut String, tolerates: Option<u8>) -> Result<(), AllocError>
     ensures { OnOk result (string_bytes out.new ≡ string_bytes out.old ++ tolerates_line tolerates) }
 {
@@ -84,7 +84,7 @@ fn write_tolerates(out: &mut String, tolerates: Option<u8>) -> Result<(), AllocE
     }
 }
 
-/// The text of a tuning.
+/// Returns the text of a tuning: the best numbers of parts, the answers by fault number, and the greatest that is tolerated.
 pub fn tuning_text(alloc: Global, problem: &Problem, tuned: &Tuned) -> Result<String, OutOfMemory>
     requires { All (IsNamedRow problem.now) tuned.now.rows }
     ensures { IfOk result (λ text. string_bytes text ≡ tuning_text problem.now tuned.now) }

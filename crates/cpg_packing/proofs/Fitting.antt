@@ -1,4 +1,5 @@
--- Rows that tables can have fit the fields of a pack.
+-- Rows that tables may have fit the fields of a pack, the items of nodes are the graph's, and the bytes of rows that
+-- are later.
 use Rattle.std.proofs.Common.{ℕ, ◌+◌, ◌<◌, ◌≤◌, ◌≡◌, List, [], ◌∷◌, ◌++◌, length, map, get_or, All, Contains, arith}
 use Rattle.std.proofs.Common.{refl, sym, ap, ap₂, ◌∙◌, subst, inl, inr}
 use Rattle.std.specs.List.{flat_map}
@@ -26,12 +27,12 @@ use Rattle.cpg_tree_columns.proofs.PathRoom.{few_below}
 use Rattle.cpg_packing.proofs.Spelled.{flat_mapped}
 
 module _ (g : Graph) (within : IsWithinLimits g) where
-  -- a graph has fewer than 160 variables
+  -- a variable of a graph is below 160: 128 counts and 32 values
   small : (v : ℕ) → IsVariable g v → v < 160
   small v (inl p) = omega (arith, p, within.few_processes)
   small v (inr (from, p)) = omega (arith, p, within.few_conditions)
 
-  -- so the literals of a cube of it can be counted in a byte
+  -- so a cube, whose variables rise, has at most 255 literals
   short_cube : (cube : List Literal) → IsCube g cube → length cube ≤ 255
   short_cube cube is =
       omega (
@@ -40,7 +41,7 @@ module _ (g : Graph) (within : IsWithinLimits g) where
             (λ l known. small l.variable known) cube is.known),
       )
 
-  -- rows that tables can have fit the fields of a pack
+  -- writable rows fit the fields of a pack
   pub packable_rows : (rows : List Row) → AreWritable g rows → All IsPackableRow rows
   packable_rows rows w i d l = record {
     few = w.few i d l;
@@ -49,7 +50,7 @@ module _ (g : Graph) (within : IsWithinLimits g) where
         (get_or rows i d).columns (w.lawful i d l);
   }
 
-  -- what a node starts, sends and hears are items of the graph
+  -- what a node starts, sends and hears under the head are items of the graph
   items_within : (node : ℕ) → node < length g.nodes → AreItemsWithin g (lists_of (head_of g) node)
   items_within node l = record {
     starts = from_each (lists_of (head_of g) node).starts (start_below g within node);
@@ -60,7 +61,7 @@ module _ (g : Graph) (within : IsWithinLimits g) where
       from_each : (xs : List ℕ) → ((x : ℕ) → Contains xs x → x < item_count g) → All (λ x. x < item_count g) xs
       from_each xs h i d l = h (get_or xs i d) (Contains-get_or xs i d l)
 
-  -- so they are for all nodes
+  -- the items of every node are items of the graph
   pub nodes_within : All (AreItemsWithin g) (items_of_nodes g)
   nodes_within i d l =
       let q = Contains-map_parts (lists_of (head_of g)) (numbers_below (length g.nodes)) (get_or (items_of_nodes g) i d)
@@ -69,24 +70,25 @@ module _ (g : Graph) (within : IsWithinLimits g) where
 
 -- ---- the bytes of a row whose columns are later
 
--- counted by the columns as they are
+-- the bytes of a row whose columns are later by a delay are the number of its columns and these, each later
 pub row_later : (item delay : ℕ) (columns : List Column) →
     to_be_bytes w16 (length columns) ++ later_bytes delay columns
     ≡ (let row : Row = record { item = item; columns = map (later_by delay) columns } in row_bytes row)
 row_later item delay columns = ap₂ (λ (n : ℕ) (bytes : List ℕ). to_be_bytes w16 n ++ bytes)
     (sym (length-map columns (later_by delay))) (sym (flat_mapped column_bytes (later_by delay) columns))
 
--- no delay
+-- a column with an equal time is the same column
 same_column : (c : Column) (t : ℕ) → t ≡ c.time → (let d : Column = record { time = t; cube = c.cube } in d) ≡ c
 same_column c t e = ap (λ (x : ℕ). let d : Column = record { time = x; cube = c.cube } in d) e
 
 -- columns that are later by nothing are the same columns
 later_none : (columns : List Column) → map (later_by 0) columns ≡ columns
+-- by induction on the list
 later_none [] = refl
 later_none (c ∷ cs) =
     ap₂ (λ (d : Column) (ds : List Column). d ∷ ds) (same_column c (c.time + 0) (omega arith)) (later_none cs)
 
--- the bytes of a row that is later by nothing are those of the row of its item
+-- the bytes of the row at place x, later by nothing, are those of the row of x
 pub own_row : (rows : List Row) (x : ℕ) (row : Row) → row ≡ get_or rows x row → x < length rows →
     (let later : Row = record { item = row.item; columns = map (later_by 0) row.columns } in
     row_bytes later) ≡ row_bytes (row_for rows x)
@@ -94,7 +96,7 @@ own_row rows x row is l =
     let bytes = λ (cs : List Column). to_be_bytes w16 (length cs) ++ flat_map column_bytes cs in
     ap bytes (later_none row.columns) ∙ ap row_bytes (is ∙ get_or_default rows x row no_row l)
 
--- the bytes of a row that is later by a delay are those of what is heard of its item
+-- the bytes of the row at place x, later by a delay, are those of the row that is heard of x with that delay
 pub heard_row_bytes : (rows : List Row) (x delay other : ℕ) (row : Row) → row ≡ get_or rows x row → x < length rows →
     delay ≡ other →
     (let later : Row = record { item = row.item; columns = map (later_by delay) row.columns } in row_bytes later)

@@ -1,4 +1,4 @@
--- What is made of the numbers below one, and of one more.
+-- What is made of the numbers below n, and of one more.
 use Rattle.std.proofs.Common.{ℕ, ◌+◌, ◌≡◌, List, [], ◌∷◌, ◌++◌, map, arith, sym, ap, ap₂, ◌∙◌}
 use Rattle.std.proofs.lemmas.List.{map-append}
 use Rattle.cpg_table.proofs.GraphItems.{range-append}

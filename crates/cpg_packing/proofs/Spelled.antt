@@ -1,4 +1,4 @@
--- The spelling of tables is the pack of their rows.
+-- The spelling of tables with given rows is the pack of these rows (`spelled`).
 use Rattle.std.proofs.Common.{ℕ, ◌<◌, ◌≤◌, ◌≡◌, List, [], ◌∷◌, ◌++◌, length, map, get_or, Contains, Some, arith, refl}
 use Rattle.std.proofs.Common.{sym, ap, ap₂, ◌∙◌, subst}
 use Rattle.std.specs.Prelude.{slice_get}
@@ -27,31 +27,34 @@ use Rattle.cpg_table.proofs.NodeRows.{item_is}
 use Rattle.cpg_table.proofs.Rows.{row_columns, row_parts, rows_at}
 use Rattle.cpg_packing.specs.PackBytes.{heard_bytes, items_of_nodes, node_bytes, own_bytes, pack_bytes}
 
--- the bytes of made elements, one after another, are those that each element has once it is made
+-- to spell what h makes of a list's elements is to spell each as what h makes of it
 pub flat_mapped : {X Y : Type 0} (f : Y → List ℕ) (h : X → Y) (xs : List X) →
     flat_map f (map h xs) ≡ flat_map (λ x. f (h x)) xs
+-- by induction on the list
 flat_mapped f h [] = refl
 flat_mapped f h (x ∷ xs) = ap (λ bytes. f (h x) ++ bytes) (flat_mapped f h xs)
 
 -- two ways to spell that agree on each element of a list spell the list alike
 flat_same : {X : Type 0} (f h : X → List ℕ) (xs : List X) → ((x : X) → Contains xs x → f x ≡ h x) →
     flat_map f xs ≡ flat_map h xs
+-- by induction on the list
 flat_same f h [] same = refl
 flat_same f h (x ∷ xs) same =
     ap₂ ◌++◌ (same x (Contains-first x xs)) (flat_same f h xs (λ y c. same y (Contains-rest x xs y c)))
 
--- two rows with one item and one list of columns
+-- two rows with the same item and the same columns are equal
 row_same : (a b : Row) → a.item ≡ b.item → a.columns ≡ b.columns → a ≡ b
 row_same a b e f = ap₂ (λ (x : ℕ) (cs : List Column). let r : Row = record { item = x; columns = cs } in r) e f
 
--- two rows of one item with equal columns are the same row
+-- two rows that are made of one item and equal columns are equal
 heard_same : (x : ℕ) (a b : List Column) → a ≡ b →
     (let row : Row = record { item = x; columns = a } in row) ≡ record { item = x; columns = b }
 heard_same x a b e = cc
 
--- rows that are those of their items
+-- if each of some rows is the given row of its item, they are the given rows of their items
 mapped : (rows rs : List Row) → ((row : Row) → Contains rs row → row ≡ row_for rows row.item) →
     rs ≡ map (row_for rows) (items_of rs)
+-- by induction on the list
 mapped rows [] h = refl
 mapped rows (r ∷ rs) h = ap₂ (λ (a : Row) (rest : List Row). a ∷ rest) (h r (Contains-first r rs))
     (mapped rows rs (λ row c. h row (Contains-rest r rs row c)))
@@ -73,19 +76,19 @@ module _ (g : Graph) (within : IsWithinLimits g) (formed : WellFormed g) (rows :
     abbrev items : ItemLists
     items = lists_of (head_of g) node
 
-    -- a row that a node starts or sends is that of its item
+    -- a start or send row of the node is the given row of its item
     own : (row : Row) → Contains (rows_at tables node) row → row ≡ row_for rows row.item
     own row c =
         let has = row_parts formed shape node l row c in
         row_same row (row_for rows row.item) (sym (item_is g rows w row.item has.within))
         (sym (row_columns formed shape node l row c) ∙ are.columns row.item)
 
-    -- what the node starts: the row of each of its items
+    -- the start rows of the node are the given rows of what it starts
     starts : table.starts ≡ map (row_for rows) items.starts
     starts = mapped rows table.starts (λ row c. own row (Contains-append_left table.starts table.sends row c))
         ∙ ap (map (row_for rows)) (are.lawful.each node l).starts
 
-    -- what the node sends: the row of each of its items
+    -- the send rows of the node are the given rows of what it sends
     sends : table.sends ≡ map (row_for rows) items.sends
     sends = mapped rows table.sends (λ row c. own row (Contains-append_right table.starts table.sends row c))
         ∙ ap (map (row_for rows)) (are.lawful.each node l).sends
@@ -94,14 +97,14 @@ module _ (g : Graph) (within : IsWithinLimits g) (formed : WellFormed g) (rows :
     there : slice_get tables node ≡ Some table
     there = slice_get-get_or tables node empty_table (omega (arith, are.lawful.count, l))
 
-    -- what the node hears: the row of each of its items, later by the sender's slot
+    -- the hear rows of the node are the given rows of what it hears, each later by the sender's slot
     hears : table.hears ≡ map (heard_row g rows) items.hears
     hears = are.hears node table there
         ∙ same_map (hear_row g tables) (heard_row g rows) (heard_by g node)
         (λ x c. heard_same x _ _ (ap (map (later_by (slot_length g (home g x)))) (are.columns x)))
         ∙ ap (map (heard_row g rows)) (sym (hears_are g within node l))
 
-    -- so the spelling of its table is that of its rows
+    -- so the bytes of its table are those of its items' rows
     bytes : table_bytes table ≡ node_bytes g rows items
     bytes = table_parts table
         ∙ ap₂ (λ (a b : List ℕ). a ++ b)
@@ -110,7 +113,7 @@ module _ (g : Graph) (within : IsWithinLimits g) (formed : WellFormed g) (rows :
         (ap (flat_map row_bytes) sends ∙ flat_mapped row_bytes (row_for rows) items.sends)
         (ap (flat_map row_bytes) hears ∙ flat_mapped row_bytes (heard_row g rows) items.hears))
 
-  -- and the spelling of all tables is that of the rows of each node
+  -- and the bytes of all tables are those of the rows of each node
   all_nodes : flat_map table_bytes tables ≡ flat_map (node_bytes g rows) (items_of_nodes g)
   all_nodes = ap (flat_map table_bytes)
       (by_place tables empty_table ∙ ap (λ n. map (table_at tables) (numbers_below n)) are.lawful.count)
@@ -120,6 +123,6 @@ module _ (g : Graph) (within : IsWithinLimits g) (formed : WellFormed g) (rows :
       (λ node c. bytes node (numbers-Contains (length g.nodes) node c))
       ∙ sym (flat_mapped (node_bytes g rows) (lists_of (head_of g)) (numbers_below (length g.nodes)))
 
-  -- with the head before them, the tables are spelled as the rows are
+  -- with the head before them, the spelling of the tables is the pack of the rows
   pub spelled : spelling t ≡ pack_bytes g rows
   spelled = ap₂ (λ (a b : List ℕ). a ++ b) (ap head_bytes are.head) all_nodes

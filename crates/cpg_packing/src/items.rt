@@ -1,4 +1,4 @@
-//! The rows of a node's items, written.
+//! Putting the rows of a node's items into a buffer. `Err` only if the sink meets a fault; `path` is at the root of a tree.
 ghost use Rattle.std.specs.Prelude.{◌≡◌, ◌<◌, [], All, OnOk, length};
 ghost use Rattle.std.specs.List.{flat_map};
 ghost use Rattle.cpg_base.specs.Graph.{item_count};
@@ -15,7 +15,7 @@ use cpg_io::{Failed, Sink};
 use cpg_table::NodeItems;
 use cpg_tree_columns::{MadeRow, PathCube};
 
-/// Puts the rows of these items.
+/// Puts the rows of these items as they are: of what a node starts or sends.
 fn put_own<O: Sink>(
     buffer: &mut Buffer,
     sink: &mut O,
@@ -31,12 +31,13 @@ fn put_own<O: Sink>(
     ensures cause { HasCause (O.state sink.old).faults (O.state sink.new).faults result }
 {
     for item in items {
+        // without a delay
         put_row(buffer, sink, &rows[*item as usize], 0, path)?;
     }
     Ok(())
 }
 
-/// Puts what is heard of these items: their rows, each later by the sender's slot.
+/// Puts the rows of these items at a node that hears them: each column is later by the sender's slot.
 fn put_heard<O: Sink>(
     buffer: &mut Buffer,
     sink: &mut O,
@@ -54,7 +55,7 @@ fn put_heard<O: Sink>(
     ensures path { OnOk result (path.new ≡ []) }
     ensures cause { HasCause (O.state sink.old).faults (O.state sink.new).faults result }
 {
-    // called for its contract: the graph is within its limits
+    // called for its contract: the graph keeps its limits
     let _nodes = problem.nodes();
     for item in items {
         let delay = problem.slot_length(problem.home(*item));

@@ -1,4 +1,5 @@
-//! Packs of rows as they are made: no table is assembled of them, and a row that is kept as a tree isn't listed.
+//! Writing the pack of rows as they are made: no table is assembled of them, and the columns of a row that is kept as a
+//! tree are written as the tree is walked, not listed first.
 #![tactic(auto)]
 
 mod items;

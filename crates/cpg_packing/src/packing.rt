@@ -1,4 +1,4 @@
-//! Packs of rows as they are made.
+//! Writing the pack of rows as they are made.
 ghost use Rattle.std.specs.Prelude.{◌≡◌, ◌≤◌, ◌++◌, [], All, Err, IfOk, OnErr, OnOk, length, map};
 ghost use Rattle.std.specs.List.{flat_map};
 ghost use Rattle.cpg_base.specs.Graph.{item_count};
@@ -23,7 +23,7 @@ use cpg_table::NodeItems;
 use cpg_tree_columns::{MadeRow, PathCube};
 use std::alloc::Global;
 
-/// The numbers of the items of each node.
+/// Returns for each of the first `count` nodes what it starts, sends and hears; `Err` only if memory runs out.
 fn items_of(alloc: Global, head: &Head, count: u32) -> Result<Vec<NodeItems>, OutOfMemory>
     ensures { IfOk result (λ nodes. nodes.items ≡ map (lists_of head.now) (numbers_below count)) }
 {
@@ -35,14 +35,16 @@ fn items_of(alloc: Global, head: &Head, count: u32) -> Result<Vec<NodeItems>, Ou
     Ok(nodes)
 }
 
-/// What is made before the first byte is written.
+/// What is made before the first byte is written: the head, and the items of each node.
 #[derive(Drop)]
 struct Outline {
+    /// The head of the graph.
     head: Head,
+    /// What each node starts, sends and hears, by node.
     nodes: Vec<NodeItems>,
 }
 
-/// The head of a graph, and the items of its nodes.
+/// Returns the head of a graph, and the items of its nodes; `Err` only if memory runs out.
 fn outline_of(alloc: Global, problem: &Problem) -> Result<Outline, OutOfMemory>
     ensures head { IfOk result (λ outline. outline.head ≡ head_of problem.now) }
     ensures nodes { IfOk result (λ outline. outline.nodes.items ≡ items_of_nodes problem.now) }
@@ -52,7 +54,7 @@ fn outline_of(alloc: Global, problem: &Problem) -> Result<Outline, OutOfMemory>
     Ok(Outline { head, nodes })
 }
 
-/// Puts the rows of each node.
+/// Puts the rows of each node; `Err` only if the sink meets a fault. Here and below, `path` is at the root of a tree.
 fn put_nodes<O: Sink>(
     buffer: &mut Buffer,
     sink: &mut O,
@@ -75,7 +77,7 @@ fn put_nodes<O: Sink>(
     Ok(())
 }
 
-/// Puts the head and the rows of each node.
+/// Puts the head and the rows of each node; `Err` only if the sink meets a fault.
 fn put_all<O: Sink>(
     buffer: &mut Buffer,
     sink: &mut O,
@@ -93,13 +95,13 @@ fn put_all<O: Sink>(
     ensures put { Puts (O.state sink.old).taken (O.state sink.new).taken buffer.old buffer.new result (pack_bytes problem.now rows.now) }
     ensures cause { HasCause (O.state sink.old).faults (O.state sink.new).faults result }
 {
-    // called for its contract: the graph is within its limits
+    // called for its contract: the graph keeps its limits
     let _nodes = problem.nodes();
     put_head(buffer, sink, &outline.head)?;
     put_nodes(buffer, sink, problem, rows, outline.nodes.as_slice(), path)
 }
 
-/// Writes through an empty buffer, from the root of each tree on.
+/// Writes the head and the rows of each node through an empty buffer; `Err` only if the sink meets a fault.
 fn write_through<O: Sink>(
     buffer: &mut Buffer,
     sink: &mut O,
@@ -120,13 +122,14 @@ fn write_through<O: Sink>(
     ensures cause { HasCause (O.state sink.old).faults (O.state sink.new).faults result }
 {
     put_all(buffer, sink, problem, rows, outline, path)?;
+    // the buffer still holds the end of the pack
     buffer.write(sink)
 }
 
-/// Writes the pack of rows: the spelling of the tables that have them.
+/// Writes the pack of rows (`pack_bytes`), which is the spelling of the tables that have them.
 ///
-/// `Failed` only if the sink's count of faults rose. The sink has taken a proper prefix of the spelling then. All memory is taken
-/// before the first write, so on `OutOfMemory` the sink is as it was.
+/// `Failed` only if the sink met a fault. It has taken a proper prefix of the pack then. All memory is taken before the
+/// first write, so on `OutOfMemory` the sink is as it was.
 pub fn write_made<O: Sink>(
     alloc: Global,
     problem: &Problem,
@@ -143,7 +146,7 @@ pub fn write_made<O: Sink>(
     ensures same { result ≡ Err WriteFault.OutOfMemory → sink.new ≡ sink.old }
     ensures later { (O.state sink.old).faults ≤ (O.state sink.new).faults }
 {
-    // called for its contract: the graph is within its limits
+    // called for its contract: the graph keeps its limits
     let _nodes = problem.nodes();
     let outline = outline_of(alloc, problem)?;
     let mut path = PathCube::whole(alloc)?;

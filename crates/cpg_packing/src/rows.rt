@@ -1,4 +1,4 @@
-//! Rows as they are made, written.
+//! Putting rows as they are made into a buffer. `Err` only if the sink meets a fault.
 ghost use Rattle.std.specs.Prelude.{◌≡◌, ◌^◌, ◌<◌, [], All, OnOk, map};
 ghost use Rattle.cpg_codec.specs.Spelling.{row_bytes};
 ghost use Rattle.cpg_codec.specs.Writing.{Puts};
@@ -31,7 +31,7 @@ fn put_later<O: Sink>(
     Ok(())
 }
 
-/// Puts the columns of a row, each later by a delay.
+/// Puts the columns of a row, each later by a delay. `path` is at the root of a tree.
 fn put_columns<O: Sink>(
     buffer: &mut Buffer,
     sink: &mut O,
@@ -52,7 +52,7 @@ fn put_columns<O: Sink>(
     }
 }
 
-/// Puts a row, each of its columns later by a delay.
+/// Puts a row, each of its columns later by a delay: how many there are, and these. `path` is at the root of a tree.
 pub(crate) fn put_row<O: Sink>(
     buffer: &mut Buffer,
     sink: &mut O,
@@ -67,6 +67,7 @@ pub(crate) fn put_row<O: Sink>(
     ensures path { OnOk result (path.new ≡ []) }
     ensures cause { HasCause (O.state sink.old).faults (O.state sink.new).faults result }
 {
+    // at most 16,384 columns, so their number fits two bytes
     put_short(buffer, sink, row.count() as u16)?;
     put_columns(buffer, sink, row, delay, path)
 }

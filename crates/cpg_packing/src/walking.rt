@@ -1,4 +1,4 @@
-//! The columns of a tree, written as they are found.
+//! Putting the columns of a tree as they are found; the twin for texts is in cpg_show.
 ghost use Rattle.std.specs.Prelude.{◌≡◌, ◌^◌, ◌<◌, ℕ, All, Option, OnOk};
 ghost use Rattle.cpg_codec.specs.Writing.{Puts};
 ghost use Rattle.cpg_io.specs.Causes.{HasCause};
@@ -17,7 +17,9 @@ use cpg_io::{Failed, Sink};
 use cpg_tree::{Top, TreeItem, top_of};
 use cpg_tree_columns::PathCube;
 
-/// Puts the columns on from a path, each later by a delay. The path is narrowed on the way down and restored on the way up.
+/// Puts the columns that the tree has below a path, each later by a delay: the time of each is a leaf, and its cube is the
+/// path to there. `k` is the most faults. The path is narrowed on the way down and restored on the way up. `Err` only if
+/// the sink meets a fault; the path is then anywhere.
 pub(crate) fn put_paths<O: Sink>(
     buffer: &mut Buffer,
     sink: &mut O,
@@ -37,6 +39,7 @@ pub(crate) fn put_paths<O: Sink>(
 {
     match top_of(items) {
         Top::Value(time) => {
+            // without a time no column is for these scenarios
             if let Some(time) = time {
                 put_column(buffer, sink, time + delay, path.literals())?;
             }
@@ -48,6 +51,7 @@ pub(crate) fn put_paths<O: Sink>(
             below,
             above,
         } => {
+            // the numbers above the cut, and below those up to it
             let upper = Literal {
                 variable,
                 low: cut + 1,
@@ -59,7 +63,7 @@ pub(crate) fn put_paths<O: Sink>(
                 high: cut,
             });
             put_paths(buffer, sink, below, k, delay, path)?;
-            // in place, which is less work than the way back and down again
+            // the upper range takes the place of the lower, which is less work than to restore and narrow again
             path.exchange(step, upper);
             put_paths(buffer, sink, above, k, delay, path)?;
             path.restore(step);

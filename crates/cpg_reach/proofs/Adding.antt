@@ -1,4 +1,4 @@
--- What sets of variables have after others are added to them.
+-- What sets of variables have once others are added, also by a loop over the numbers that pass a test.
 use Rattle.std.proofs.Common.{ℕ, ◌+◌, ◌<◌, ◌≡◌, ◌==◌, Bool, true, false, cond, ◌||◌, List, [], ◌∷◌, ◌++◌, length}
 use Rattle.std.proofs.Common.{get_or, map, filter, flat_map, is_some, Some, option_to_list, refl, sym, ap, ◌∙◌}
 use Rattle.std.proofs.Common.{subst, arith}
@@ -17,17 +17,17 @@ use Rattle.cpg_order.specs.Elements.{SameElements}
 use Rattle.cpg_reach.specs.Variables.{Adds}
 use Rattle.cpg_reach.specs.Tested.{AreDecidingValues}
 
--- a disjunction of three, in either grouping
+-- a disjunction of three may be grouped either way
 or_assoc : (a b c : Bool) → ((a || b) || c) ≡ (a || (b || c))
 or_assoc true b c = refl
 or_assoc false b c = refl
 
--- a false part adds nothing
+-- a disjunction with false is its other part
 or_none : (a : Bool) → a ≡ (a || false)
 or_none true = refl
 or_none false = refl
 
--- a disjunction in either order
+-- the parts of a disjunction may be exchanged
 or_commutes : (a b : Bool) → (a || b) ≡ (b || a)
 or_commutes true true = refl
 or_commutes true false = refl
@@ -38,11 +38,11 @@ or_commutes false false = refl
 pub in_append : (xs ys : List ℕ) (v : ℕ) → is_in (xs ++ ys) v ≡ (is_in xs v || is_in ys v)
 in_append xs ys v = list_any-append (λ u. u == v) xs ys
 
--- nothing is added by no numbers
+-- adding no variables leaves the set as it is
 pub adds_nothing : (a : List ℕ) → Adds a [] a
 adds_nothing a v = or_none (is_in a v)
 
--- adding two lists in turn adds them together
+-- adding one list and then another adds both
 pub adds_two : (a xs b ys c : List ℕ) → Adds a xs b → Adds b ys c → Adds a (xs ++ ys) c
 adds_two a xs b ys c h k v = k v ∙ ap (λ t. t || is_in ys v) (h v) ∙ or_assoc (is_in a v) (is_in xs v) (is_in ys v)
     ∙ ap (λ t. is_in a v || t) (sym (in_append xs ys v))
@@ -51,45 +51,47 @@ adds_two a xs b ys c h k v = k v ∙ ap (λ t. t || is_in ys v) (h v) ∙ or_ass
 pub adds_same : (a xs ys b : List ℕ) → SameElements xs ys → Adds a xs b → Adds a ys b
 adds_same a xs ys b s h v = h v ∙ ap (λ t. is_in a v || t) (s v)
 
--- the set after has what was there before and what is added, in either order
+-- if a has what b has, then adding xs to a gives what b and xs have
 pub same_after : (a b xs c : List ℕ) → SameElements a b → Adds a xs c → SameElements c (b ++ xs)
 same_after a b xs c s h v = h v ∙ ap (λ t. t || is_in xs v) (s v) ∙ sym (in_append b xs v)
 
--- adding to a set with the same in it gives a set with the same in it
+-- the same, with xs first
 pub same_before : (a b xs c : List ℕ) → SameElements a b → Adds a xs c → SameElements c (xs ++ b)
 same_before a b xs c s h v =
     h v ∙ ap (λ t. t || is_in xs v) (s v) ∙ or_commutes (is_in b v) (is_in xs v) ∙ sym (in_append xs b v)
 
 -- ---- a loop over the numbers that pass a test
 
--- given: what is added for all numbers below n that pass a test
+-- given: b is a with F added for each number below n that passes the test T
 module _ (F : ℕ → List ℕ) (T : ℕ → Bool) (n : ℕ) (a b : List ℕ)
     (so_far : Adds a (flat_map F (filter T (numbers_below n))) b) where
-  -- the sets up to the next number, by whether it passes
+  -- what is added for the numbers up to n is what was added so far, and F n if n passes
   next_is : (t : Bool) → T n ≡ t →
       flat_map F (filter T (numbers_below (n + 1))) ≡ flat_map F (filter T (numbers_below n))
       ++ flat_map F (cond t (n ∷ []) [])
   next_is t e = ap (flat_map F) (filter_below_push T n ∙ ap (λ s. filter T (numbers_below n) ++ cond s (n ∷ []) []) e)
       ∙ flat_map-append F (filter T (numbers_below n)) (cond t (n ∷ []) [])
 
-  -- if n passes, what is added for it is added for all numbers up to it
+  -- if n passes and F n is added, b has what is added for the numbers up to n
   pub loop_takes : (c : List ℕ) → T n ≡ true → Adds b (F n) c → Adds a (flat_map F (filter T (numbers_below (n + 1)))) c
   loop_takes c e h = subst (λ xs. Adds a xs c)
       (ap (λ ys. flat_map F (filter T (numbers_below n)) ++ ys) (sym (append-nil (F n))) ∙ sym (next_is true e))
       (adds_two a (flat_map F (filter T (numbers_below n))) b (F n) c so_far h)
 
-  -- if n does not pass, nothing more is added
+  -- if n doesn't pass, b has it already
   pub loop_skips : T n ≡ false → Adds a (flat_map F (filter T (numbers_below (n + 1)))) b
   loop_skips e = subst (λ xs. Adds a xs b)
       (sym (append-nil (flat_map F (filter T (numbers_below n)))) ∙ sym (next_is false e)) so_far
 
 -- ---- the values that decide a process
 
+-- given: for each process the values that decide it, and a process
 module _ (g : Graph) (deciding : List (List ℕ)) (are : AreDecidingValues g deciding) (p : ℕ)
     (l : p < process_count g) where
-  -- a value is marked for a process exactly if it decides the process in some outcome
+  -- a condition's value is in the process's set just if the condition decides the process in some outcome
   value_decides : (c : ℕ) → c < condition_count g →
       is_in (get_or deciding p []) (value_variable c) ≡ list_any (λ o. decides g o p c) (outcomes (condition_count g))
+  -- the values in the set are those of the conditions listed for p, and a condition is listed just if it decides p
   value_decides c h =
       are.each p l (value_variable c) ∙ same_truth (is_in (map value_variable (conditions_of g p)) (value_variable c))
       (list_any (λ o. decides g o p c) (outcomes (condition_count g)))
@@ -104,7 +106,7 @@ module _ (g : Graph) (deciding : List (List ℕ)) (are : AreDecidingValues g dec
       (Contains-filter (λ d. list_any (λ o. decides g o p d) (outcomes (condition_count g)))
       (numbers_below (condition_count g)) c t (Contains-numbers (condition_count g) c h))))
 
-  -- the conditions whose values are found to decide a process are those that decide it in some scenario
+  -- the conditions whose values are in the set are those that decide the process in some outcome
   pub deciding_filter : filter (λ c. is_in (get_or deciding p []) (value_variable c))
       (numbers_below (condition_count g)) ≡ conditions_of g p
   deciding_filter = same_filter (λ c. is_in (get_or deciding p []) (value_variable c))
@@ -123,6 +125,6 @@ source_value_there g e c t is =
 
 -- ---- an element of a list of sets, whatever stands past the end
 
--- an element within a list is the same, whatever stands past the end
+-- an element within a list doesn't depend on what is read past its end
 pub set_at : (xs : List (List ℕ)) (i : ℕ) (x : List ℕ) → i < length xs → x ≡ get_or xs i x → x ≡ get_or xs i []
 set_at xs i x l e = e ∙ get_or_default xs i x [] l

@@ -1,4 +1,5 @@
--- Counting views: free counts, the conditions along an order, and one condition after another.
+-- Counting views: how many numbers pass a test, the conditions along an order, and choosing the value of one condition
+-- after another.
 use Rattle.std.proofs.Common.{ℕ, suc, ◌+◌, ◌<◌, ◌≤◌, ◌≡◌, Bool, false, cond, List, [], ◌∷◌, ◌++◌, length, get_or, set}
 use Rattle.std.proofs.Common.{take, sum_by, count_by, All, option_to_list, Option, Some, None, refl, sym, ap}
 use Rattle.std.proofs.Common.{ap₂, ◌∙◌, subst, arith}
@@ -19,20 +20,20 @@ use Rattle.cpg_order.proofs.Chosen.{views_chosen}
 
 -- ---- how many numbers below n pass a test
 
--- one number more adds one to the count if it passes the test
+-- with n too, the count is one more if n passes the test
 pub count_next : (p : ℕ → Bool) (n : ℕ) (b : Bool) → p n ≡ b →
     count_by p (numbers_below (n + 1)) ≡ count_by p (numbers_below n) + cond b 1 0
 count_next p n b e = ap (count_by p) (below_push n) ∙ sum_by-append (λ x. cond (p x) 1 0) (numbers_below n) (n ∷ [])
     ∙ ap (λ m. count_by p (numbers_below n) + m) (sum_by-cons (λ x. cond (p x) 1 0) n [] ∙ ap (λ c. cond c 1 0 + 0) e
     ∙ (let z : cond b 1 0 + 0 ≡ cond b 1 0 = omega arith in z))
 
--- no more than n numbers below n pass
+-- of the numbers below n no more than n pass
 pub count-le : (p : ℕ → Bool) (n : ℕ) → count_by p (numbers_below n) ≤ n
 count-le p n = let a = count_by-le-length p (numbers_below n) in let b = length-range_with_len 0 n in omega arith
 
 -- ---- the conditions along an order
 
--- one process more adds its condition, if it has one
+-- the conditions of one process more are those so far, and its own if it has one
 pub along_next : (g : Graph) (order : List ℕ) (i : ℕ) → i < length order →
     conditions_along g (take (i + 1) order) ≡ conditions_along g (take i order) ++ option_to_list
     (condition_of g (get_or order i 0))
@@ -41,7 +42,7 @@ along_next g order i l = ap (conditions_along g) (take_more order i 0 l)
     ∙ ap (λ xs. conditions_along g (take i order) ++ xs)
     (append-nil (option_to_list (condition_of g (get_or order i 0))))
 
--- a list with the condition of the next process is that of one process more
+-- if the process has a condition and it is put behind those so far, the list is that of one process more
 pub along_takes : (g : Graph) (order : List ℕ) (i c : ℕ) (xs ys : List ℕ) → i < length order →
     xs ≡ conditions_along g (take i order) →
     condition_of g (get_or order i 0) ≡ Some c →
@@ -59,8 +60,9 @@ along_skips g order i xs l h e = h ∙ sym (append-nil (conditions_along g (take
 
 -- ---- choosing the conditions
 
+-- `reached` is the set of variables whose views are counted
 module _ (g : Graph) (reached : List ℕ) where
-  -- the number of views if these conditions are still to be chosen
+  -- how many views there are with the values set in o, if the conditions cs are still to be chosen
   abbrev pub views_with : List ℕ → List Bool → ℕ
   views_with cs o = sum_by (views_of_outcome g reached) (chosen g reached cs o)
 
@@ -80,7 +82,7 @@ scenario_back s a b d e c on was first set_on stays old last = last
 
 -- ---- all conditions
 
--- the conditions along an order are conditions of the graph
+-- the conditions along an order are those of the graph
 pub along_within : (g : Graph) (order : List ℕ) (cs : List ℕ) → cs ≡ conditions_along g order →
     All (λ c. c < condition_count g) cs
 along_within g order cs is = subst (All (λ c. c < condition_count g)) (sym is)
@@ -95,7 +97,7 @@ pub all_views : (g : Graph) (order : List ℕ) → IsTopological g order → pro
 all_views g order top few reached cs o is none =
     ap₂ (views_with g reached) is none ∙ sym (views_chosen g order top reached few)
 
--- an option with no value is None
+-- an option that has no number is `None`
 pub none_if : (o : Option ℕ) → ((x : ℕ) → o ≡ Some x → ⊥) → o ≡ None
 none_if None h = refl
 none_if (Some x) h = absurd (h x refl)

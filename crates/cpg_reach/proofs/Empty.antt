@@ -1,4 +1,4 @@
--- Lists of sets with nothing in them.
+-- A list of empty sets, made one by one.
 use Rattle.std.proofs.Common.{ℕ, ◌+◌, ◌<◌, ◌≤◌, ◌≡◌, false, List, [], ◌∷◌, ◌++◌, length, get_or, length-append, ap, ◌∙◌}
 use Rattle.std.proofs.Common.{⊎_elim, arith}
 use Rattle.std.proofs.lemmas.Bool.{cases_lt}
@@ -10,6 +10,7 @@ use Rattle.cpg_reach.specs.Walked.{AreEmpty}
 -- one empty set more makes a list of one set more, all empty
 pub empty_next : (n : ℕ) (sets : List (List ℕ)) (x : List ℕ) → AreEmpty n sets → ((v : ℕ) → is_in x v ≡ false) →
     AreEmpty (n + 1) (sets ++ x ∷ [])
+-- place i holds an old set, or the new one, or is past the end
 empty_next n sets x h none = record {
   count = let e = length-append sets (x ∷ []) in let c = h.count in omega arith;
   each = λ i v. ⊎_elim

@@ -1,4 +1,4 @@
--- Sets of variables by their marks.
+-- A set of variables as a list of marks: its members, a mark that is set, and the union of two sets.
 use Rattle.std.proofs.Common.{ℕ, ◌+◌, ◌<◌, ◌≤◌, ◌≡◌, ◌⊎◌, ◌==◌, Bool, true, false, ◌||◌, List, [], ◌∷◌, length, get_or}
 use Rattle.std.proofs.Common.{set, refl, sym, ap, ap₂, ◌∙◌, ⊎_elim, inl, inr, arith}
 use Rattle.std.proofs.lemmas.Bool.{cases_lt, both_ways}
@@ -10,7 +10,7 @@ use Rattle.cpg_order.specs.Reach.{is_in}
 use Rattle.cpg_order.proofs.Along.{is_in_from, from_is_in}
 use Rattle.cpg_reach.specs.Variables.{members, Adds}
 
--- only a number within the list is marked
+-- a number that is marked is within the list
 marked_within : (marks : List Bool) (v : ℕ) → get_or marks v false ≡ true → v < length marks
 marked_within marks v t = ⊎_elim
     (λ (l : v < length marks). l)
@@ -25,7 +25,7 @@ is_in_members marks v = same_truth (is_in (members marks) v) (get_or marks v fal
     (λ t. is_in_from (members marks) v (Contains-filter (λ u. get_or marks u false) (numbers_below (length marks)) v t
     (Contains-numbers (length marks) v (marked_within marks v t))))
 
--- false parts add nothing
+-- two false parts add nothing to a disjunction
 or_of_false : (a : Bool) → a ≡ (a || (false || false))
 or_of_false true = refl
 or_of_false false = refl
@@ -35,7 +35,7 @@ or_of_true : (a : Bool) → true ≡ (a || (true || false))
 or_of_true true = refl
 or_of_true false = refl
 
--- marking a variable changes the mark of this one alone
+-- setting the mark of v changes no other mark
 set_marks : (marks : List Bool) (v u : ℕ) → v < length marks →
     get_or (set marks v true) u false ≡ (get_or marks u false || ((v == u) || false))
 set_marks marks v u l = elim (eqb_tells v u) [
@@ -45,13 +45,13 @@ set_marks marks v u l = elim (eqb_tells v u) [
       ∙ or_of_false (get_or marks u false) ∙ ap (λ b. get_or marks u false || (b || false)) (sym other.0)
 ]
 
--- setting a mark adds its number
+-- setting the mark of v adds v to the set
 pub set_adds : (marks : List Bool) (v : ℕ) → v < length marks →
     Adds (members marks) (v ∷ []) (members (set marks v true))
 set_adds marks v l u = is_in_members (set marks v true) u ∙ set_marks marks v u l
     ∙ ap (λ b. b || ((v == u) || false)) (sym (is_in_members marks u))
 
--- marks that are set where either list has one add the others to the old
+-- if each mark is set just where one of two lists has it, the others' members are added to the old ones
 pub unite_adds : (old others new : List Bool) →
     ((v : ℕ) → get_or new v false ≡ (get_or old v false || get_or others v false)) →
     Adds (members old) (members others) (members new)
@@ -60,12 +60,14 @@ unite_adds old others new h v =
 
 -- ---- the loop that unites
 
--- the marks below v are those of both lists, and those from v on are the old ones
+-- the union is made for the variables below v
 pub record United (old others marks : List Bool) (v : ℕ) : Type 0 where
+  -- below v a mark is set if either list has it
   pub done : (u : ℕ) → u < v → get_or marks u false ≡ (get_or old u false || get_or others u false)
+  -- from v on the marks are the old ones
   pub left : (u : ℕ) → v ≤ u → get_or marks u false ≡ get_or old u false
 
--- before the first mark all are the old ones
+-- before the first variable all marks are the old ones
 pub united_first : (old others : List Bool) → United old others old 0
 united_first old others = record { done = λ u l. absurd (omega arith); left = λ u l. refl }
 
@@ -73,10 +75,11 @@ united_first old others = record { done = λ u l. absurd (omega arith); left = �
 below_next : (v u : ℕ) → u < v + 1 → (u < v) ⊎ (u ≡ v)
 below_next v u l = ⊎_elim (λ (k : u < v). inl k) (λ (k : v ≤ u). inr (omega arith)) (cases_lt u v)
 
--- one mark more is united
+-- if the mark of v is set where either list has it, the union is made for one variable more
 pub united_next : (old others marks : List Bool) (v : ℕ) (mark : Bool) → v < length marks →
     mark ≡ (get_or marks v false || get_or others v false) →
     United old others marks v → United old others (set marks v mark) (v + 1)
+-- the marks below v stay, the one at v is new, and those above are still the old ones
 united_next old others marks v mark l is h = record {
   done = λ u k. ⊎_elim
       (λ (m : u < v). get_or-set_other marks v u mark false (λ e. omega arith) ∙ h.done u m)
@@ -87,12 +90,12 @@ united_next old others marks v mark l is h = record {
   left = λ u k. get_or-set_other marks v u mark false (λ e. omega arith) ∙ h.left u (omega arith);
 }
 
--- a false part adds nothing
+-- a false second part adds nothing
 or_nothing : (a b : Bool) → b ≡ false → (a || b) ≡ a
 or_nothing true b e = refl
 or_nothing false b e = e
 
--- once all marks of the others are gone over, each mark is that of either list
+-- past the end of the others the union is made for all variables
 pub united_all : (old others marks : List Bool) (v : ℕ) → length others ≤ v → United old others marks v → (u : ℕ) →
     get_or marks u false ≡ (get_or old u false || get_or others u false)
 united_all old others marks v l h u = ⊎_elim

@@ -1,11 +1,11 @@
--- If no item is wide under an order, none is too wide by any reach.
+-- If no item is wide under an order, none is too wide by any reach of it.
 use Rattle.std.proofs.Common.{ℕ, ◌<◌, ◌≡◌, false, List, inl, inr}
 use Rattle.std.proofs.lemmas.Bool.{cases_Bool}
 use Rattle.cpg_base.specs.Graph.{Graph, item_count}
 use Rattle.cpg_order.specs.Reach.{Reach, IsReach, is_too_wide}
 use Rattle.cpg_reach.specs.Wide.{IsNarrow}
 
--- under an order without wide items, no item is too wide by its reach
+-- if no item is wide under the order, item x isn't too wide by a reach of it
 pub none_too_wide : (g : Graph) (order : List ℕ) → IsNarrow g order → (r : Reach) → IsReach g order r → (x : ℕ) →
     x < item_count g →
     is_too_wide g r x ≡ false

@@ -7,13 +7,16 @@ use Rattle.cpg_order.specs.Counting.{ways}
 use Rattle.cpg_order.proofs.Ways.{ways_of_none, ways_more, ways_small}
 use Rattle.cpg_reach.specs.WaysTable.{AreWays}
 
--- the table has the ways for k + 1 below m, and those for k from m on
+-- the table has been raised below m
 pub record Raised (k : ℕ) (table : List ℕ) (m : ℕ) : Type 0 where
+  -- it has an entry for each number of counts up to 128
   pub long : length table ≡ 129
+  -- below m it has the ways to add up to at most k + 1
   pub made : (n : ℕ) → n < m → get_or table n 0 ≡ ways n (k + 1)
+  -- from m on it has those to add up to at most k
   pub kept : (n : ℕ) → m ≤ n → n ≤ 128 → get_or table n 0 ≡ ways n k
 
--- before any count is gone over, the table is that for k
+-- at first the table counts as raised below 1: no counts add up in one way, whatever k is
 pub raised_first : (k : ℕ) (table : List ℕ) → AreWays k table → Raised k table 1
 raised_first k table h = record {
   long = h.long;
@@ -22,9 +25,10 @@ raised_first k table h = record {
   kept = λ n l u. h.each n u;
 }
 
--- the sum that is written is the number of ways for k + 1
+-- the sum of entries m and m - 1 is the number of ways for m counts and k + 1
 next_sum : (k : ℕ) (table : List ℕ) (m : ℕ) → 1 ≤ m → m ≤ 128 → Raised k table m →
     get_or table m 0 + get_or table (m - 1) 0 ≡ ways m (k + 1)
+-- the last of the counts is 0, or it is lowered by one (`ways_more`)
 next_sum k table m s l h =
     let e : m - 1 + 1 ≡ m = omega arith in
     ap₂ (λ a b. a + b) (h.kept m (omega arith) l) (h.made (m - 1) (omega arith))
@@ -32,16 +36,17 @@ next_sum k table m s l h =
     ∙ sym (ways_more (m - 1) k)
     ∙ ap (λ j. ways j (k + 1)) e
 
--- the sum that is written has room in the table
+-- that sum is below 2 ^ 42, so it fits
 pub sum_fits : (k : ℕ) (table : List ℕ) (m : ℕ) → k < 8 → 1 ≤ m → m ≤ 128 → Raised k table m →
     get_or table m 0 + get_or table (m - 1) 0 < 2 ^ 42
 sum_fits k table m f s l h = let e = next_sum k table m s l h in
     let b = ways_small m l (k + 1) (omega arith) in
     omega arith
 
--- one sum more is that for k + 1
+-- with that sum in entry m the table is raised below m + 1
 pub raised_next : (k : ℕ) (table : List ℕ) (m : ℕ) → 1 ≤ m → m ≤ 128 → Raised k table m →
     Raised k (set table m (get_or table m 0 + get_or table (m - 1) 0)) (m + 1)
+-- the entries below m stay, the one at m is the new sum (`next_sum`), and those above are still the old ones
 raised_next k table m s l h = record {
   long = length-set table m _ ∙ h.long;
   made = λ n u. ⊎_elim
@@ -54,10 +59,10 @@ raised_next k table m s l h = record {
   kept = λ n u b. get_or-set_other table m n _ 0 (λ e. omega arith) ∙ h.kept n (omega arith) b;
 }
 
--- once all are gone over, the table is that for k + 1
+-- raised below 129, the table is that for k + 1
 pub raised_all : (k : ℕ) (table : List ℕ) (m : ℕ) → 129 ≤ m → Raised k table m → AreWays (k + 1) table
 raised_all k table m l h = record { long = h.long; each = λ n u. h.made n (omega arith) }
 
--- there is one way to add up to nothing
+-- for k = 0 each entry is 1: all counts are 0
 pub ways_first : AreWays 0 (replicate 129 1)
 ways_first = record { long = length-replicate {A = ℕ} 129 1; each = λ m l. get_or-replicate 129 m 1 0 (omega arith) }

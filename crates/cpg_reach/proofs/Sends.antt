@@ -1,4 +1,5 @@
--- What sends depend on, by what the node has sent before.
+-- What sends depend on, case by case as the code takes them: the item is never sent, it is a broadcast, or it is a
+-- message, frozen or not.
 use Rattle.std.proofs.Common.{ℕ, ◌<◌, ◌≤◌, ◌≡◌, Bool, true, false, not, cond, ◌&&◌, List, [], ◌++◌, length, get_or, map}
 use Rattle.std.proofs.Common.{None, sym, ap, ◌∙◌, lt-ltb, le-ltb, eq-eqb}
 use Rattle.std.proofs.lemmas.List.{append-nil}
@@ -13,22 +14,23 @@ use Rattle.cpg_reach.specs.Variables.{Adds}
 use Rattle.cpg_reach.specs.Walked.{send_by}
 use Rattle.cpg_reach.proofs.Adding.{same_after}
 
--- the edge that is read past the last one
+-- the edge that is read past the end of the list, which doesn't happen
 abbrev pub no_edge : Edge
 no_edge = record { from = 0; to = 0; size = 0; when = None; frozen = false }
 
+-- given: reaches, and by node what it has sent so far
 module _ (g : Graph) (r : Reach) (sent : List (List ℕ)) where
-  -- two lists without numbers have the same in them
+  -- an empty set has what an empty list has
   pub nothing_sent : (xs ys : List ℕ) → ((v : ℕ) → is_in xs v ≡ false) → ys ≡ [] → SameElements xs ys
   nothing_sent xs ys h e v = h v ∙ ap (λ zs. is_in zs v) (sym e)
 
-  -- on a single node no broadcast is sent, so nothing decides it
+  -- with one node no broadcast is sent, so it depends on nothing
   pub one_node : (c : ℕ) → length g.nodes ≤ 1 → send_by g r sent (Broadcast c) ≡ []
   one_node c l =
       ap (λ b. cond b ((end_reach r (process_of g c) ++ get_or sent (node_of g (process_of g c)) []) ++ []) [])
       (le-ltb 1 (length g.nodes) l)
 
-  -- a broadcast depends on its process's end and on what the node has sent before
+  -- with more nodes a broadcast depends on its process's end and on what the node has sent before
   pub broadcast_sent : (c p node : ℕ) (xs : List ℕ) → 1 < length g.nodes → p ≡ process_of g c → node ≡ node_of g p →
       SameElements xs (end_reach r p ++ get_or sent node []) →
       SameElements xs (send_by g r sent (Broadcast c))
@@ -45,16 +47,16 @@ module _ (g : Graph) (r : Reach) (sent : List (List ℕ)) where
   before_value e frozen = cond frozen (map value_variable (conditions_of g (source g e)))
       (end_reach r (source g e) ++ get_or sent (node_of g (source g e)) [])
 
-  -- what a message depends on, by the tests on it
+  -- what a message depends on, by whether its edge is a message and whether it is frozen
   abbrev by_tests : ℕ → Bool → Bool → List ℕ
   by_tests e message frozen = cond message (before_value e (message && frozen) ++ source_value g e) []
 
-  -- a message within a node is not sent, so nothing decides it
+  -- an edge within a node is never sent, so it depends on nothing
   pub within_node : (e : ℕ) → node_of g (source g e) ≡ node_of g (target g e) → send_by g r sent (Message e) ≡ []
   within_node e h =
       ap (λ b. by_tests e (not b) (edge_at g e).frozen) (eq-eqb (node_of g (source g e)) (node_of g (target g e)) h)
 
-  -- a message between nodes depends on its source's value, and on the rest by whether it is frozen
+  -- a message between nodes depends on the value that its edge asks for, and on what `before_value` says
   pub message_sent : (e : ℕ) (frozen : Bool) (mid xs : List ℕ) → (node_of g (source g e) ≡ node_of g (target g e) → ⊥) →
       (edge_at g e).frozen ≡ frozen →
       SameElements mid (before_value e frozen) →

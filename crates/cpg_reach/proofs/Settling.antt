@@ -1,4 +1,5 @@
--- The walk along an order: at each moment the reach of at most one item is found, and it is right.
+-- The walk along an order: at each moment at most one item is reached, and once its reach is set, what is found is
+-- right up to the next moment.
 use Rattle.std.proofs.Common.{ℕ, ◌+◌, ◌*◌, ◌<◌, ◌≤◌, ◌≡◌, ◌==◌, Bool, true, false, cond, ◌&&◌, ◌||◌, List, [], ◌∷◌}
 use Rattle.std.proofs.Common.{◌++◌, length, get_or, set, flat_map, Contains, refl, sym, ap, ap₂, ◌∙◌, subst}
 use Rattle.std.proofs.Common.{⊎_elim, inl, inr, arith, lt-ltb, le-ltb, eq-eqb, eqb-true, ltb-true}
@@ -27,18 +28,19 @@ use Rattle.cpg_reach.proofs.Adding.{in_append}
 
 -- ---- lists with the same in them
 
--- lists made of parts with the same in them have the same in them
+-- lists whose parts have the same variables have the same
 pub same_append : (xs ys zs ws : List ℕ) → SameElements xs zs → SameElements ys ws → SameElements (xs ++ ys) (zs ++ ws)
 same_append xs ys zs ws h k v = in_append xs ys v ∙ ap₂ ◌||◌ (h v) (k v) ∙ sym (in_append zs ws v)
 
--- sets that are put together of sets with the same in them have the same in them
+-- unions of sets that have the same variables, one by one, have the same
 pub same_flat_map : (f h : ℕ → List ℕ) (xs : List ℕ) → ((x : ℕ) → Contains xs x → SameElements (f x) (h x)) →
     SameElements (flat_map f xs) (flat_map h xs)
+-- by induction on the list
 same_flat_map f h [] e = λ v. refl
 same_flat_map f h (x ∷ xs) e = same_append (f x) (flat_map f xs) (h x) (flat_map h xs) (e x (Contains-first x xs))
     (same_flat_map f h xs (λ y k. e y (Contains-rest x xs y k)))
 
--- lists that a test chooses have the same in them if both sides have
+-- if a test chooses between two lists on each side, what it chooses has the same variables if both do
 pub same_cond : (b : Bool) (xs ys zs ws : List ℕ) → (b ≡ true → SameElements xs zs) → (b ≡ false → SameElements ys ws) →
     SameElements (cond b xs ys) (cond b zs ws)
 same_cond true xs ys zs ws h k = h refl
@@ -46,7 +48,7 @@ same_cond false xs ys zs ws h k = k refl
 
 -- ---- moments
 
--- two products of m with less than m added are equal only if both parts are
+-- a * m + f and b * m + h, with f and h below m, are equal only if a is b and f is h
 apart_products : (a b f h m : ℕ) → f < m → h < m → a * m + f ≡ b * m + h → (a ≡ b) × (f ≡ h)
 apart_products a b f h m l k e = elim (cases_order a b) [
   | inl same ↦ (same, let x = ap (λ c. c * m) same in omega arith)
@@ -60,11 +62,14 @@ module _ (g : Graph) (order : List ℕ) (top : IsTopological g order) where
   -- starts, messages of one number, or broadcasts, and a process has one start and one condition.
   pub same_moment : (x y : ℕ) → x < item_count g → y < item_count g → moment g order x ≡ moment g order y → x ≡ y
   same_moment x y l m e =
+      -- one place and one phase
       let r = apart_products (place order (producer g x)) (place order (producer g y)) (phase (item_at g x))
       (phase (item_at g y)) (phases g) (phase_below g x l) (phase_below g y m) e in
+      -- one place has one process
       let p = same_place order (producer g x) (producer g y)
       (Contains-order (process_count g) order top.all (producer g x) (producer_in_range g order top x l))
       (Contains-order (process_count g) order top.all (producer g y) (producer_in_range g order top y m)) r.0 in
+      -- items of different kinds have different phases, so only equal kinds are left
       elim (item_cases g x l) [
         | inl c ↦ elim (item_cases g y m) [
           | inl d ↦ sym (ap (producer_of_item g) c.1) ∙ p ∙ ap (producer_of_item g) d.1
@@ -85,10 +90,11 @@ module _ (g : Graph) (order : List ℕ) (top : IsTopological g order) where
         ]
       ]
 
-  -- whose phase is that of the moment, and whose producer stands at its place
+  -- an item at a moment of process p has the producer p and the moment's phase
   pub moment_parts : (x p f : ℕ) → x < item_count g → p < process_count g → f < phases g →
       moment g order x ≡ place order p * phases g + f →
       (producer g x ≡ p) × (phase (item_at g x) ≡ f)
+  -- a moment is the place times the number of phases, with a phase below that number, so both can be read off it
   moment_parts x p f l n h e =
       let r = apart_products (place order (producer g x)) (place order p) (phase (item_at g x)) f (phases g)
       (phase_below g x l) h e in (
@@ -97,7 +103,7 @@ module _ (g : Graph) (order : List ℕ) (top : IsTopological g order) where
         r.1,
       )
 
-  -- no item has the moment between a start and the broadcast
+  -- no item has the moment of a process's end, between its start and its broadcast
   pub nothing_at_end : (p x : ℕ) → p < process_count g → x < item_count g →
       moment g order x ≡ place order p * phases g + 1 → ⊥
   nothing_at_end p x n l e =
@@ -112,6 +118,7 @@ module _ (g : Graph) (order : List ℕ) (top : IsTopological g order) where
   pub broadcast_at : (p x : ℕ) → p < process_count g → x < item_count g →
       moment g order x ≡ place order p * phases g + 2 →
       (c : ℕ) × (c < condition_count g) × (process_of g c ≡ p)
+  -- the phase 2 is that of broadcasts alone
   broadcast_at p x n l e =
       let r = moment_parts x p 2 l n (omega arith) e in
       elim (item_cases g x l) [
@@ -123,6 +130,7 @@ module _ (g : Graph) (order : List ℕ) (top : IsTopological g order) where
   -- if an item has the moment of an edge's message of a process, that process is the edge's source
   pub message_at : (p e x : ℕ) → p < process_count g → e < edge_count g → x < item_count g →
       moment g order x ≡ place order p * phases g + (e + 3) → source g e ≡ p
+  -- the phase e + 3 is that of the message of edge e alone
   message_at p e x n h l is =
       let r = moment_parts x p (e + 3) l n (omega arith) is in
       elim (item_cases g x l) [
@@ -140,6 +148,7 @@ module _ (g : Graph) (order : List ℕ) (top : IsTopological g order) where
   sent_kept m node none = same_filter _ _ (numbers_below (item_count g))
       (λ y k. by_sent y (numbers-Contains (item_count g) y k) (is_sent g y) refl)
     where
+      -- by whether the item is sent: if it is, its moment isn't m, so it comes before m + 1 just if before m
       by_sent : (y : ℕ) → y < item_count g → (b : Bool) → is_sent g y ≡ b →
           (is_sent g y && (home g y == node) && nat_lt (moment g order y) (m + 1)) ≡
           (is_sent g y && (home g y == node) && nat_lt (moment g order y) m)
@@ -164,7 +173,7 @@ module _ (g : Graph) (order : List ℕ) (top : IsTopological g order) where
         (numbers_below (item_count g)) y
         (and_from _ _ (and_from _ _ e (eq-eqb _ _ h)) (lt-ltb _ _ k)) (Contains-numbers (item_count g) y l)
 
-    -- what is sent before a moment on a node: items that are sent, on this node, and of an earlier moment
+    -- an item among those is one of the graph, is sent, by this node, and before the moment
     sent_parts : (m node y : ℕ) → Contains (sent_before g order m node) y →
         (y < item_count g) × (is_sent g y ≡ true) × (home g y ≡ node) × (moment g order y < m)
     sent_parts m node y k =
@@ -174,20 +183,20 @@ module _ (g : Graph) (order : List ℕ) (top : IsTopological g order) where
         let c = and_parts _ _ b.0 in
         (numbers-Contains (item_count g) y a.0, c.0, eqb-true _ _ c.1, ltb-true _ _ b.1)
 
-    -- what such an item depends on is among what all of them depend on
+    -- what such an item depends on is in the union
     in_sent : (m node y v : ℕ) → Contains (sent_before g order m node) y → is_in (reach_of r y) v ≡ true →
         is_in (sent_reach m node) v ≡ true
     in_sent m node y v k t = is_in_from (sent_reach m node) v
         (Contains-flat_map (reach_of r) (sent_before g order m node) y v k (from_is_in (reach_of r y) v t))
 
-    -- what all items sent before depend on is what one of them depends on
+    -- a variable of the union is one that some such item depends on
     from_sent : (m node v : ℕ) → is_in (sent_reach m node) v ≡ true →
         (y : ℕ) × Contains (sent_before g order m node) y × (is_in (reach_of r y) v ≡ true)
     from_sent m node v t = let a =
         Contains-flat_map_parts (reach_of r) (sent_before g order m node) v (from_is_in (sent_reach m node) v t) in
         (a.0, a.1, is_in_from (reach_of r a.0) v a.2)
 
-    -- if an item is sent at a moment, its reach is added to what the node has sent
+    -- if item x is sent at moment m by the node, the union up to the next moment has what x depends on, too
     sent_next : (x m node : ℕ) → x < item_count g → is_sent g x ≡ true → moment g order x ≡ m → home g x ≡ node →
         (v : ℕ) →
         is_in (sent_reach (m + 1) node) v ≡ (is_in (sent_reach m node) v || is_in (reach_of r x) v)
@@ -206,9 +215,10 @@ module _ (g : Graph) (order : List ℕ) (top : IsTopological g order) where
         (sent_by (m + 1) node x l e h (omega arith)) (sym (ap (λ b. b || is_in (reach_of r x) v) s) ∙ t))
         (cases_Bool (is_in (sent_reach m node) v)))
 
-    -- an item of another node adds nothing
+    -- if it is sent by another node, the union of this one stays
     other_node : (x m node : ℕ) → x < item_count g → moment g order x ≡ m → (home g x ≡ node → ⊥) →
         SameElements (sent_reach (m + 1) node) (sent_reach m node)
+    -- an item of the node with a moment below m + 1 has one below m, since the moment m is x's, of another node
     other_node x m node l is h v = same_truth (is_in (sent_reach (m + 1) node) v) (is_in (sent_reach m node) v)
         (λ t. let a = from_sent (m + 1) node v t in let b = sent_parts (m + 1) node a.0 a.1 in ⊎_elim
         (λ (k : moment g order a.0 < m). in_sent m node a.0 v (sent_by m node a.0 b.0 b.1 b.2 k) a.2)
@@ -221,8 +231,9 @@ module _ (g : Graph) (order : List ℕ) (top : IsTopological g order) where
 
     -- ---- one moment after another
 
+    -- given: what is found is right up to moment m
     module _ (k m : ℕ) (rs known sent : List (List ℕ)) (agrees : AgreesUntil g order r k m rs known sent) where
-      -- a moment without an item changes nothing
+      -- if no item has the moment m, it is right up to the next moment as it is
       pub skipped : ((y : ℕ) → y < item_count g → moment g order y ≡ m → ⊥) →
           AgreesUntil g order r k (m + 1) rs known sent
       skipped none = record {
@@ -237,9 +248,10 @@ module _ (g : Graph) (order : List ℕ) (top : IsTopological g order) where
             ∙ ap (λ ys. is_in (flat_map (reach_of r) ys) v) (sym (sent_kept m node (λ y i e d. none y i d)));
       }
 
+      -- given: item x at moment m, and its reach
       module _ (x : ℕ) (within : x < item_count g) (at : moment g order x ≡ m) (reach : List ℕ)
           (right : SameElements reach (reach_of r x)) where
-        -- what an item up to this one depends on is right
+        -- with the reach set, each item up to x has its reach
         reached_next : (y : ℕ) → y < item_count g → moment g order y < m + 1 →
             SameElements (reach_of (set rs x reach) y) (reach_of r y)
         reached_next y l h v = ⊎_elim
@@ -250,14 +262,16 @@ module _ (g : Graph) (order : List ℕ) (top : IsTopological g order) where
             ∙ agrees.reached y l (before_it e) v)
             (cases_eq y x)
           where
+            -- another item before the next moment has an earlier moment than x, since moments differ
             before_it : (y ≡ x → ⊥) → moment g order y < m
             before_it e = ⊎_elim (λ (d : moment g order y < m). d)
                 (λ (d : m ≤ moment g order y). absurd (e (same_moment y x l within (omega arith))))
                 (cases_lt (moment g order y) m)
 
+        -- given: b, the set of x's node with x's reach added
         module _ (unsent_none : is_sent g x ≡ false → (v : ℕ) → is_in (reach_of r x) v ≡ false) (b : List ℕ)
             (adds : Adds (get_or sent (home g x) []) reach b) (there : home g x < length g.nodes) where
-          -- what the node has sent is right with this item, whether it is sent or not
+          -- b is what the node's sends up to the next moment depend on, whether x is sent or not
           here_next : (s : Bool) → is_sent g x ≡ s → (v : ℕ) → is_in b v ≡ is_in (sent_reach (m + 1) (home g x)) v
           here_next true e v = adds v ∙ ap₂ ◌||◌ (agrees.sends (home g x) there v) (right v)
               ∙ sym (sent_next x m (home g x) within e at refl v)
@@ -266,12 +280,14 @@ module _ (g : Graph) (order : List ℕ) (top : IsTopological g order) where
               ∙ ap (λ ys. is_in (flat_map (reach_of r) ys) v) (sym (sent_kept m (home g x) (λ y i t d.
               both_ways _ e (subst (λ z. is_sent g z ≡ true) (same_moment y x i within (d ∙ sym at)) t))))
             where
+              -- "or false" changes nothing
               or_nothing : (a : Bool) → (a || false) ≡ a
               or_nothing true = refl
               or_nothing false = refl
 
-          -- at the moment of an item that may be sent its reach is set
+          -- with both set, what is found is right up to the next moment
           pub settled : AgreesUntil g order r k (m + 1) (set rs x reach) known (set sent (home g x) b)
+          -- x's node is right by `here_next`, and the sends of any other node before the two moments are the same
           settled = record {
             items = length-set rs x reach ∙ agrees.items;
             known_nodes = agrees.known_nodes;

@@ -1,4 +1,4 @@
--- What starts depend on, by what those before them on their node made them wait for.
+-- What starts depend on, as the code finds it: from a frozen process, or from what came before on the node.
 use Rattle.std.proofs.Common.{ℕ, ◌<◌, ◌≡◌, Bool, true, false, cond, List, [], ◌++◌, get_or, map, sym, ap, ◌∙◌}
 use Rattle.std.specs.List.{flat_map}
 use Rattle.std.proofs.lemmas.List.{get_or_default}
@@ -18,8 +18,9 @@ pub frozen_at : (g : Graph) (p : ℕ) (ps : List Process) (q : Process) (b : Boo
 frozen_at g p ps q b is l e =
     ap (λ (x : Process). x.frozen) (get_or_default g.processes p _ q l) ∙ ap (λ xs. (get_or xs p q).frozen) (sym is) ∙ e
 
+-- given: reaches, by node what later starts wait for, and a process
 module _ (g : Graph) (r : Reach) (known : List (List ℕ)) (p : ℕ) where
-  -- the reach of a start, by whether the process is frozen
+  -- what the start depends on, by whether the process is frozen
   abbrev by_test : Bool → List ℕ
   by_test b = cond b (map value_variable (conditions_of g p)) (get_or known (node_of g p) []
       ++ heard_by g r (node_of g p) (conditions_of g p) ++ flat_map (input_reach g r) (inputs g p))
@@ -35,6 +36,7 @@ module _ (g : Graph) (r : Reach) (known : List (List ℕ)) (p : ℕ) where
       a ≡ get_or known node [] →
       Adds a (heard_by g r node (conditions_of g p)) b →
       Adds b (flat_map (input_reach g r) (inputs g p)) c → SameElements c (start_by g r known p)
+  -- one after another: what was known, what is heard and the inputs are added
   start_plain a b c node e n is heard ins v =
       same_after b (get_or known node [] ++ heard_by g r node (conditions_of g p))
       (flat_map (input_reach g r) (inputs g p)) c

@@ -1,4 +1,5 @@
--- The steps of the walk along an order: a start, and what may be sent after an end.
+-- The steps of the walk along an order: what is found for a start, and for an item that may be sent, is right if what
+-- was found before is.
 use Rattle.std.proofs.Common.{ℕ, ◌+◌, ◌*◌, ◌<◌, ◌≤◌, ◌≡◌, ◌==◌, Bool, true, false, cond, ◌&&◌, ◌||◌, List, [], ◌∷◌}
 use Rattle.std.proofs.Common.{◌++◌, length, get_or, set, take, map, filter, flat_map, Contains, refl, sym, ap}
 use Rattle.std.proofs.Common.{ap₂, ◌∙◌, subst, ⊎_elim, inl, inr, arith, lt-ltb, le-ltb, eq-eqb, ltb-true}
@@ -39,7 +40,7 @@ use Rattle.cpg_reach.specs.Walked.{AreEmpty}
 use Rattle.cpg_reach.proofs.Adding.{in_append}
 use Rattle.cpg_reach.proofs.Settling.{same_append, same_flat_map, same_cond, same_moment, sent_kept, nothing_at_end}
 
--- the parts of a start's reach stand in the order of the rules
+-- four sets may be united in another order
 start_parts : (a e b i : Bool) → (((a || e) || b) || i) ≡ (((a || b) || e) || i)
 start_parts true e b i = refl
 start_parts false true true i = refl
@@ -47,7 +48,7 @@ start_parts false true false i = refl
 start_parts false false true i = refl
 start_parts false false false i = refl
 
--- the parts of what is known after a start, in the order of the rules
+-- five sets may be united in another order
 known_parts : (a e b s p : Bool) → ((((a || e) || b) || s) || p) ≡ ((a || b) || (e || (s || p)))
 known_parts true e b s p = refl
 known_parts false true true s p = refl
@@ -55,8 +56,9 @@ known_parts false true false s p = refl
 known_parts false false true s p = refl
 known_parts false false false s p = refl
 
+-- given: a topological order, and its reach
 module _ (g : Graph) (order : List ℕ) (top : IsTopological g order) (r : Reach) (is : IsReach g order r) where
-  -- a condition that decides a process belongs to an earlier one
+  -- a condition that decides process p is one of the graph, and its process stands before p
   decides_before : (p c : ℕ) → Contains (conditions_of g p) c →
       (c < condition_count g) × (place order (process_of g c) < place order p)
   decides_before p c k =
@@ -66,14 +68,15 @@ module _ (g : Graph) (order : List ℕ) (top : IsTopological g order) (r : Reach
       let l = numbers-Contains (condition_count g) c a.0 in
       (l, decides_earlier g order top o.0 p c l o.2)
 
+  -- given: what is found is right up to moment m
   module _ (k m : ℕ) (rs known sent : List (List ℕ)) (agrees : AgreesUntil g order r k m rs known sent) where
-    -- what the end of an earlier process depends on is right
+    -- what the end of process q depends on is right, if q starts before moment m
     end_right : (q : ℕ) → q < process_count g → place order q * phases g + 0 < m →
         SameElements (end_reach rs q) (end_reach r q)
     end_right q l h = same_append (reach_of rs q) (q ∷ []) (reach_of r q) (q ∷ [])
         (agrees.reached q (omega arith) (let e = moment_of_start g order top q l in omega arith)) (λ v. refl)
 
-    -- what hearing a condition from before the place depends on is right
+    -- what hearing condition c depends on is right, if its process stands before the place of p
     hearing_right : (p c node : ℕ) → place order p * phases g ≤ m → c < condition_count g →
         place order (process_of g c) < place order p →
         SameElements (hearing_reach g rs node c) (hearing_reach g r node c)
@@ -83,7 +86,7 @@ module _ (g : Graph) (order : List ℕ) (top : IsTopological g order) (r : Reach
         (λ t. end_right (process_of g c) (process_of_below g c n) (omega arith))
         (λ t. agrees.reached (broadcast_item g c) (omega arith) (omega (arith, broadcast_sooner g order top p c l)))
 
-    -- what an input depends on is right, if its source is known
+    -- what an input of p depends on is right, since its source stands before p
     input_right : (p e : ℕ) → place order p * phases g ≤ m → Contains (inputs g p) e →
         SameElements (input_reach g rs e) (input_reach g r e)
     input_right p e d i =
@@ -105,7 +108,7 @@ module _ (g : Graph) (order : List ℕ) (top : IsTopological g order) (r : Reach
   module _ (p : ℕ) (within : p < process_count g) (rs known sent : List (List ℕ))
       (agrees : AgreesUntil g order r (place order p) (place order p * phases g) rs known sent)
       (there : node_of g p < length g.nodes) where
-    -- what the process hears of its own conditions
+    -- what hearing the conditions that decide p depends on, by the reaches s
     abbrev heard_own : Reach → List ℕ
     heard_own s = heard_by g s (node_of g p) (conditions_of g p)
 
@@ -113,19 +116,19 @@ module _ (g : Graph) (order : List ℕ) (top : IsTopological g order) (r : Reach
     abbrev ins : Reach → List ℕ
     ins s = flat_map (input_reach g s) (inputs g p)
 
-    -- the processes before on the node
+    -- the processes before p on its node
     abbrev earlier : List ℕ
     earlier = before_on_node g order p
 
-    -- what is heard by then of conditions that they wait for
+    -- what hearing the conditions that decide these depends on
     abbrev heard_earlier : List ℕ
     heard_earlier = heard_by g r (node_of g p) (flat_map (conditions_of g) earlier)
 
-    -- what their ends depend on
+    -- what the ends of these depend on
     abbrev ends_earlier : List ℕ
     ends_earlier = flat_map (end_reach r) earlier
 
-    -- what the process itself hears is right
+    -- what hearing the conditions that decide p depends on is right
     heard_right : SameElements (heard_own rs) (heard_own r)
     heard_right = same_flat_map (λ c. value_variable c ∷ hearing_reach g rs (node_of g p) c)
         (λ c. value_variable c ∷ hearing_reach g r (node_of g p) c) (conditions_of g p)
@@ -140,7 +143,7 @@ module _ (g : Graph) (order : List ℕ) (top : IsTopological g order) (r : Reach
     ins_right = same_flat_map (input_reach g rs) (input_reach g r) (inputs g p)
         (λ e i. input_right (place order p) (place order p * phases g) rs known sent agrees p e (omega arith) i)
 
-    -- what hearing the conditions of the processes up to this one depends on
+    -- what hearing the conditions of the processes up to p depends on: those before p, then p
     heard_up_to : heard_by g r (node_of g p) (flat_map (conditions_of g) (earlier ++ p ∷ []))
         ≡ heard_earlier ++ heard_own r
     heard_up_to = ap (heard_by g r (node_of g p)) (flat_map-append (conditions_of g) earlier (p ∷ [])
@@ -148,9 +151,10 @@ module _ (g : Graph) (order : List ℕ) (top : IsTopological g order) (r : Reach
         ∙ flat_map-append (λ c. value_variable c ∷ hearing_reach g r (node_of g p) c)
         (flat_map (conditions_of g) earlier) (conditions_of g p)
 
-    -- what a start that is not frozen depends on is right
+    -- what the start depends on is right, if it isn't frozen
     plain_right : SameElements (get_or known (node_of g p) [] ++ heard_own rs ++ ins rs)
         (heard_by g r (node_of g p) (flat_map (conditions_of g) (earlier ++ p ∷ [])) ++ ends_earlier ++ ins r)
+    -- each part is right; they are united in the order of the rules
     plain_right v =
         in_append (get_or known (node_of g p) [] ++ heard_own rs) (ins rs) v
         ∙ ap₂ ◌||◌ (in_append (get_or known (node_of g p) []) (heard_own rs) v ∙ ap₂ ◌||◌
@@ -162,7 +166,7 @@ module _ (g : Graph) (order : List ℕ) (top : IsTopological g order) (r : Reach
         ∙ sym (in_append (heard_by g r (node_of g p) (flat_map (conditions_of g) (earlier ++ p ∷ [])) ++ ends_earlier)
         (ins r) v)
 
-    -- what a start depends on, by the graph's own reach
+    -- the reach of the start by the rules
     start_is : SameElements (start_reach g order r p) (reach_of r p)
     start_is v =
         sym (is.each p v (omega arith) ∙ ap (λ i. is_in (reach_by_item g order r p i) v) (item_at-start g p within))
@@ -176,7 +180,7 @@ module _ (g : Graph) (order : List ℕ) (top : IsTopological g order) (r : Reach
         (λ t u. refl) (λ t. plain_right) v
         ∙ start_is v
 
-    -- the processes of a node up to the next place
+    -- the node's processes before the next place: those before p, and p if it is on the node
     on_node_next : (node : ℕ) →
         on_node g order (place order p + 1) node ≡ on_node g order (place order p) node
         ++ cond (node_of g p == node) (p ∷ []) []
@@ -186,18 +190,20 @@ module _ (g : Graph) (order : List ℕ) (top : IsTopological g order) (r : Reach
         ∙ ap (λ q. take (place order p) order ++ q ∷ []) (get_or-place order p p c))
         ∙ filter-append (λ q. node_of g q == node) (take (place order p) order) (p ∷ [])
 
-    -- given: the reach of the start, and what the node has made wait for with it
+    -- given: the reach of the start, and d, the set of p's node with what p hears, with its start and with its count
     module _ (reach a b d : List ℕ) (right : SameElements reach (reach_of r p))
         (heard : Adds (get_or known (node_of g p) []) (heard_own rs) a) (started : Adds a reach b)
         (ended : Adds b (p ∷ []) d) where
-      -- what is known after the process: what is heard by then, and what the ends depend on
+      -- what later processes wait for after p: what was heard, and what the ends depend on
       known_after_here : known_after g r (node_of g p) (earlier ++ p ∷ []) ≡ (heard_earlier ++ heard_own r)
           ++ (ends_earlier ++ end_reach r p)
       known_after_here = ap₂ ◌++◌ heard_up_to
           (flat_map-append (end_reach r) earlier (p ∷ []) ∙ ap (λ xs. ends_earlier ++ xs) (append-nil (end_reach r p)))
 
-      -- what is known after the process is right
+      -- d is that
       here : SameElements d (known_after g r (node_of g p) (earlier ++ p ∷ []))
+      -- the union of the parts, put into the order of the rule: what is heard before and by p, then the ends before
+      -- and p's own
       here v = ended v ∙ ap (λ t. t || is_in (p ∷ []) v)
           (started v ∙ ap₂ ◌||◌ (heard v ∙ ap₂ ◌||◌
           (agrees.knows (node_of g p) there v ∙ in_append heard_earlier ends_earlier v) (heard_right v)) (right v))
@@ -213,6 +219,7 @@ module _ (g : Graph) (order : List ℕ) (top : IsTopological g order) (r : Reach
       knows_next : (node : ℕ) → node < length g.nodes →
           SameElements (get_or (set known (node_of g p) d) node [])
           (known_after g r node (on_node g order (place order p + 1) node))
+      -- by whether p is on the node
       knows_next node l v = elim (eqb_tells (node_of g p) node) [
         | inl same ↦ ap (λ n. is_in (get_or (set known (node_of g p) d) n []) v) (sym same.1)
             ∙ ap (λ zs. is_in zs v)
@@ -253,7 +260,7 @@ module _ (g : Graph) (order : List ℕ) (top : IsTopological g order) (r : Reach
               (cases_eq (moment g order y) (place order p * phases g + 1)))
               (cases_lt (moment g order y) (place order p * phases g))
 
-      -- a start isn't sent
+      -- nothing is sent at the start or the end of p
       sends_start : (node : ℕ) →
           sent_before g order (place order p * phases g + 2) node ≡ sent_before g order (place order p * phases g) node
       sends_start node = ap (λ n. sent_before g order n node)
@@ -264,7 +271,7 @@ module _ (g : Graph) (order : List ℕ) (top : IsTopological g order) (r : Reach
           (subst (λ z. is_sent g z ≡ true) (same_moment g order top y p l (omega arith)
           (let n = moment_of_start g order top p within in omega arith)) t))
 
-      -- with both set, all is right before the next moment
+      -- with both set, all is right up to the moment of p's broadcast
       pub started_next : AgreesUntil g order r (place order p + 1) (place order p * phases g + 2) (set rs p reach)
           (set known (node_of g p) d) sent
       started_next = record {
@@ -316,7 +323,7 @@ module _ (g : Graph) (order : List ℕ) (top : IsTopological g order) (r : Reach
   -- given: reaches that are right before an item that may be sent
   module _ (k : ℕ) (x : ℕ) (within : x < item_count g) (rs known sent : List (List ℕ))
       (agrees : AgreesUntil g order r k (moment g order x) rs known sent) (there : home g x < length g.nodes) where
-    -- the values that decide the producer
+    -- the values of the conditions that decide the producer
     abbrev values : List ℕ
     values = map value_variable (conditions_of g (producer g x))
 
@@ -324,6 +331,8 @@ module _ (g : Graph) (order : List ℕ) (top : IsTopological g order) (r : Reach
     sent_right : is_sent g x ≡ true →
         SameElements ((cond (is_frozen g x) values (end_reach rs (producer g x) ++ get_or sent (home g x) []))
         ++ sent_value g (item_at g x)) (send_reach g order r x)
+    -- part by part: what decides a frozen item, or else its producer's end and what its node has sent before; then the
+    -- value that it asks for
     sent_right t = same_append (cond (is_frozen g x) values (end_reach rs (producer g x) ++ get_or sent (home g x) []))
         (sent_value g (item_at g x))
         (cond (is_frozen g x) values (end_reach r (producer g x) ++ flat_map (reach_of r) (queued_before g order x)))
@@ -339,19 +348,20 @@ module _ (g : Graph) (order : List ℕ) (top : IsTopological g order) (r : Reach
         ∙ ap (λ ys. is_in (flat_map (reach_of r) ys) v) (sym (queue_is x within t)))))
         (λ v. refl)
 
-    -- what an item depends on if it is sent, and nothing otherwise
+    -- what item i depends on by the rules, if it is sent, and nothing otherwise
     abbrev if_sent : Item → List ℕ
     if_sent i = cond (is_sent_item g i) (send_reach g order r x) []
 
-    -- what an item depends on is right, whether it is sent or not
+    -- what x depends on is right, whether it is sent or not
     any_right : SameElements (send_by g rs sent (item_at g x)) (if_sent (item_at g x))
     any_right = same_cond (is_sent g x)
         ((cond (is_frozen g x) values (end_reach rs (producer g x) ++ get_or sent (home g x) []))
         ++ sent_value g (item_at g x)) []
         (send_reach g order r x) [] sent_right (λ e v. refl)
 
+    -- given: which item x is
     module _ (i : Item) (at : item_at g x ≡ i) (rule : reach_by_item g order r x i ≡ if_sent i) where
-      -- the reach that is found for the item is right
+      -- a set with what was found for the item has the variables of its reach
       pub send_right : (reach : List ℕ) → SameElements reach (send_by g rs sent i) → SameElements reach (reach_of r x)
       send_right reach h v = h v
           ∙ subst (λ j. SameElements (send_by g rs sent j) (if_sent j)) at any_right v
@@ -366,11 +376,12 @@ module _ (g : Graph) (order : List ℕ) (top : IsTopological g order) (r : Reach
 
 -- ---- at first
 
--- with empty reaches, nothing known and nothing sent, all is right at first
+-- at moment 0, before the first process, empty sets are right
 pub walk_begins : (g : Graph) (order : List ℕ) (r : Reach) (rs known sent : List (List ℕ)) →
     AreEmpty (item_count g) rs → AreEmpty (length g.nodes) known →
     AreEmpty (length g.nodes) sent →
     AgreesUntil g order r 0 0 rs known sent
+-- nothing has a moment below 0, and nothing is known or sent yet
 walk_begins g order r rs known sent a b c = record {
   items = a.count;
   known_nodes = b.count;
@@ -380,13 +391,14 @@ walk_begins g order r rs known sent a b c = record {
   sends = λ node l v. c.each node v ∙ ap (λ ys. is_in (flat_map (reach_of r) ys) v) (sym (none node));
 }
   where
+    -- no item has a moment below 0
     none : (node : ℕ) → sent_before g order 0 node ≡ []
     none node = filter_none (λ y. is_sent g y && (home g y == node) && nat_lt (moment g order y) 0)
         (numbers_below (item_count g))
         (λ y k. and_right (is_sent g y && (home g y == node)) (nat_lt (moment g order y) 0)
         (le-ltb (moment g order y) 0 (omega arith)))
 
--- the lists of a walk keep their lengths
+-- what is found has a reach for each item, and two sets for each node
 pub walked_some : (g : Graph) (order : List ℕ) (top : IsTopological g order) (k m : ℕ) (rs known sent : List (List ℕ)) →
     ((r : Reach) → IsReach g order r → AgreesUntil g order r k m rs known sent)
     → (length rs ≡ item_count g) × (length known ≡ length g.nodes) × (length sent ≡ length g.nodes)

@@ -1,4 +1,4 @@
--- A reduced and ordered tree tests exactly the conditions that decide its process in some scenario.
+-- A guard of a process, reduced and ordered, tests just the conditions that decide the process in some scenario.
 use Rattle.std.proofs.Common.{ℕ, ◌+◌, ◌<◌, ◌≤◌, ◌≡◌, Bool, true, false, if◌then◌else◌, List, [], ◌∷◌, ◌++◌, length}
 use Rattle.std.proofs.Common.{get_or, set, map, replicate, length-append, Contains, refl, sym, ap, ◌∙◌, subst}
 use Rattle.std.proofs.Common.{⊎_elim, arith}
@@ -27,8 +27,9 @@ use Rattle.cpg_reach.specs.Variables.{Adds}
 use Rattle.cpg_rules.specs.Trees.{TestsBelow}
 use Rattle.cpg_reach.specs.Tested.{tested, tested_values, AreDecidingUntil}
 
--- each test on a way is a test of the tree
+-- a condition that an outcome's way tests is one that the guard tests
 way_is_tested : (t : Guard) (o : List Bool) (c : ℕ) → Contains (way t o) c → Contains (tested t) c
+-- by induction on the guard: the first test, or one on the side that the value picks
 way_is_tested (Leaf a) o c k = k
 way_is_tested (Test d off on) o c k = ⊎_elim
     (λ (e : d ≡ c). subst (Contains (tested (Test d off on))) e (Contains-first d (tested off ++ tested on)))
@@ -46,22 +47,27 @@ module _ (g : Graph) (order : List ℕ) where
   abbrev rank : ℕ → ℕ
   rank c = place order (process_of g c)
 
-  -- an outcome that agrees with b before k, and on whose way c is tested
+  -- some outcome agrees with b on conditions whose processes stand before the place k, and its way tests c
   record Passes (k : ℕ) (b : List Bool) (t : Guard) (c : ℕ) : Type 0 where
+    -- the outcome
     outcome : List Bool
+    -- one value for each condition
     count : length outcome ≡ condition_count g
+    -- it agrees with b there
     agrees : (d : ℕ) → d < condition_count g → rank d < k → get_or outcome d false ≡ get_or b d false
+    -- its way tests c
     passes : Contains (way t outcome) c
 
-  -- the way through a test goes on in the side that the value chooses
+  -- the way through a test of d goes on to the side that d's value picks
   way_at : (d : ℕ) (off on : Guard) (o : List Bool) (v : Bool) → get_or o d false ≡ v →
       way (Test d off on) o ≡ d ∷ (if v then way on o else way off o)
   way_at d off on o v e = ap (λ w. d ∷ (if w then way on o else way off o)) e
 
-  -- an outcome that passes a test of one side passes it through the whole test
+  -- if the side that v picks tests c for an outcome like b with v for d, so does the whole guard for one like b
   through : (k d : ℕ) (b : List Bool) (off on : Guard) (v : Bool) (c : ℕ) → d < condition_count g → k ≤ rank d →
       length b ≡ condition_count g
       → Passes (rank d + 1) (set b d v) (if v then on else off) c → Passes k b (Test d off on) c
+  -- the outcome agrees with b below k, and has v for d, so its way goes on to that side
   through k d b off on v c h at l p = record {
     outcome = p.outcome;
     count = p.count;
@@ -72,14 +78,17 @@ module _ (g : Graph) (order : List ℕ) where
         (arm v p.outcome p.passes);
   }
     where
+      -- what is on the way behind the test of d is on the whole way
       arm : (w : Bool) (o : List Bool) → Contains (way (if w then on else off) o) c →
           Contains (d ∷ (if w then way on o else way off o)) c
       arm true o i = Contains-rest d (way on o) c i
       arm false o i = Contains-rest d (way off o) c i
 
-  -- a condition that is tested is on the way of some outcome
+  -- if the guard tests c, some outcome that agrees with b before k has c on its way
   tested_passes : (k : ℕ) (t : Guard) (b : List Bool) (c : ℕ) → IsOrderedFrom g order k t →
       length b ≡ condition_count g → Contains (tested t) c → Passes k b t c
+  -- by induction on the guard: b itself passes the first test; for a test of one side, b is given the value that leads
+  -- there
   tested_passes k (Leaf a) b c o l i = absurd (Contains-nil c i)
   tested_passes k (Test d off on) b c o l i = ⊎_elim
       (λ (e : d ≡ c). record {
@@ -99,6 +108,7 @@ module _ (g : Graph) (order : List ℕ) where
   -- a condition that is tested is one of the graph
   tested_within : (k : ℕ) (t : Guard) (c : ℕ) → IsOrderedFrom g order k t → Contains (tested t) c →
       c < condition_count g
+  -- by induction on the guard
   tested_within k (Leaf a) c o i = absurd (Contains-nil c i)
   tested_within k (Test d off on) c o i = ⊎_elim
       (λ (e : d ≡ c). subst (λ z. z < condition_count g) e o.0)
@@ -108,13 +118,15 @@ module _ (g : Graph) (order : List ℕ) where
       (Contains-append_cases (tested off) (tested on) c j))
       (Contains-cases d (tested off ++ tested on) c i)
 
+  -- given: the guard of a process
   module _ (urgency : IsUrgencyOrder g order) (p : ℕ) (t : Guard) (guard : IsGuardOf g order p t) where
     -- whether a condition decides the process in some outcome
     abbrev some_decides : ℕ → Bool
     some_decides c = list_any (λ o. decides g o p c) (outcomes (condition_count g))
 
-    -- what the tree tests decides the process in some scenario
+    -- a condition that the guard tests decides the process in some scenario: in the one on whose way it is
     from_tested : (c : ℕ) → Contains (tested t) c → Contains (conditions_of g p) c
+    -- an outcome whose way tests c is found, and what is on its way decides p in it
     from_tested c i =
         let x = tested_passes 0 t (replicate (condition_count g) false) c guard.ordered
         (length-replicate (condition_count g) false) i in
@@ -125,7 +137,7 @@ module _ (g : Graph) (order : List ℕ) where
         ((way_is_deciding g order urgency p x.outcome x.count t guard c h).0 x.passes))
         (Contains-numbers (condition_count g) c h)
 
-    -- a condition that decides the process in some scenario is tested
+    -- a condition that decides the process in some outcome is tested on that outcome's way
     to_tested : (c : ℕ) → Contains (conditions_of g p) c → Contains (tested t) c
     to_tested c i =
         let a = Contains-filter_parts some_decides (numbers_below (condition_count g)) c i in
@@ -142,27 +154,29 @@ module _ (g : Graph) (order : List ℕ) where
         is_in_from (map value_variable ys) v
         (subst (Contains (map value_variable ys)) r.2 (Contains-map value_variable ys r.0 (h r.0 r.1)))
 
-    -- the values that a process's tree tests are those of the conditions that decide it
+    -- so the values that the guard tests are those of the conditions that decide the process
     pub tests_are_deciding : SameElements (tested_values t) (map value_variable (conditions_of g p))
     tests_are_deciding v = same_truth _ _ (values_moved (tested t) (conditions_of g p) v from_tested)
         (values_moved (conditions_of g p) (tested t) v to_tested)
 
 -- ---- one process after another
 
--- a tree that tests conditions below a number tests them below a greater one
+-- a guard that tests conditions below n tests conditions below m, if n is no greater
 pub tests_below : (n m : ℕ) (t : Guard) → n ≤ m → TestsBelow n t → TestsBelow m t
+-- by induction on the guard
 tests_below n m (Leaf a) l h = tt
 tests_below n m (Test c off on) l h = (omega (arith, h.0), tests_below n m off l h.1, tests_below n m on l h.2)
 
--- of no processes nothing is known
+-- before the first process there are no sets
 pub deciding_first : (g : Graph) → AreDecidingUntil g 0 []
 deciding_first g = record { count = refl; each = λ p l. absurd (omega arith) }
 
--- one process more has the conditions that decide it
+-- with the values that decide process n put behind those so far, there is a set for one process more
 pub deciding_next : (g : Graph) (n : ℕ) (values : List (List ℕ)) (more : List ℕ) →
     SameElements more (map value_variable (conditions_of g n)) →
     AreDecidingUntil g n values →
     AreDecidingUntil g (n + 1) (values ++ more ∷ [])
+-- a process below n keeps its set, and n has the new one
 deciding_next g n values more same h = let c = h.count in record {
   count = let e = length-append values (more ∷ []) in omega arith;
   each = λ p l v. ⊎_elim
@@ -175,14 +189,15 @@ deciding_next g n values more same h = let c = h.count in record {
 
 -- ---- the trees of an admitted graph
 
+-- given: an admitted graph
 module _ (g : Graph) (order : List ℕ) (guards : Guards) (admitted : IsAdmitted g order guards) where
-  -- the trees of an admitted graph test at most 32 conditions
+  -- its guards test conditions below 32
   pub tests_fit : (t : Guard) → TestsBelow guards.conditions t → TestsBelow 32 t
   tests_fit t h = let a = admitted.guards.conditions in
       let b = admitted.limits.few_conditions in
       tests_below guards.conditions 32 t (omega arith) h
 
-  -- what is found in the tree of a process is the values of the conditions that decide it
+  -- a set with the values that a process's guard tests has those of the conditions that decide the process
   pub tree_decides : (p : ℕ) → p < process_count g → (t : Guard) → t ≡ tree_of guards p → (found : List ℕ) →
       Adds [] (tested_values t) found →
       SameElements found (map value_variable (conditions_of g p))

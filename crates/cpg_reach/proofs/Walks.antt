@@ -1,4 +1,4 @@
--- The walk along an order, as the code takes its steps.
+-- The walk along an order, as the code takes its steps: what it reads is equal to what was found, by other names.
 use Rattle.std.proofs.Common.{ℕ, ◌+◌, ◌*◌, ◌<◌, ◌≤◌, ◌≡◌, cond, List, [], ◌∷◌, length, get_or, set, Some, None, refl}
 use Rattle.std.proofs.Common.{sym, ap, ◌∙◌, subst, arith, mul-le-mul_right}
 use Rattle.cpg_base.specs.Graph.{Graph, process_count, edge_count, item_count, item_at, message_item, broadcast_item}
@@ -19,7 +19,7 @@ use Rattle.cpg_reach.specs.Walked.{heard_by, start_by, send_by, AgreesUntil, Are
 use Rattle.cpg_reach.proofs.Settling.{skipped, settled, broadcast_at, message_at}
 use Rattle.cpg_reach.proofs.Steps.{start_right, started_next, send_right, unsent_empty, walk_begins, walked_some}
 
--- the walk agrees with each reach of the order so far
+-- what is found is right by each reach of the order; `k` and `m` say how far
 abbrev pub Agrees : Graph → List ℕ → ℕ → ℕ → (rs known sent : List (List ℕ)) → Type 0
 Agrees g order k m rs known sent = (r : Reach) → IsReach g order r → AgreesUntil g order r k m rs known sent
 
@@ -32,10 +32,10 @@ agrees_as g order r k m n rs us known knows sent sents e a b c h =
     (subst (λ x. AgreesUntil g order r k n us x sent) b (subst (λ x. AgreesUntil g order r k n x known sent) a
     (subst (λ x. AgreesUntil g order r k x rs known sent) e h)))
 
+-- given: a topological order
 module _ (g : Graph) (order : List ℕ) (top : IsTopological g order) where
-  -- After the reach of a start, and what its node makes wait for with it, all is right before what it sends.
-  -- `first`, `second`, `starts` are the reaches and sets as the code reads them. `b`, `c`, `d` are the node's set
-  -- with what is heard, with the reach, and with the process.
+  -- Once the reach of a start is set, and what its node makes later processes wait for, all is right up to the
+  -- process's broadcast.
   pub start_settled : (p : ℕ) → p < process_count g → (rs first second known starts sent : List (List ℕ)) → first ≡ rs →
       second ≡ rs →
       starts ≡ known →
@@ -44,6 +44,7 @@ module _ (g : Graph) (order : List ℕ) (top : IsTopological g order) where
       SameElements reach (start_by g first starts p) → a ≡ get_or known node [] →
       Adds a (heard_by g second node (conditions_of g p)) b → Adds b reach c → Adds c (p ∷ []) d
       → Agrees g order (place order p + 1) (place order p * phases g + 2) (set rs p reach) (set known node d) sent
+  -- the sets that the code reads by other names are the given ones; then `started_next` says that all is right
   start_settled p within rs first second known starts sent same again knows walked node at there reach a b c d right was
       heard started ended r is =
       let n : node_of g p < length g.nodes = subst (λ x. x < length g.nodes) at there in
@@ -61,9 +62,7 @@ module _ (g : Graph) (order : List ℕ) (top : IsTopological g order) where
       (started_next g order top r is p within rs known sent
       (walked r is) n reach b c d reach_is heard_here started ended)
 
-  -- After the reach of an item that may be sent all is right before the next moment.
-  -- `first`, `sends` are the reaches and sets as the code reads them, and `us`, `knows`, `sents` those after the
-  -- item.
+  -- Once the reach of an item that may be sent is set, all is right up to the next moment.
   pub send_settled : (k m x : ℕ) (rs first known sent sends us knows sents : List (List ℕ)) → first ≡ rs →
       sends ≡ sent → Agrees g order k m rs known sent → x < item_count g → (i : Item) →
       item_at g x ≡ i → moment g order x ≡ m
@@ -72,6 +71,7 @@ module _ (g : Graph) (order : List ℕ) (top : IsTopological g order) where
       → (reach b : List ℕ) → SameElements reach (send_by g first sends i) → us ≡ set rs x reach → knows ≡ known →
       sents ≡ set sent node b → Adds (get_or sent node []) reach b →
       Agrees g order k (m + 1) us knows sents
+  -- the sets that the code reads by other names are the given ones; then `settled` says that all is right
   send_settled k m x rs first known sent sends us knows sents same again walked within i at when rule node here there
       reach b right us_is knows_is sents_is adds r is =
       let n : home g x < length g.nodes = subst (λ y. y < length g.nodes) here there in
@@ -86,7 +86,7 @@ module _ (g : Graph) (order : List ℕ) (top : IsTopological g order) where
       (unsent_empty g order top r is k x within rs known sent now n i at (rule r)) b
       (subst (λ y. Adds (get_or sent y []) reach b) here adds) n)
 
-  -- after the reach of a broadcast all is right before the messages
+  -- once the reach of a broadcast is set, all is right up to the process's first message
   pub broadcast_settled : (p c : ℕ) (rs first known sent sends us knows sents : List (List ℕ)) → first ≡ rs →
       sends ≡ sent →
       condition_of g p ≡ Some c →
@@ -96,6 +96,7 @@ module _ (g : Graph) (order : List ℕ) (top : IsTopological g order) where
       us ≡ set rs (broadcast_item g c) reach → knows ≡ known → sents ≡ set sent node b →
       Adds (get_or sent node []) reach b
       → Agrees g order (place order p + 1) (place order p * phases g + 3) us knows sents
+  -- a broadcast is an item that may be sent, and its moment is 2 past its process's first one
   broadcast_settled p c rs first known sent sends us knows sents same again own walked node here there reach b right
       us_is knows_is sents_is adds r is =
       let q = process_of_condition_of g p c own in
@@ -109,7 +110,7 @@ module _ (g : Graph) (order : List ℕ) (top : IsTopological g order) where
       (here ∙ ap (node_of g) (sym q) ∙ ap (λ i. node_of g (producer_of_item g i)) (sym (item_at-broadcast g c))) there
       reach b right us_is knows_is sents_is adds r is)
 
-  -- a process without a condition sends no broadcast, so all stays right
+  -- a process without a condition has no broadcast, so all is right up to its first message already
   pub no_broadcast : (p : ℕ) → p < process_count g → (rs known sent : List (List ℕ)) → condition_of g p ≡ None →
       Agrees g order (place order p + 1) (place order p * phases g + 2) rs known sent →
       Agrees g order (place order p + 1) (place order p * phases g + 3) rs known sent
@@ -124,7 +125,7 @@ module _ (g : Graph) (order : List ℕ) (top : IsTopological g order) where
       none_is_some : {c : ℕ} → None ≡ Some c → ⊥
       none_is_some e = cc
 
-  -- after the reach of a message all is right before the next edge
+  -- once the reach of a message is set, all is right up to the next edge's
   pub message_settled : (p e : ℕ) (rs first known sent sends us knows sents : List (List ℕ)) → first ≡ rs →
       sends ≡ sent → e < edge_count g →
       source g e ≡ p →
@@ -134,6 +135,7 @@ module _ (g : Graph) (order : List ℕ) (top : IsTopological g order) where
       us ≡ set rs (message_item g e) reach → knows ≡ known → sents ≡ set sent node b →
       Adds (get_or sent node []) reach b
       → Agrees g order (place order p + 1) (place order p * phases g + 3 + (e + 1)) us knows sents
+  -- a message is an item that may be sent, at the moment of its edge
   message_settled p e rs first known sent sends us knows sents same again l q walked node here there reach b right us_is
       knows_is sents_is adds r is =
       agrees_as g order r (place order p + 1) (place order p * phases g + 3 + e + 1)
@@ -147,11 +149,12 @@ module _ (g : Graph) (order : List ℕ) (top : IsTopological g order) where
       (here ∙ ap (node_of g) (sym q) ∙ ap (λ i. node_of g (producer_of_item g i)) (sym (item_at-message g e l))) there
       reach b right us_is knows_is sents_is adds r is)
 
-  -- an edge from another process carries no message of this one, so all stays right
+  -- an edge from another process has no item at this moment, so all is right up to the next edge's already
   pub no_message : (p e : ℕ) → p < process_count g → e < edge_count g → (rs known sent : List (List ℕ)) →
       (source g e ≡ p → ⊥) →
       Agrees g order (place order p + 1) (place order p * phases g + 3 + e) rs known sent →
       Agrees g order (place order p + 1) (place order p * phases g + 3 + (e + 1)) rs known sent
+  -- the item with that moment would be the message of an edge from p
   no_message p e within l rs known sent other walked r is =
       agrees_as g order r (place order p + 1) (place order p * phases g + 3 + e + 1)
       (place order p * phases g + 3 + (e + 1)) rs rs known known sent sent (omega arith) refl refl refl
@@ -159,7 +162,7 @@ module _ (g : Graph) (order : List ℕ) (top : IsTopological g order) where
       (λ y i h. other (message_at g order top p e y within l i
       (h ∙ (let x : place order p * phases g + 3 + e ≡ place order p * phases g + (e + 3) = omega arith in x)))))
 
-  -- with empty reaches, nothing known and nothing sent, all is right before the first process
+  -- empty sets are right before the first process
   pub walk_starts : (items nodes : ℕ) (rs known sent : List (List ℕ)) → items ≡ item_count g → nodes ≡ length g.nodes →
       AreEmpty items rs → AreEmpty nodes known →
       AreEmpty nodes sent →
@@ -169,7 +172,7 @@ module _ (g : Graph) (order : List ℕ) (top : IsTopological g order) where
       (walk_begins g order r rs known sent (subst (λ m. AreEmpty m rs) i a) (subst (λ m. AreEmpty m known) n b)
       (subst (λ m. AreEmpty m sent) n c))
 
-  -- given: the process at a place of the order, by another name of the graph
+  -- given: process p at place k of the order, and the graph by another name
   module _ (h : Graph) (same : h ≡ g) (lawful : IsOrder order) (k p : ℕ) (within : k < length order)
       (at : p ≡ get_or order k 0) (rs known sent : List (List ℕ)) where
     -- the process stands at place k
@@ -188,7 +191,7 @@ module _ (g : Graph) (order : List ℕ) (top : IsTopological g order) where
     step_out walked = subst (λ (x : Graph). Agrees x order (k + 1) ((k + 1) * phases x) rs known sent) same
         (subst (λ n. Agrees h order (n + 1) ((n + 1) * phases h) rs known sent) stands walked)
 
-  -- at the end every item has been reached
+  -- behind the last process the reach of each item is found
   pub all_reached : (k : ℕ) (rs known sent : List (List ℕ)) → process_count g ≤ k →
       Agrees g order k (k * phases g) rs known sent →
       AreReaches g order rs

@@ -1,4 +1,4 @@
--- Items that are too wide: the loads of one item after another, and views by sets with the same in them.
+-- Items that are too wide: the load of all items so far, and views that depend on what is in a set alone.
 use Rattle.std.proofs.Common.{ℕ, ◌+◌, ◌*◌, ◌<◌, ◌≤◌, ◌≡◌, min, true, false, ◌&&◌, ◌||◌, List, [], ◌∷◌, get_or, sum_by}
 use Rattle.std.proofs.Common.{refl, sym, ap, ap₂, ◌∙◌, ⊎_elim, arith}
 use Rattle.std.specs.Prelude.{nat_lt}
@@ -22,14 +22,14 @@ use Rattle.cpg_reach.specs.Walked.{AreReaches}
 use Rattle.cpg_reach.specs.Wide.{HasViews, IsLeastWide, IsNarrow, is_wide_by, HasLoads}
 use Rattle.cpg_reach.proofs.Adding.{set_at}
 
--- sets with the same in them have the same views
+-- two sets with the same variables have the same views
 pub same_views : (g : Graph) (xs ys : List ℕ) → SameElements xs ys → views g xs ≡ views g ys
 same_views g xs ys h =
     let a = views_grow g xs ys (λ v t. sym (h v) ∙ t) in
     let b = views_grow g ys xs (λ v t. h v ∙ t) in
     omega arith
 
--- a number of 64 bits holds the views of an admitted graph
+-- the views of a set in an admitted graph fit into 64 bits
 pub views_whole : (g : Graph) (order : List ℕ) (guards : Guards) → IsAdmitted g order guards → (reached : List ℕ) →
     min 18446744073709551615 (views g reached) ≡ views g reached
 views_whole g order guards admitted reached =
@@ -39,7 +39,7 @@ views_whole g order guards admitted reached =
     let f = views_fit g admitted.limits.few_processes admitted.limits.faults reached t.0 t.1 (omega arith) in
     omega arith
 
--- by whatever reach, an item has the views that are counted, as far as there are numbers
+-- the number that is counted from a set with the item's reach is the number of its views
 pub has_views : (g : Graph) (order : List ℕ) (top : IsTopological g order) (guards : Guards) (urgency : List ℕ) →
     IsAdmitted g urgency guards → (rs : Reach) →
     AreReaches g order rs →
@@ -53,17 +53,20 @@ has_views g order top guards urgency admitted rs are x n xs l at is = record {
 
 -- ---- the loads so far
 
--- by whatever reach, these are the loads of the items before one, and none of them is too wide
+-- `loads` is the load of all items before x, and none of these is too wide
 pub record AreLoads (g : Graph) (order : List ℕ) (x loads : ℕ) : Type 0 where
+  -- it is within the limit
   pub few : loads ≤ MOST_LOAD
+  -- by any reach of the order it is the sum of their loads
   pub sum : (r : Reach) → IsReach g order r → loads ≡ sum_by (load g r) (numbers_below x)
+  -- by any reach of the order none of them is too wide
   pub narrow : (r : Reach) → IsReach g order r → (y : ℕ) → y < x → is_too_wide g r y ≡ false
 
 -- before any item the loads are 0
 pub loads_first : (g : Graph) (order : List ℕ) → AreLoads g order 0 0
 loads_first g order = record { few = omega arith; sum = λ r is. refl; narrow = λ r is y l. absurd (omega arith) }
 
--- a sum over the numbers below x, and x too
+-- a sum over the numbers up to x is that over those below x, and f x
 sum_next : (f : ℕ → ℕ) (x : ℕ) → sum_by f (numbers_below (x + 1)) ≡ sum_by f (numbers_below x) + f x
 sum_next f x = ap (sum_by f) (below_push x) ∙ sum_by-append f (numbers_below x) (x ∷ [])
     ∙ (let e = sum_by-cons f x [] in omega arith)
@@ -77,14 +80,14 @@ module _ (g : Graph) (order : List ℕ) (top : IsTopological g order) (rs : Reac
   views_are r is = same_views g xs (reach_of r x)
       (λ v. ap (λ ys. is_in ys v) (set_at rs x xs (let c = are.count in omega arith) at) ∙ are.each r is x within v)
 
-  -- the test by sets with the same in them says whether the item is too wide
+  -- what is tested by the set says whether the item is too wide
   wide_is : (r : Reach) → IsReach g order r → is_wide_by g xs x loads ≡ is_too_wide g r x
   wide_is r is = ap₂ (λ n s. nat_lt 0 (rows_of_item g (item_at g x)) && (nat_lt most_views n || nat_lt most_loads s))
       (views_are r is)
       (ap₂ ◌+◌ (so_far.sum r is) (ap (λ n. n * rows_of_item g (item_at g x)) (views_are r is))
       ∙ sym (sum_next (load g r) x))
 
-  -- if the item is not too wide, its load makes the loads of one item more
+  -- if the item isn't too wide, the sum with its load is that of one item more
   pub loads_next : (sum : ℕ) → HasLoads g xs x loads sum → AreLoads g order (x + 1) sum
   loads_next sum h = record {
     few = h.few;

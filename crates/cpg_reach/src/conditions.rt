@@ -9,7 +9,7 @@ use cpg_base::OutOfMemory;
 use cpg_rules::{Admitted, GuardTop, GuardTree};
 use std::alloc::Global;
 
-/// Adds the values of all conditions that a tree tests.
+/// Adds the values of all conditions that a guard tests.
 fn add_tested(tree: &GuardTree, values: &mut Variables)
     requires { TestsBelow 32 tree.now }
     ensures { Adds values.old (tested_values tree.now) values.new }
@@ -24,7 +24,7 @@ fn add_tested(tree: &GuardTree, values: &mut Variables)
     }
 }
 
-/// The values of all conditions that a tree tests.
+/// Returns the values of all conditions that a guard tests.
 fn tested(tree: &GuardTree) -> Variables
     requires { TestsBelow 32 tree.now }
     ensures { Adds [] (tested_values tree.now) result }
@@ -34,7 +34,8 @@ fn tested(tree: &GuardTree) -> Variables
     values
 }
 
-/// For each process the values of the conditions that decide it in some scenario.
+/// Returns, for each process, the values of the conditions that decide it in some scenario. The one error is
+/// `OutOfMemory`.
 pub fn deciding_values(alloc: Global, admitted: &Admitted) -> Result<Vec<Variables>, OutOfMemory>
     ensures { IfOk result (λ values. AreDecidingValues admitted.now.graph values.items) }
 {

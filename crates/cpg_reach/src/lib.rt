@@ -1,5 +1,5 @@
-//! How many columns the rows of an item need: which variables its time may depend on, and in how many ways these can
-//! be set.
+//! How many columns the row of an item may need: which variables its time may depend on, and in how many ways these
+//! can be set.
 #![tactic(auto)]
 
 mod conditions;

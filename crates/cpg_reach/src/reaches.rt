@@ -1,4 +1,4 @@
-//! The reach of each item, along an order.
+//! The reach of each item, which is the variables that its time may depend on, found along an order.
 ghost use Rattle.std.specs.Prelude.{◌≡◌, ◌<◌, ◌+◌, ◌*◌, List, ℕ, [], IfOk, length, get_or, slice_set};
 ghost use Rattle.cpg_base.specs.Graph.{process_count, edge_count};
 ghost use Rattle.cpg_order.specs.Urgency.{IsTopological};
@@ -16,18 +16,18 @@ use cpg_base::{Order, OutOfMemory, Problem};
 use cpg_rules::Admitted;
 use std::alloc::Global;
 
-/// How far a walk along an order has come.
+/// What is found on a walk along an order, so far.
 #[derive(Drop)]
 pub struct OrderWalk {
-    /// By item, what its time depends on, as far as it has been found.
+    /// By item, the variables that its time may depend on; none if it isn't reached yet.
     reaches: Vec<Variables>,
-    /// By node, what its processes so far make later ones wait for.
+    /// By node, what its later processes wait for because of those so far.
     known: Vec<Variables>,
-    /// By node, what it has sent so far depends on.
+    /// By node, what its sends so far depend on.
     sent: Vec<Variables>,
 }
 
-/// Makes `count` empty sets of variables.
+/// Returns `count` empty sets of variables.
 fn empty_sets(alloc: Global, count: usize) -> Result<Vec<Variables>, OutOfMemory>
     ensures { IfOk result (λ sets. AreEmpty count sets.items) }
 {
@@ -39,7 +39,8 @@ fn empty_sets(alloc: Global, count: usize) -> Result<Vec<Variables>, OutOfMemory
     Ok(sets)
 }
 
-/// Finds the reach of the start of a process. The contract alone names `order`.
+/// Adds the reach of the start of a process, and what the process makes later ones on its node wait for. The contract
+/// alone names `order`.
 fn settle_start(
     problem: &Problem,
     order: &Order,
@@ -79,7 +80,7 @@ fn settle_start(
     walk.reaches[process as usize] = reach;
 }
 
-/// Takes the reach of what a node may send.
+/// Sets the reach of an item, and adds it to what its node has sent.
 fn settle(item: usize, node: u32, reach: Variables, walk: &mut OrderWalk)
     requires item { item < length walk.old.reaches.items }
     requires node { node < length walk.old.sent.items }
@@ -93,7 +94,7 @@ fn settle(item: usize, node: u32, reach: Variables, walk: &mut OrderWalk)
     walk.reaches[item] = reach;
 }
 
-/// Finds the reach of the broadcast of a process's condition, if it has one. The contract alone names `order`.
+/// Adds the reach of the broadcast of a process's condition, if it has one. The contract alone names `order`.
 fn settle_broadcast(problem: &Problem, order: &Order, process: u32, walk: &mut OrderWalk)
     requires order { IsTopological problem.now order.now }
     requires process { process < process_count problem.now }
@@ -110,11 +111,12 @@ fn settle_broadcast(problem: &Problem, order: &Order, process: u32, walk: &mut O
         walk.sent.as_slice(),
         condition,
     );
+    // items are the starts, then the edges, then the conditions
     let item = problem.processes().len() + problem.edges().len() + condition as usize;
     settle(item, problem.node_of(process), reach, walk);
 }
 
-/// Finds the reach of the message of an edge, if the edge comes from the process. The contract alone names `order`.
+/// Adds the reach of the message of an edge, if the edge comes from the process. The contract alone names `order`.
 fn settle_message(
     problem: &Problem,
     order: &Order,
@@ -141,11 +143,12 @@ fn settle_message(
         walk.sent.as_slice(),
         edge,
     );
+    // items are the starts, then the edges
     let item = problem.processes().len() + edge as usize;
     settle(item, problem.node_of(process), reach, walk);
 }
 
-/// Finds the reaches of the start of a process and of all that may be sent after its end.
+/// Adds the reaches of the start of a process and of all that it sends.
 fn settle_process(
     problem: &Problem,
     order: &Order,
@@ -166,7 +169,7 @@ fn settle_process(
     }
 }
 
-/// What the time of each item may depend on under an order, by item.
+/// Returns, for each item, the variables that its time may depend on under the order. The one error is `OutOfMemory`.
 pub fn reaches(
     alloc: Global,
     admitted: &Admitted,

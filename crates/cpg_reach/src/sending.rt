@@ -1,4 +1,4 @@
-//! What the send of a message or broadcast may depend on.
+//! What the time of a message or broadcast may depend on.
 ghost use Rattle.std.specs.Prelude.{◌≡◌, ◌<◌, ◌++◌, [], length, get_or};
 ghost use Rattle.cpg_base.specs.Graph.{edge_count, condition_count, item_count};
 ghost use Rattle.cpg_base.specs.declared.item.Item.TheVariants.{Message, Broadcast};
@@ -11,8 +11,8 @@ use crate::starting::{add_end, add_source_value};
 use crate::variables::Variables;
 use cpg_base::Problem;
 
-/// What the send of a message depends on, if it is known what its node has sent before it; nothing for an edge within a
-/// node.
+/// Returns what the time of a message depends on. `sent` has, by node, what its earlier sends depend on. An edge
+/// within a node depends on nothing, since it is never sent.
 pub fn message_of(
     problem: &Problem,
     deciding: &[Variables],
@@ -28,9 +28,11 @@ pub fn message_of(
 {
     let ends = problem.edges()[edge as usize];
     let node = problem.node_of(ends.from);
+    // the edge stays within the node
     if node == problem.node_of(ends.to) {
         return Variables::none();
     }
+    // a frozen message has one time, so only what decides its producer counts, and below the value that sends it
     let mut reach = if ends.frozen {
         deciding[ends.from as usize].copy()
     } else {
@@ -40,7 +42,7 @@ pub fn message_of(
     reach
 }
 
-/// What an end and what a node has sent depend on.
+/// Returns what the end of a process and the earlier sends of a node depend on.
 fn after_end(reaches: &[Variables], sent: &[Variables], process: u32, node: u32) -> Variables
     requires process { process < length reaches.now }
     requires variable { process < 128 }
@@ -52,8 +54,8 @@ fn after_end(reaches: &[Variables], sent: &[Variables], process: u32, node: u32)
     reach
 }
 
-/// What the send of a broadcast depends on, if it is known what its node has sent before it; nothing if there is one
-/// node.
+/// Returns what the time of a broadcast depends on. `sent` has, by node, what its earlier sends depend on. With one
+/// node it depends on nothing, since it is never sent.
 pub fn broadcast_of(
     problem: &Problem,
     reaches: &[Variables],
@@ -65,6 +67,7 @@ pub fn broadcast_of(
     requires nodes { length sent.now ≡ length problem.now.nodes }
     ensures { SameElements result (send_by problem.now reaches.now sent.now (Broadcast condition)) }
 {
+    // there is no other node that could hear it
     if problem.nodes().len() <= 1 {
         return Variables::none();
     }

@@ -12,7 +12,7 @@ ghost use Rattle.cpg_reach.specs.Walked.{heard_by, start_by};
 use crate::variables::{FIRST_VALUE, Variables};
 use cpg_base::Problem;
 
-/// Adds what an end depends on: its start, and its faults.
+/// Adds what the end of a process depends on: what its start does, and its fault count.
 pub fn add_end(reaches: &[Variables], process: u32, reach: &mut Variables)
     requires process { process < length reaches.now }
     requires variable { process < 128 }
@@ -22,7 +22,7 @@ pub fn add_end(reaches: &[Variables], process: u32, reach: &mut Variables)
     reach.insert(process);
 }
 
-/// Adds the value of an edge's source, if the edge is conditional.
+/// Adds the value that an edge asks for: its source's condition, if the edge has a `when` and the source a condition.
 pub fn add_source_value(problem: &Problem, edge: u32, reach: &mut Variables)
     requires { edge < edge_count problem.now }
     ensures { Adds reach.old (source_value problem.now edge) reach.new }
@@ -36,7 +36,7 @@ pub fn add_source_value(problem: &Problem, edge: u32, reach: &mut Variables)
     }
 }
 
-/// Adds what the moment of hearing a condition on a node depends on.
+/// Adds what the time depends on at which a node hears a condition.
 fn add_hearing(
     problem: &Problem,
     reaches: &[Variables],
@@ -50,7 +50,7 @@ fn add_hearing(
 {
     let process = problem.process_of(condition);
     let first_broadcast = problem.processes().len() + problem.edges().len();
-    // the node knows its own condition at the end of the process, and hears another one by its broadcast
+    // the node hears its own condition when the process ends, and another one by its broadcast
     if problem.node_of(process) == node {
         add_end(reaches, process, reach);
     } else {
@@ -58,7 +58,7 @@ fn add_hearing(
     }
 }
 
-/// Adds the values that decide a process, and what the moments of hearing them on a node depend on.
+/// Adds the values of the conditions that decide a process, and what the times depend on at which the node hears them.
 pub fn add_heard(
     problem: &Problem,
     deciding: &[Variables],
@@ -80,14 +80,14 @@ pub fn add_heard(
     }
 }
 
-/// Adds what the moment at which an input is there depends on.
+/// Adds what the time depends on at which an input is there, and the value that its edge asks for.
 fn add_input(problem: &Problem, reaches: &[Variables], edge: u32, reach: &mut Variables)
     requires edge { edge < edge_count problem.now }
     requires items { length reaches.now ≡ item_count problem.now }
     ensures { Adds reach.old (input_reach problem.now reaches.now edge) reach.new }
 {
     let ends = problem.edges()[edge as usize];
-    // on one node the input is there at the end of its source, and else when the message arrives
+    // within a node the input is there when its source ends, and otherwise when the message arrives
     if problem.node_of(ends.from) == problem.node_of(ends.to) {
         add_end(reaches, ends.from, reach);
     } else {
@@ -97,7 +97,7 @@ fn add_input(problem: &Problem, reaches: &[Variables], edge: u32, reach: &mut Va
     add_source_value(problem, edge, reach);
 }
 
-/// Adds what the moments at which the inputs of a process are there depend on.
+/// Adds what the times depend on at which the inputs of a process are there.
 fn add_inputs(problem: &Problem, reaches: &[Variables], process: u32, reach: &mut Variables)
     requires { length reaches.now ≡ item_count problem.now }
     ensures { Adds reach.old (flat_map (input_reach problem.now reaches.now) (inputs problem.now process)) reach.new }
@@ -109,7 +109,7 @@ fn add_inputs(problem: &Problem, reaches: &[Variables], process: u32, reach: &mu
     }
 }
 
-/// What the start of a process depends on, if it is known what those before it on its node made it wait for.
+/// Returns what the start of a process depends on. `known` has, by node, what its earlier processes make it wait for.
 pub fn start_of(
     problem: &Problem,
     deciding: &[Variables],
@@ -123,7 +123,7 @@ pub fn start_of(
     requires nodes { length known.now ≡ length problem.now.nodes }
     ensures { SameElements result (start_by problem.now reaches.now known.now process) }
 {
-    // a frozen process starts at one time, so just what decides it counts
+    // a frozen process starts at one time, so only what decides it counts
     if problem.processes()[process as usize].frozen {
         return deciding[process as usize].copy();
     }

@@ -7,14 +7,15 @@ ghost use Rattle.cpg_reach.specs.Variables.{Adds};
 use cpg_base::{MOST_CONDITIONS, MOST_PROCESSES};
 use std::marker::Model;
 
-/// How many variables there are: the fault counts of 128 processes, and then the values of 32 conditions.
+/// How many variables there are: the fault counts of 128 processes, then the values of 32 conditions.
 const MOST_VARIABLES: usize = MOST_PROCESSES + MOST_CONDITIONS;
-/// The variable of the value of condition 0.
+/// The variable of the value of condition 0; those of the others follow.
 pub const FIRST_VALUE: u32 = cpg_base::FIRST_VALUE as u32;
 
-/// A set of variables, seen as the list of their numbers.
+/// A set of variables. A contract sees it as the list of their numbers.
 #[derive(Drop)]
 pub struct Variables {
+    /// Whether each variable is in the set, by number.
     marks: [bool; MOST_VARIABLES],
 }
 
@@ -27,7 +28,7 @@ impl Model for Variables {
     ghost view = { λ s. members s.marks };
 }
 
-/// Marks all that the others mark.
+/// Marks in `marks` what `others` marks; what is marked already stays so.
 fn unite(marks: &mut [bool], others: &[bool])
     requires { length marks.old ≡ length others.now }
     ensures { (v : ℕ) → get_or marks.new v false ≡ (get_or marks.old v false || get_or others.now v false) }
@@ -38,7 +39,7 @@ fn unite(marks: &mut [bool], others: &[bool])
 }
 
 impl Variables {
-    /// No variables.
+    /// Returns the empty set.
     pub fn none() -> Variables
         ensures { (v : ℕ) → is_in result v ≡ false }
     {
@@ -47,7 +48,7 @@ impl Variables {
         }
     }
 
-    /// Whether a variable is there.
+    /// Whether a variable is in the set.
     pub fn has(&self, variable: u32) -> bool
         requires { variable < 160 }
         ensures { result ≡ is_in self.now variable }
@@ -63,14 +64,14 @@ impl Variables {
         self.marks[variable as usize] = true;
     }
 
-    /// Adds all variables of another set.
+    /// Adds the variables of another set.
     pub fn add(&mut self, others: &Variables)
         ensures { Adds self.old others.now self.new }
     {
         unite(&mut self.marks, &others.marks);
     }
 
-    /// An equal set.
+    /// Returns an equal set.
     pub fn copy(&self) -> Variables
         ensures { result ≡ self.now }
     {

@@ -1,4 +1,4 @@
-//! Views of items, and items that are too wide.
+//! The views of items, and items that are too wide by them.
 ghost use Rattle.std.specs.Prelude.{◌≡◌, ◌<◌, ◌≤◌, IfOk, IfSome, IfNone, true};
 ghost use Rattle.cpg_base.specs.Graph.{item_count, item_at, process_count};
 ghost use Rattle.cpg_order.specs.Urgency.{IsTopological};
@@ -13,8 +13,8 @@ use cpg_base::{Item, MOST_COLUMNS, MOST_LOAD, Order, OutOfMemory, Problem};
 use cpg_rules::Admitted;
 use std::alloc::Global;
 
-/// In how many rows an item stands. A start stands in one; an item that is sent stands in one at its sender and in
-/// one at each receiver.
+/// Returns in how many rows an item stands: a start in one, an item that is sent in one at its sender and in one at
+/// each receiver, and an item that is never sent in none.
 pub fn rows_of_item(problem: &Problem, item: u32) -> u64
     requires { item < item_count problem.now }
     ensures rows { result ≡ rows_of_item problem.now (item_at problem.now item) }
@@ -30,7 +30,8 @@ pub fn rows_of_item(problem: &Problem, item: u32) -> u64
     }
 }
 
-/// The loads with that of one more item; `None` if the item has too many views, or the loads become too many.
+/// Returns the load of all items so far, of which `loads` is that of those before this one. `None` exactly if this
+/// item has too many views, or the load becomes too great.
 fn loads_with(
     admitted: &Admitted,
     order: &Order,
@@ -48,12 +49,13 @@ fn loads_with(
     ensures counter { IsCounterFor admitted.now.graph order.now counter.new }
 {
     let rows = rows_of_item(admitted.problem(), item);
-    // the item stands in no row
+    // the item is never sent, so it needs no columns
     if rows == 0 {
         return Some(loads);
     }
+    // more views than one too many needn't be counted
     let views = counter.views(admitted, order, reached, MOST_COLUMNS + 1);
-    // a row with a column for each view would be too long
+    // a row with a column for each view would have too many
     if views > MOST_COLUMNS {
         return None;
     }
@@ -61,8 +63,9 @@ fn loads_with(
     if sum > MOST_LOAD { None } else { Some(sum) }
 }
 
-/// How many views an item has under an order: the scenarios in which each value that the item's time doesn't depend on, and
-/// each value of an inactive process, is false, and each such fault count is 0.
+/// Returns how many views an item has under an order: the scenarios in which each value that the item's time doesn't
+/// depend on, and each value of an inactive process, is false, and each such fault count is 0. The one error is
+/// `OutOfMemory`.
 pub fn views(
     alloc: Global,
     admitted: &Admitted,
@@ -80,8 +83,9 @@ pub fn views(
     Ok(views)
 }
 
-/// The least item that is too wide under an order, and `None` exactly if there is none: its views are more than 16,384,
-/// or the loads of the items up to it are together more than 524,288. The load of an item is its views in each of its rows.
+/// Returns the least item that is too wide under an order; `None` exactly if there is none. It has more than 16,384
+/// views, or the items up to it have a load of more than 524,288 together; an item's load is its views, once for each
+/// of its rows. The one error is `OutOfMemory`.
 pub fn too_wide(
     alloc: Global,
     admitted: &Admitted,

@@ -9,25 +9,25 @@ use Rattle.cpg_reader.specs.declared.place.ReadFault.TheVariants.{OutOfMemory}
 use Rattle.cpg_reader.specs.Reading.{Reading, Gives}
 use Rattle.cpg_reader.specs.Document.{document_of, read_members, problem_of}
 
--- bytes that are a document are read as its members
+-- bytes that spell a document say what its members say
 pub problem_of-read : (bytes : List ℕ) (ms : Members) → IsUtf8 bytes → parse_document bytes ≡ Some ms →
     problem_of bytes ≡ read_members ms
 unfolding problem_of document_of
 problem_of-read bytes ms text read = rw (is_utf8-from_IsUtf8 bytes text, read) refl
 
--- a test that lets through only nothing gives nothing
+-- an option after a test is `None` if it is so whenever the test passes
 none_if : (b : Bool) (o : Option Members) → (b ≡ true → o ≡ None) → cond b o None ≡ None
 none_if true o h = h refl
 none_if false o h = refl
 
--- bytes that are no document are refused as no TOML
+-- bytes that aren't UTF-8, or spell no document, are refused as no TOML
 pub problem_of-refused : (bytes : List ℕ) → (IsUtf8 bytes → parse_document bytes ≡ None) →
     problem_of bytes ≡ Err NotToml
 unfolding problem_of document_of
 problem_of-refused bytes h =
     rw (none_if (is_utf8 bytes) (parse_document bytes) (λ e. h (IsUtf8-from_is_utf8 bytes e))) refl
 
--- code that refuses as reading does, or because memory ran out, answers what reading gives if memory is there
+-- what code answers is what reading gives, if the code gives it and memory hasn't run out; by the answer
 pub answer-is : {T : Type 0} (answer reading : Reading T) → Gives (λ x. x) answer reading → answer ≢ Err OutOfMemory →
     answer ≡ reading
 answer-is (Ok x) reading h memory = sym h

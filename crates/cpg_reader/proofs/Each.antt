@@ -8,7 +8,7 @@ use Rattle.cpg_reader.specs.declared.place.ReadFault.TheVariants.{NotToml, BadFi
 use Rattle.cpg_reader.specs.declared.place.ReadFault.TheVariants.{OutOfMemory}
 use Rattle.cpg_reader.specs.Reading.{Reading, pure, ◌>>=◌, each, Refuses}
 
--- if one reading refuses as another does, code that refuses as the first refuses as the second
+-- if each refusal of one reading is one of another, code that fails as the first fails as the second; by the fault
 pub Refuses-along : {T U : Type 0} (fault : ReadFault) (a : Reading T) (b : Reading U) →
     ((f : ReadFault) → a ≡ Err f → b ≡ Err f) → Refuses fault a → Refuses fault b
 Refuses-along NotToml a b h r = h NotToml r
@@ -18,11 +18,11 @@ Refuses-along (UnknownName place) a b h r = h (UnknownName place) r
 Refuses-along (OverLimit what) a b h r = h (OverLimit what) r
 Refuses-along OutOfMemory a b h r = tt
 
--- the elements read so far, and those still to be read
+-- what was read of the elements so far, followed by what is read of the rest
 abbrev pub after : {U : Type 0} → List U → Reading (List U) → Reading (List U)
 after ys rest = rest >>= (λ zs. pure (ys ++ zs))
 
--- a step for each element of a mapped list is the mapped step for each element
+-- a step for each f x is the step of f x for each element x
 pub each-map : {S T U : Type 0} (f : S → T) (step : ℕ → T → Reading U) (i : ℕ) (xs : List S) →
     each step i (map f xs) ≡ each (λ i x. step i (f x)) i xs
 each-map f step i [] = refl
@@ -33,8 +33,9 @@ pub drop-here : {T : Type 0} (xs : List T) (i : ℕ) (x : T) → i < length xs �
     drop i xs ≡ x ∷ drop (i + 1) xs
 drop-here xs i x h is = drop_more xs i x h ∙ ap (λ y. y ∷ drop (i + 1) xs) (sym is)
 
+-- given a step, where `whole` is what a loop's reading of all elements comes to, with ys for those before i
 module _ {T U : Type 0} (step : ℕ → T → Reading U) where
-  -- if an element is refused, the whole list is
+  -- if the element at i is refused, the whole list is
   pub refused : (xs : List T) (i : ℕ) (x : T) (ys : List U) (fault : ReadFault) (whole : Reading (List U)) →
       i < length xs → x ≡ get_or xs i x →
       Refuses fault (step i x)
@@ -43,7 +44,7 @@ module _ {T U : Type 0} (step : ℕ → T → Reading U) where
       let here = rw (drop-here xs i x h is) at so_far in
       Refuses-along fault (step i x) whole (λ f e. sym here ∙ rw e refl) r
 
-  -- if all elements were read, the whole list was
+  -- if i is past the last element, the whole list was read as ys
   pub ends : (xs : List T) (i : ℕ) (ys : List U) (whole : Reading (List U)) → length xs ≤ i →
       after ys (each step i (drop i xs)) ≡ whole → whole ≡ Ok ys
   ends xs i ys whole h so_far =

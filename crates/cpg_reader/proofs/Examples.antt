@@ -16,16 +16,16 @@ use Rattle.cpg_reader.specs.Names.{place, apart, number_of, slot_of, process_of,
 use Rattle.cpg_reader.specs.Names.{resolved, graph_of}
 use Rattle.cpg_reader.specs.Document.{members_if, read_members}
 
--- lines as bytes, each with its line feed
+-- the bytes of lines, each with a line feed
 abbrev lines : List (List ℕ) → List ℕ
 lines [] = []
 lines (l ∷ ls) = l ++ 10 ∷ lines ls
 
--- what plain text says, which is UTF-8
+-- what bytes say that are ASCII, and so UTF-8
 abbrev said : List ℕ → Reading Graph
 said bytes = members_if (parse_document bytes) >>= read_members
 
--- a graph of nothing
+-- a document with its two numbers alone is a graph of nothing; here and below both sides compute to the same
 nothing : said (lines (codes "faults = 0" ∷ codes "deadline = 0" ∷ []))
     ≡ Ok (record { faults = 0; deadline = 0; nodes = []; slots = []; processes = []; edges = []; order = None })
 unfolding read_members read_raw read_node read_slot read_process read_edge optional only read_name read_integer
@@ -33,7 +33,7 @@ unfolding read_members read_raw read_node read_slot read_process read_edge optio
     order_apart resolved graph_of toml_on_literals
 nothing = refl
 
--- one process on one node
+-- a document with one process on one node, which has the defaults of what it leaves out
 single : said (lines (codes "faults = 1" ∷ codes "deadline = 72" ∷ codes "node = [{ name = \"N1\" }]"
     ∷ codes "process = [{ name = \"A\", node = \"N1\", wcet = 30, alpha = 2, chi = 3, mu = 5 }]" ∷
     [])) ≡ Ok (record {
@@ -63,14 +63,14 @@ unfolding read_members read_raw read_node read_slot read_process read_edge optio
     order_apart resolved graph_of toml_on_literals
 single = refl
 
--- a key that is missing
+-- a missing key is refused at its place
 no_deadline : said (lines (codes "faults = 1" ∷ [])) ≡ Err (BadField (place tables.Top 0 keys.Deadline))
 unfolding read_members read_raw read_node read_slot read_process read_edge optional only read_name read_integer
     integer_or flag_or read_array limits apart number_of slot_of process_of edge_of order_of
     order_apart resolved graph_of toml_on_literals
 no_deadline = refl
 
--- a name with a blank
+-- a name with a blank is refused
 bad_name : said (lines (codes "faults = 1" ∷ codes "deadline = 72" ∷ codes "node = [{ name = \"N1\" }]"
     ∷ codes "process = [{ name = \"A b\", node = \"N1\", wcet = 30, alpha = 2, chi = 3, mu = 5 }]"
     ∷ [])) ≡ Err (BadField (place tables.Process 0 keys.Name))
@@ -79,7 +79,7 @@ unfolding read_members read_raw read_node read_slot read_process read_edge optio
     order_apart resolved graph_of toml_on_literals
 bad_name = refl
 
--- a key that isn't listed stands after the others
+-- a key that the format doesn't have is refused
 unknown_key : said (lines (codes "faults = 1" ∷ codes "deadline = 72" ∷ codes "node = [{ name = \"N1\" }]" ∷ codes
     "process = [{ name = \"A\", node = \"N1\", wcet = 30, alpha = 2, chi = 3, mu = 5, nu = 1 }]" ∷ []))
     ≡ Err (BadField (place tables.Process 0 keys.Unknown))
@@ -88,7 +88,7 @@ unfolding read_members read_raw read_node read_slot read_process read_edge optio
     order_apart resolved graph_of toml_on_literals
 unknown_key = refl
 
--- a type goes before a range
+-- a wrong type is reported before a number out of range
 type_first : said (lines (codes "faults = 9" ∷ codes "deadline = 72" ∷ codes "node = 3" ∷ []))
     ≡ Err (BadField (place tables.Top 0 keys.Node))
 unfolding read_members read_raw read_node read_slot read_process read_edge optional only read_name read_integer
@@ -96,7 +96,7 @@ unfolding read_members read_raw read_node read_slot read_process read_edge optio
     order_apart resolved graph_of toml_on_literals
 type_first = refl
 
--- a number below its range
+-- a number below its range is refused
 no_work : said (lines (codes "faults = 1" ∷ codes "deadline = 72" ∷ codes "node = [{ name = \"N1\" }]"
     ∷ codes "process = [{ name = \"A\", node = \"N1\", wcet = 0, alpha = 2, chi = 3, mu = 5 }]" ∷
     [])) ≡ Err (OverLimit (Number (place tables.Process 0 keys.Wcet)))
@@ -105,7 +105,7 @@ unfolding read_members read_raw read_node read_slot read_process read_edge optio
     order_apart resolved graph_of toml_on_literals
 no_work = refl
 
--- a name that stands earlier
+-- a name that stands twice is reported before one that names nothing
 double_node :
     said (lines (codes "faults = 0" ∷ codes "deadline = 9" ∷ codes "node = [{ name = \"N1\" }, { name = \"N1\" }]"
     ∷ codes "process = [{ name = \"A\", node = \"N2\", wcet = 1 }]" ∷ [])) ≡
@@ -115,7 +115,7 @@ unfolding read_members read_raw read_node read_slot read_process read_edge optio
     order_apart resolved graph_of toml_on_literals
 double_node = refl
 
--- a name that names nothing
+-- a name that names nothing is refused
 unknown_node : said (lines (codes "faults = 0" ∷ codes "deadline = 9" ∷ codes "node = [{ name = \"N1\" }]"
     ∷ codes "process = [{ name = \"A\", node = \"N2\", wcet = 1 }]" ∷ [])) ≡ Err
     (UnknownName (place tables.Process 0 keys.Node))
@@ -124,7 +124,7 @@ unfolding read_members read_raw read_node read_slot read_process read_edge optio
     order_apart resolved graph_of toml_on_literals
 unknown_node = refl
 
--- an order
+-- an order is read as the numbers of its processes
 ordered : said (lines (codes "faults = 0" ∷ codes "deadline = 9" ∷ codes "node = [{ name = \"N\" }]"
     ∷ codes "order = [\"A\"]" ∷ codes "process = [{ name = \"A\", node = \"N\", wcet = 1 }]" ∷ [])) ≡
     Ok (record {
@@ -142,7 +142,7 @@ unfolding read_members read_raw read_node read_slot read_process read_edge optio
     order_apart resolved graph_of toml_on_literals
 ordered = refl
 
--- an order of none is an order, too
+-- an empty order isn't the same as no order
 empty_order : said (lines (codes "faults = 0" ∷ codes "deadline = 9" ∷ codes "node = [{ name = \"N\" }]"
     ∷ codes "order = []" ∷ codes "process = [{ name = \"A\", node = \"N\", wcet = 1 }]" ∷ [])) ≡
     Ok (record {
@@ -160,7 +160,7 @@ unfolding read_members read_raw read_node read_slot read_process read_edge optio
     order_apart resolved graph_of toml_on_literals
 empty_order = refl
 
--- an order with an element that is no name, which goes before a range
+-- an element of the order that is no name is reported before a number out of range
 bad_order : said (lines (codes "faults = 9" ∷ codes "deadline = 9" ∷ codes "node = [{ name = \"N\" }]"
     ∷ codes "order = [\"A\", 1]" ∷ codes "process = [{ name = \"A\", node = \"N\", wcet = 1 }]" ∷
     [])) ≡ Err (BadField (place tables.Top 0 keys.Order))
@@ -169,7 +169,7 @@ unfolding read_members read_raw read_node read_slot read_process read_edge optio
     order_apart resolved graph_of toml_on_literals
 bad_order = refl
 
--- a name that stands twice in the order, which goes before a name that names nothing
+-- a name that stands twice in the order is reported before one that names nothing
 double_order : said (lines (codes "faults = 0" ∷ codes "deadline = 9" ∷ codes "node = [{ name = \"N\" }]"
     ∷ codes "order = [\"B\", \"A\", \"A\"]" ∷ codes
     "process = [{ name = \"A\", node = \"N\", wcet = 1 }]" ∷ [])) ≡ Err (DoubleName (place tables.Top 0 keys.Order))
@@ -178,7 +178,7 @@ unfolding read_members read_raw read_node read_slot read_process read_edge optio
     order_apart resolved graph_of toml_on_literals
 double_order = refl
 
--- a name of the order that names nothing
+-- a name of the order that names nothing is refused, at the key of the order
 unknown_order : said (lines (codes "faults = 0" ∷ codes "deadline = 9" ∷ codes "node = [{ name = \"N\" }]"
     ∷ codes "order = [\"A\", \"N\"]" ∷ codes
     "process = [{ name = \"A\", node = \"N\", wcet = 1 }]" ∷ [])) ≡ Err (UnknownName (place tables.Top 0 keys.Order))

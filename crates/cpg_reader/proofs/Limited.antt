@@ -1,4 +1,4 @@
--- A written document is within the limits.
+-- The document of a graph within the limits passes the tests of the limits.
 use Rattle.std.proofs.Common.{◌≡◌, ◌≢◌, ℕ, ◌+◌, ◌<◌, ◌≤◌, suc, Bool, true, false, ◌==◌, List, [], ◌∷◌, ◌++◌, length}
 use Rattle.std.proofs.Common.{get_or, map, filter, Option, Some, None, Ok, AllPairs, Contains, ⊎_elim, inl, inr}
 use Rattle.std.proofs.Common.{◌⊎◌, cond, refl, sym, ap, ◌∙◌, subst, arith, le-leb, pos, is_some, eq-eqb}
@@ -32,11 +32,11 @@ use Rattle.cpg_reader.specs.Ranges.{all_in_range, at_most, sources, different, l
 use Rattle.cpg_reader.specs.RawOf.{raw_slot, raw_process, raw_edge, raw_of, names_of}
 use Rattle.cpg_reader.proofs.RawReads.{all_by_recursion}
 
--- a number between two is found to be so
+-- a number from low to high passes the test of its range
 within : (low high n : ℕ) → low ≤ n → n ≤ high → is_within low high (pos n) ≡ true
 within low high n l h = rw (le-leb low n l, le-leb n high h) refl
 
--- each number is in its range
+-- each number passes the test of its range
 abbrev pub AreWithin : List BoundedField → Type 0
 AreWithin [] = Unit {0}
 AreWithin (n ∷ ns) = (is_within n.low n.high n.value ≡ true) × AreWithin ns
@@ -55,13 +55,13 @@ all_in_range-within table numbers_of f i [] h = refl
 all_in_range-within table numbers_of f i (x ∷ xs) h =
     rw (in_range-within table i (numbers_of (f x)) h.0) (all_in_range-within table numbers_of f (i + 1) xs h.1)
 
--- a list of few elements is not refused
+-- a list with no more elements than its limit isn't refused
 at_most-few : {T : Type 0} (limit : ℕ) (what : What) (xs : List T) → length xs ≤ limit → at_most limit what xs ≡ Ok tt
 at_most-few limit what xs h = rw (le-leb (length xs) limit h) refl
 
 -- ---- the sources of conditional edges
 
--- a name that isn't among different ones, or is left out, leaves them different
+-- different names stay different with one more, which is left out if it is among them
 apart_if : (seen : List (List ℕ)) (name : List ℕ) (b : Bool) → list_any (bytes_eq name) seen ≡ b →
     AllPairs (λ a b. a ≢ b) seen →
     AllPairs (λ a b. a ≢ b) (cond b seen (seen ++ name ∷ []))
@@ -70,17 +70,18 @@ apart_if seen name false e h = all_pairs_push (λ a b. a ≢ b) seen name h
     (λ k d l is. absurd (Bool_apart (sym ((bytes_eq-Decides name (get_or seen k d)).1 (sym is))
     ∙ from_any_false (bytes_eq name) seen (get_or seen k d) e (Contains-get_or seen k d l))))
   where
+    -- true isn't false
     Bool_apart : true ≡ false → ⊥
     Bool_apart e = cc
 
--- the names that are kept as different ones differ
+-- the different ones among names differ; by induction on the names
 different-apart : (seen names : List (List ℕ)) → AllPairs (λ a b. a ≢ b) seen →
     AllPairs (λ a b. a ≢ b) (different seen names)
 different-apart seen [] h = h
 different-apart seen (name ∷ names) h = different-apart (cond (list_any (bytes_eq name) seen) seen (seen ++ name ∷ []))
     names (apart_if seen name (list_any (bytes_eq name) seen) refl h)
 
--- what is in the list then was in it, or is the name
+-- what is among different names with one more was among them, or is that name
 from_if : (seen : List (List ℕ)) (name x : List ℕ) (b : Bool) → Contains (cond b seen (seen ++ name ∷ [])) x →
     Contains seen x ⊎ (name ≡ x)
 from_if seen name x true c = inl c
@@ -90,15 +91,15 @@ from_if seen name x false c = ⊎_elim
     (Contains-cases name [] x d))
     (Contains-append_cases seen (name ∷ []) x c)
 
--- an element stands in front
+-- the first element is in its list
 Contains-head : (x y : List ℕ) (xs : List (List ℕ)) → x ≡ y → Contains (x ∷ xs) y
 Contains-head x y xs e = (0, omega arith, e)
 
--- what is in a list is in it behind one more element
+-- what is in a list is in it after one more element
 Contains-tail : (x y : List ℕ) (xs : List (List ℕ)) → Contains xs y → Contains (x ∷ xs) y
 Contains-tail x y xs (k, l, e) = (suc k, omega (arith, l), e)
 
--- each name that is kept as a different one is one of the names
+-- each of the different ones among names was seen before, or is one of the names; by induction on the names
 different-from : (seen names : List (List ℕ)) (x : List ℕ) → Contains (different seen names) x →
     Contains seen x ⊎ Contains names x
 different-from seen [] x c = inl c
@@ -110,6 +111,7 @@ different-from seen (name ∷ names) x c = ⊎_elim
     (λ (d : Contains names x). inr (Contains-tail name x names d))
     (different-from (cond (list_any (bytes_eq name) seen) seen (seen ++ name ∷ [])) names x c)
 
+-- given a graph within the limits
 module _ (g : Graph) (limited : IsWithinLimits g) where
   -- the name of a process
   name_of : ℕ → List ℕ
@@ -119,7 +121,8 @@ module _ (g : Graph) (limited : IsWithinLimits g) where
   conditional : List ℕ
   conditional = filter (has_conditional_output g.edges) (numbers_below (process_count g))
 
-  -- the source of a conditional edge is a process with a condition
+  -- The source of a conditional edge in the document is the name of a process with a conditional output: that of the
+  -- edge in the graph from which it was written.
   source_named : (x : List ℕ) → Contains (sources (map (raw_edge (names_of g.processes)) g.edges)) x →
       Contains (map name_of conditional) x
   unfolding name_of conditional
@@ -140,7 +143,8 @@ module _ (g : Graph) (limited : IsWithinLimits g) where
       (Contains-map name_of conditional e.from (Contains-filter (has_conditional_output g.edges)
       (numbers_below (process_count g)) e.from passes (Contains-numbers (process_count g) e.from from)))
 
-  -- the sources of conditional edges are within the limit
+  -- The different sources of conditional edges are within the limit: they differ and are names of conditional
+  -- processes, of which there are as many as conditions.
   few_sources : length (different [] (sources (map (raw_edge (names_of g.processes)) g.edges))) ≤ MOST_CONDITIONS
   unfolding conditional
   few_sources =
@@ -153,7 +157,7 @@ module _ (g : Graph) (limited : IsWithinLimits g) where
       subst (λ n. n ≤ MOST_CONDITIONS) (sym (ap length (conditions_found g))) limited.few_conditions in
       omega (arith, all, found, length-map conditional name_of)
 
--- a deadline within the limits, or none, is in range
+-- a process's own deadline within the limits, or none, which counts as 0, is in range
 deadline_in : (own : Option ℕ) → IfSome own (λ d. d ≤ LONGEST) →
     is_within 0 LONGEST (unwrap_or (option_map pos own) (pos 0)) ≡ true
 deadline_in None h = refl
@@ -189,13 +193,14 @@ edge_in : (names : List (List ℕ)) (count : ℕ) (e : Edge) → IsEdgeWithin co
     AreWithin (edge_numbers (raw_edge names e))
 edge_in names count e h = (within 1 LARGEST e.size h.sized h.size, tt)
 
--- what follows from a property holds if that does, of all elements
+-- if one fact implies another, and the first holds of all elements, so does the second
 all_weaker : {X : Type 0} (P R : X → Type 0) → ((x : X) → P x → R x) → (xs : List X) → AllByRecursion P xs →
     AllByRecursion R xs
 all_weaker P R f [] h = tt
 all_weaker P R f (x ∷ xs) h = (f x h.0, all_weaker P R f xs h.1)
 
--- the document of a graph within its limits is within the limits
+-- The document of a graph within the limits is within the limits: each of the tests of `limits` passes, one after
+-- another.
 pub raw_limited : (g : Graph) → IsWithinLimits g → limits (raw_of g) ≡ Ok tt
 unfolding limits
 raw_limited g h =

@@ -1,4 +1,4 @@
--- What is known of a document that is within the limits.
+-- What is known of a document that passes the tests of the limits.
 use Rattle.std.proofs.Common.{◌≡◌, ℕ, zero, suc, ◌+◌, ◌<◌, ◌≤◌, Bool, true, false, List, [], ◌∷◌, length, get_or, Ok}
 use Rattle.std.proofs.Common.{Err, refl, sym, ap, ◌∙◌, subst, arith, ℤ, pos, negsuc, cond}
 use Rattle.std.specs.Prelude.{nat_le, All}
@@ -18,12 +18,12 @@ use Rattle.cpg_base.specs.Natural.{natural}
 use Rattle.cpg_reader.specs.Names.{process_names}
 use Rattle.cpg_reader.proofs.Steps.{then-parts}
 
--- numbers in their ranges
+-- each number is in its range
 abbrev pub AreIn : List BoundedField → Type 0
 AreIn [] = Unit {0}
 AreIn (n ∷ ns) = (n.low ≤ natural n.value) × (natural n.value ≤ n.high) × AreIn ns
 
--- what the limits say of a graph that was read
+-- what the limits say of a document: how many elements it has, in which ranges its numbers are, and how many conditions
 pub record AreLimits (g : RawGraph) : Type 0 where
   pub nodes : length g.nodes ≤ 16
   pub slots : length g.slots ≤ 16
@@ -35,7 +35,7 @@ pub record AreLimits (g : RawGraph) : Type 0 where
   pub edge_ranges : All (λ e. AreIn (edge_numbers e)) g.edges
   pub conditions : length (different [] (sources g.edges)) ≤ 32
 
--- a check that passed gives the next step
+-- if a test and the step after it succeed, the test passes, and the step succeeds
 passes : {T : Type 0} (b : Bool) (next : Reading T) (fault : ReadFault) (x : T) → cond b next (Err fault) ≡ Ok x →
     (b ≡ true) × (next ≡ Ok x)
 passes true next fault x h = (refl, h)
@@ -46,7 +46,7 @@ at_most-le : {T : Type 0} (limit : ℕ) (what : What) (xs : List T) (x : Unit {0
     length xs ≤ limit
 at_most-le limit what xs x h = leb-true (length xs) limit (passes (nat_le (length xs) limit) done _ x h).0
 
--- a number in its range is a natural number in this range
+-- a number that passes the test of its range is a natural number in this range
 natural-within : (low high : ℕ) (value : ℤ) → is_within low high value ≡ true →
     (low ≤ natural value) × (natural value ≤ high)
 natural-within low high (pos n) h =
@@ -54,7 +54,7 @@ natural-within low high (pos n) h =
     (leb-true low n above, leb-true n high below)
 natural-within low high (negsuc n) h = absurd (false≢true h)
 
--- numbers that pass their checks are in range
+-- numbers that pass their tests are in range; by induction on the numbers
 AreIn-from_in_range : (table : Table) (i : ℕ) (ns : List BoundedField) (x : Unit {0}) → in_range table i ns ≡ Ok x →
     AreIn ns
 AreIn-from_in_range table i [] x h = tt
@@ -63,7 +63,8 @@ AreIn-from_in_range table i (n ∷ ns) x h =
     let (low, high) = natural-within n.low n.high n.value here in
     (low, high, AreIn-from_in_range table i ns x rest)
 
--- if the check of all elements passes, the numbers of each are in range
+-- If the test of all elements passes, the numbers of the element at each place are in range. By induction on the place:
+-- the test passes for the first element and for the others.
 all_in_range-at : {T : Type 0} (table : Table) (numbers_of : T → List BoundedField) (i : ℕ) (xs : List T)
     (x : Unit {0}) →
     all_in_range table numbers_of i xs ≡ Ok x →
@@ -76,7 +77,8 @@ all_in_range-at table numbers_of i (y ∷ ys) x h (suc k) d l =
     let (_, here, rest) = then-parts (in_range table i (numbers_of y)) (all_in_range table numbers_of (i + 1) ys) x h in
     all_in_range-at table numbers_of (i + 1) ys x rest k d (omega arith)
 
--- a document that passes the checks has few enough of each, and its numbers are in range
+-- A document that passes all tests has few enough elements of each kind, and its numbers are in range. The tests are
+-- taken apart one after another: each passed.
 pub are_limits : (g : RawGraph) → limits g ≡ Ok tt → AreLimits g
 unfolding limits
 are_limits g h =
@@ -121,13 +123,13 @@ pub few_processes : (g : RawGraph) (names : List (List ℕ)) → limits g ≡ Ok
     length names ≤ 128
 few_processes g names h e = omega (arith, (are_limits g h).processes, ap length e, length-map g.processes (λ p. p.name))
 
--- what holds of all elements holds of the one at a place
+-- what holds of all elements of a list holds of the one at a place of an equal list
 pub all_at : {X : Type 0} (P : X → Type 0) (xs ys : List X) (i : ℕ) (x : X) → All P xs → ys ≡ xs → i < length ys →
     x ≡ get_or ys i x → P x
 all_at P xs ys i x h e l is =
     let there : get_or xs i x ≡ x = sym (is ∙ ap (λ zs. get_or zs i x) e) in
     subst P there (h i x (subst (λ zs. i < length zs) e l))
 
--- there are at most 8 faults
+-- the fault number is at most 8
 pub small_faults : (g : RawGraph) → limits g ≡ Ok tt → natural g.faults ≤ 8
 small_faults g h = (are_limits g h).top_range.1

@@ -24,7 +24,7 @@ IsName-from_is_name text h =
       plain = AllPass-from_list_all is_name_byte text plain;
     }
 
--- a text is taken as a name by the test for names
+-- a text is taken as a name if it passes the test for names
 if_name : (text : List ℕ) (b : Bool) → is_name text ≡ b → name_if text ≡ cond b (Some text) None
 if_name text b e = rw e
 
@@ -33,14 +33,14 @@ not_name : (text : List ℕ) (b : Bool) → is_name text ≡ b → ¬ IsName tex
 not_name text true e h = absurd (h (IsName-from_is_name text e))
 not_name text false e h = if_name text false e
 
--- an answer that `Name::new` may give is the text if it is a name, or else none
+-- what `Name::new` finds, by its contract, is the text if it is a name, and otherwise nothing
 pub named : (found : Option (List ℕ)) (text : List ℕ) → IfSome found (λ name. name ≡ text) →
     IfSome found (λ _. IsName text) → IfNone found (¬ IsName text) →
     found ≡ name_if text
 named (Some name) text same taken refused = ap Some same ∙ sym (if_name text true (is_name-from_IsName text taken))
 named None text same taken refused = sym (not_name text (is_name text) refl refused)
 
--- a text taken as a name is found exactly if it is a name
+-- the same for its result, which may be that memory ran out
 pub named_ok : {E : Type 0} (r : Result (Option (List ℕ)) E) (text : List ℕ) →
     IfOk r (λ found. IfSome found (λ name. name ≡ text)) →
     IfOk r (λ found. IfSome found (λ _. IsName text)) →

@@ -1,4 +1,4 @@
--- The names of a written document stand for the numbers that they were written for.
+-- The names of a written document are read as the numbers from which they were written.
 use Rattle.std.proofs.Common.{◌≡◌, ◌≢◌, ℕ, ◌+◌, ◌<◌, Bool, false, List, [], ◌∷◌, ◌++◌, length, get_or, map, Option}
 use Rattle.std.proofs.Common.{Some, None, Ok, Err, AllPairs, refl, sym, ap, ◌∙◌, subst, arith, lt-ltb}
 use Rattle.std.proofs.Common.{append_assoc, zero, suc}
@@ -34,23 +34,24 @@ AreApart names = AllPairs (λ a b. a ≢ b) names
 differ : (x y : List ℕ) → x ≢ y → bytes_eq x y ≡ false
 differ x y h = false_from_ne_true (bytes_eq x y) (λ t. h ((bytes_eq-Decides x y).0 t))
 
--- what stands in a list stands there still if another is appended
+-- the element at a place of a list stays there if another list is appended
 at_left : (xs ys : List (List ℕ)) (k : ℕ) (d : List ℕ) → k < length xs → get_or (xs ++ ys) k d ≡ get_or xs k d
 at_left [] ys k d l = absurd (omega arith)
 at_left (x ∷ xs) ys zero d l = refl
 at_left (x ∷ xs) ys (suc k) d l = at_left xs ys k d (omega arith)
 
--- what is put between two lists stands at the length of the first
+-- an element between two lists has the length of the first as its place
 at_middle : (xs ys : List (List ℕ)) (y d : List ℕ) → get_or (xs ++ y ∷ ys) (length xs) d ≡ y
 at_middle [] ys y d = refl
 at_middle (x ∷ xs) ys y d = at_middle xs ys y d
 
--- the first list is shorter than all
+-- a list is shorter than the same with more after it
 left_shorter : (xs ys : List (List ℕ)) (y : List ℕ) → length xs < length (xs ++ y ∷ ys)
 left_shorter [] ys y = omega arith
 left_shorter (x ∷ xs) ys y = omega (arith, left_shorter xs ys y)
 
--- names that differ pass the check for double names
+-- Names that differ from each other and from earlier ones pass the test for double names. By induction on the names:
+-- the first isn't among the earlier ones, and becomes one of them.
 apart_from-pairs : (table : Table) (key : Key) (i : ℕ) (earlier names : List (List ℕ)) → AreApart (earlier ++ names) →
     apart_from table key i earlier names ≡ Ok tt
 apart_from-pairs table key i earlier [] h = refl
@@ -67,7 +68,7 @@ apart-names : (table : Table) (key : Key) (names : List (List ℕ)) → AreApart
 unfolding apart
 apart-names table key names h = apart_from-pairs table key 0 [] names h
 
--- the number of the name at a place is that place
+-- The number of the name at a place is that place: it equals itself, and no earlier name does.
 number_at : (names : List (List ℕ)) (place : Place) (n : ℕ) → AreApart names → n < length names →
     number_of names place (get_or names n []) ≡ Ok n
 unfolding number_of
@@ -98,7 +99,7 @@ abbrev number_value : Reading ℕ → ℕ
 number_value (Ok n) = n
 number_value (Err e) = 0
 
--- no two numbers have one name
+-- two numbers that have one name are equal, as both are the number of the name
 only : (names : List (List ℕ)) → AreApart names → (m n : ℕ) → m < length names → n < length names →
     get_or names m [] ≡ get_or names n [] → m ≡ n
 only names h m n l k e =
@@ -106,9 +107,9 @@ only names h m n l k e =
     ap number_value
     (sym (number_at names somewhere m h l) ∙ ap (number_of names somewhere) e ∙ number_at names somewhere n h k)
 
--- the names of an order differ, and stand for its numbers
+-- given names that differ
 module _ (names : List (List ℕ)) (names_differ : AreApart names) where
-  -- the names of an order differ
+  -- the names of an order's numbers differ, as the numbers do
   order_names_apart : (o : List ℕ) → IsOrderWithin (length names) o → AreApart (map (name_in names) o)
   order_names_apart o h i j d lt l same =
       let l' : j < length o = omega (arith, l, length-map o (name_in names)) in
@@ -116,14 +117,14 @@ module _ (names : List (List ℕ)) (names_differ : AreApart names) where
       h.once i j 0 lt l' (only names names_differ (get_or o i 0) (get_or o j 0) (h.there i 0 i') (h.there j 0 l')
       (sym (get_or-map (name_in names) o i 0 d i') ∙ same ∙ get_or-map (name_in names) o j 0 d l'))
 
-  -- the names of an order within the limits differ
+  -- the names of an order within the limits aren't refused as double; without an order there are none
   order_differs : (order : Option (List ℕ)) → IfSome order (IsOrderWithin (length names)) →
       order_apart (option_map (map (name_in names)) order) ≡ Ok tt
   unfolding order_apart
   order_differs None h = refl
   order_differs (Some o) h = apart-names places.Top keys.Order (map (name_in names) o) (order_names_apart o h)
 
-  -- the names of an order stand for its numbers
+  -- the names of an order are read as its numbers
   order_back : (order : Option (List ℕ)) → IfSome order (IsOrderWithin (length names)) →
       order_of names (option_map (map (name_in names)) order) ≡ Ok order
   unfolding order_of
@@ -132,13 +133,14 @@ module _ (names : List (List ℕ)) (names_differ : AreApart names) where
       rw (each_back (ordered names) (name_in names) (λ p. p < length names)
       (λ i p l. number_at names _ p names_differ l) 0 o (all_by_recursion _ o h.there)) refl
 
+-- given a graph within the limits
 module _ (g : Graph) (limited : IsWithinLimits g) where
   -- a written slot is read as the slot
   slot_back : (i : ℕ) (s : Slot) → IsSlotWithin (length g.nodes) s → slot_of g.nodes i (raw_slot g.nodes s) ≡ Ok s
   unfolding slot_of
   slot_back i s h = rw (number_at g.nodes _ s.node limited.node_names h.node) refl
 
-  -- the written process is read as the process
+  -- a written process is read as the process; by whether it has its own deadline
   process_by : (i : ℕ) (p : Process) (own : Option ℕ) → p.deadline ≡ own → IsProcessWithin (length g.nodes) p →
       process_of g.nodes i (raw_process g.nodes p) ≡ Ok (record p { deadline = own })
   unfolding process_of
@@ -150,7 +152,7 @@ module _ (g : Graph) (limited : IsWithinLimits g) where
   names_apart = AllPairs-map (λ (p : Process) (q : Process). p.name ≢ q.name) (λ a b. a ≢ b)
       (λ (p : Process). p.name) g.processes (λ p q d. d) limited.process_names
 
-  -- the nodes of the slots differ
+  -- The names of the slots' nodes differ: two slots have different nodes, and these have different names.
   slots_apart : AreApart (map (λ (s : Slot). get_or g.nodes s.node []) g.slots)
   slots_apart i j d lt l same =
       let l' : j < length g.slots = omega (arith, l, length-map g.slots (λ (s : Slot). get_or g.nodes s.node [])) in
@@ -164,7 +166,7 @@ module _ (g : Graph) (limited : IsWithinLimits g) where
       let ni = (limited.slots j none l').node in
       limited.own_slots i j none lt l' (only g.nodes limited.node_names m n mi ni equal)
 
-  -- the written edge is read as the edge
+  -- a written edge is read as the edge
   edge_back : (i : ℕ) (e : Edge) → IsEdgeWithin (process_count g) e →
       edge_of (names_of g.processes) i (raw_edge (names_of g.processes) e) ≡ Ok e
   unfolding edge_of
@@ -175,12 +177,12 @@ module _ (g : Graph) (limited : IsWithinLimits g) where
         number_at (names_of g.processes) _ e.to names_apart (omega (arith, count, h.to)),
       ) refl
 
-  -- the order, if there is one, is of these processes
+  -- the order, if there is one, has numbers of these names
   order_within : IfSome g.order (IsOrderWithin (length (names_of g.processes)))
   order_within = subst (λ n. IfSome g.order (IsOrderWithin n))
       (sym (length-map g.processes (λ (p : Process). p.name))) limited.order
 
-  -- the document of a graph is resolved to the graph
+  -- What the graph's document says, by names, is the graph: no name is double, and each list is read as it was written.
   pub graph_back : graph_of (raw_of g) ≡ Ok g
   unfolding graph_of resolved
   graph_back =

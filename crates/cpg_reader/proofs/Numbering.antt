@@ -1,4 +1,5 @@
--- What is known of names that differ, of the number of a name, and of the different ones among names.
+-- What is known if the tests of names pass: names differ, and the number of a name is its place. Also, which names are
+-- among the different ones.
 use Rattle.std.proofs.Common.{◌≡◌, ◌≢◌, ◌⊎◌, inl, inr, ⊎_elim, ℕ, ◌+◌, ◌<◌, Bool, true, false, List, [], ◌∷◌, ◌++◌}
 use Rattle.std.proofs.Common.{length, get_or, Option, Some, None, Ok, Err, AllPairs, Contains, refl, sym, ◌∙◌}
 use Rattle.std.proofs.Common.{subst, cond, arith, append_assoc, append-nil, true≢false}
@@ -16,12 +17,12 @@ use Rattle.cpg_reader.specs.Reading.{Reading}
 use Rattle.cpg_reader.specs.Ranges.{different}
 use Rattle.cpg_reader.specs.Names.{apart_from, apart, known, number_of}
 
--- a number that is known was found
+-- if a name isn't refused as unknown, its number was found
 known-parts : (place : Place) (found : Option ℕ) (n : ℕ) → known place found ≡ Ok n → found ≡ Some n
 known-parts place (Some m) n h = cc
 known-parts place None n h = cc
 
--- the number of a name is its place
+-- if a name has a number, it stands among the names at that place
 pub number-is : (names : List (List ℕ)) (place : Place) (name : List ℕ) (n : ℕ) → number_of names place name ≡ Ok n →
     (d : List ℕ) →
     (n < length names) × (get_or names n d ≡ name)
@@ -34,13 +35,14 @@ number-is names place name n h d =
 differ : (x y : List ℕ) → bytes_eq y x ≡ false → x ≢ y
 differ x y e is = true≢false (sym ((bytes_eq-Decides y x).1 (sym is)) ∙ e)
 
--- a reading that isn't refused by a test goes on to its next step
+-- if a step after a test succeeds, where the test refuses, the test didn't hold, and the step succeeds
 goes_by : {T : Type 0} (b : Bool) (next : Reading T) (fault : ReadFault) (x : T) → cond b (Err fault) next ≡ Ok x →
     (b ≡ false) × (next ≡ Ok x)
 goes_by true next fault x h = cc
 goes_by false next fault x h = (refl, h)
 
--- if no name stands among those before it, all names differ
+-- If the test for double names passes, the names differ from each other and from the earlier ones, given that these do.
+-- By induction on the names: the first isn't among the earlier ones, and becomes one of them.
 apart_from-pairs : (table : Table) (key : Key) (i : ℕ) (earlier names : List (List ℕ)) (x : Unit {0}) →
     AllPairs (λ a b. a ≢ b) earlier →
     apart_from table key i earlier names ≡ Ok x
@@ -55,13 +57,13 @@ apart_from-pairs table key i earlier (name ∷ names) x p h =
     subst (AllPairs (λ a b. a ≢ b)) (append_assoc earlier (name ∷ []) names)
     (apart_from-pairs table key (i + 1) (earlier ++ name ∷ []) names x more rest)
 
--- no two names are equal
+-- names that pass the test for double names differ
 pub apart-pairs : (table : Table) (key : Key) (names : List (List ℕ)) (x : Unit {0}) → apart table key names ≡ Ok x →
     AllPairs (λ a b. a ≢ b) names
 unfolding apart
 apart-pairs table key names x h = apart_from-pairs table key 0 [] names x (λ i j d lt l. absurd (omega arith)) h
 
--- a name is noted, or was noted before
+-- a name is among those that were seen once it is seen
 noted_if : (seen : List (List ℕ)) (name : List ℕ) (b : Bool) → list_any (bytes_eq name) seen ≡ b →
     Contains (cond b seen (seen ++ name ∷ [])) name
 noted_if seen name true e =
@@ -69,13 +71,13 @@ noted_if seen name true e =
     subst (Contains seen) (sym ((bytes_eq-Decides name other).0 same)) there
 noted_if seen name false e = Contains-push seen name
 
--- names that were seen before are among those seen with one more
+-- what was seen stays so with one more
 kept_if : (seen : List (List ℕ)) (name other : List ℕ) (b : Bool) → Contains seen other →
     Contains (cond b seen (seen ++ name ∷ [])) other
 kept_if seen name other true h = h
 kept_if seen name other false h = Contains-append_left seen (name ∷ []) other h
 
--- each name is among the different ones
+-- each name, and each that was seen before, is among the different ones; by induction on the names
 pub different-Contains : (seen names : List (List ℕ)) (x : List ℕ) → Contains seen x ⊎ Contains names x →
     Contains (different seen names) x
 different-Contains seen [] x h =

@@ -1,4 +1,5 @@
--- A step that is made of steps is those steps, one after the other.
+-- Definitions read all fields of an element in one row of steps, and code reads some of them in a function of its own.
+-- Both give the same.
 use Rattle.std.proofs.Common.{◌≡◌, ℕ, ℤ, pos, Bool, false, Option, List, [], ◌∷◌, Ok, Err, refl}
 use Rattle.toml.specs.Data.{Members, as_integer, as_bool}
 use Rattle.cpg_reader.specs.declared.place.Table.TheVariants as tables
@@ -13,7 +14,8 @@ use Rattle.cpg_reader.specs.Rows.{read_array, only}
 use Rattle.cpg_reader.specs.Shape.{read_process, read_work, process_with, read_edge, read_link, edge_with, Tops}
 use Rattle.cpg_reader.specs.Shape.{read_lists, read_tops, read_elements, read_raw}
 
--- reading the fields of a process one by one is reading its work, and then going on
+-- Reading the fields of a process one by one and then going on is reading them as its work and then going on with that.
+-- By the first step that fails, if one does.
 after_work : {T : Type 0} (wcet_at : Reading ℤ) (parts_at : Reading ℤ) (alpha_at : Reading ℤ) (chi_at : Reading ℤ)
     (mu_at : Reading ℤ) (join_at : Reading Bool) (frozen_at : Reading Bool)
     (release_at : Reading ℤ) (deadline_at : Reading (Option ℤ)) (end : Reading (Unit {0})) (next : RawWork → Reading T)
@@ -44,7 +46,7 @@ after_work (Ok wcet) (Ok parts) (Ok alpha) (Ok chi) (Ok mu) (Ok join) (Ok frozen
 after_work (Ok wcet) (Ok parts) (Ok alpha) (Ok chi) (Ok mu) (Ok join) (Ok frozen) (Ok release) (Ok deadline)
     (Ok done) next = refl
 
--- if its names are read, a process is read as its work is
+-- once its two names are read, a process is read by reading its work
 pub process-parts : (row : DocumentRow) (name node : List ℕ) → read_name row Name ≡ Ok name →
     read_name row Node ≡ Ok node →
     read_process row ≡ (read_work row >>= (λ work. pure (process_with name node work)))
@@ -57,7 +59,7 @@ process-parts row name node is_name is_node = rw (is_name, is_node)
     (only (Name ∷ Node ∷ Wcet ∷ Parts ∷ Alpha ∷ Chi ∷ Mu ∷ Join ∷ Frozen ∷ Release ∷ Deadline ∷ []) row)
     (λ work. pure (process_with name node work)))
 
--- reading the fields of an edge one by one is reading its link, and then going on
+-- The same for the fields of an edge and its link.
 after_link : {T : Type 0} (bytes_at : Reading ℤ) (when_at : Reading (Option Bool)) (frozen_at : Reading Bool)
     (end : Reading (Unit {0})) (next : RawLink → Reading T)
     → (bytes_at >>= (λ bytes. when_at >>=
@@ -70,7 +72,7 @@ after_link (Ok bytes) (Ok when) (Err fault) end next = refl
 after_link (Ok bytes) (Ok when) (Ok frozen) (Err fault) next = refl
 after_link (Ok bytes) (Ok when) (Ok frozen) (Ok done) next = refl
 
--- if its ends are read, an edge is read as its link is
+-- once its two names are read, an edge is read by reading its link
 pub edge-parts : (row : DocumentRow) (from to : List ℕ) → read_name row From ≡ Ok from → read_name row To ≡ Ok to →
     read_edge row ≡ (read_link row >>= (λ link. pure (edge_with from to link)))
 unfolding read_edge read_link
@@ -79,7 +81,7 @@ edge-parts row from to is_from is_to = rw (is_from, is_to)
     (only (From ∷ To ∷ Bytes ∷ When ∷ Frozen ∷ []) row)
     (λ link. pure (edge_with from to link)))
 
--- reading the keys of the top one by one is reading all of them, and then going on
+-- The same for the keys of the top and the record of what they have.
 after_top : {T : Type 0} (faults_at : Reading ℤ) (deadline_at : Reading ℤ) (nodes_at : Reading (List Members))
     (slots_at : Reading (List Members)) (processes_at : Reading (List Members))
     (edges_at : Reading (List Members)) (order_at : Reading (Option (List (List ℕ)))) (end : Reading (Unit {0}))
@@ -103,7 +105,7 @@ after_top (Ok faults) (Ok deadline) (Ok nodes) (Ok slots) (Ok processes) (Ok edg
 after_top (Ok faults) (Ok deadline) (Ok nodes) (Ok slots) (Ok processes) (Ok edges) (Ok order) (Err fault) next = refl
 after_top (Ok faults) (Ok deadline) (Ok nodes) (Ok slots) (Ok processes) (Ok edges) (Ok order) (Ok done) next = refl
 
--- reading a document is reading its keys, and then its elements
+-- a document is read by reading the keys of its top, and then the elements of its lists
 pub graph-parts : (ms : Members) →
     read_raw ms ≡ (read_tops (record { table = tables.Top; index = 0; members = ms }) >>= read_elements)
 unfolding read_raw read_tops read_lists read_elements

@@ -1,4 +1,4 @@
--- What is read of a written document, as far as its keys and types go.
+-- A written document is read, by its keys and types, as what it was written from.
 use Rattle.std.proofs.Common.{◌≡◌, ℕ, ◌+◌, suc, Bool, List, [], ◌∷◌, get_or, map, Option, Some, None, Ok, refl, ap, ◌∙◌}
 use Rattle.std.proofs.Common.{arith}
 use Rattle.std.specs.Prelude.{All, IfSome}
@@ -24,7 +24,7 @@ pub all_by_recursion : {X : Type 0} (P : X → Type 0) (xs : List X) → All P x
 all_by_recursion P [] h = tt
 all_by_recursion P (x ∷ xs) h = (h 0 x (omega arith), all_by_recursion P xs (λ k d l. h (suc k) d (omega (arith, l))))
 
--- a name is read as itself
+-- a lawful name is taken as itself
 pub name_read : (text : List ℕ) → IsName text → name_if text ≡ Some text
 name_read text h = rw (is_name-from_IsName text h) refl
 
@@ -45,7 +45,7 @@ pub record IsCalled (nodes : List (List ℕ)) (p : Process) : Type 0 where
   pub name : IsName p.name
   pub node : IsName (get_or nodes p.node [])
 
--- the written table of a process is read as the process
+-- the written table of a process is read as the process; by whether it has its own deadline
 process_by : (nodes : List (List ℕ)) (i : ℕ) (p : Process) (own : Option ℕ) → p.deadline ≡ own → IsCalled nodes p
     → read_process (record { table = places.Process; index = i; members = process_members nodes p })
     ≡ Ok (raw_process nodes p)
@@ -58,7 +58,7 @@ pub record IsJoined (names : List (List ℕ)) (e : Edge) : Type 0 where
   pub from : IsName (get_or names e.from [])
   pub to : IsName (get_or names e.to [])
 
--- the written table of an edge is read as the edge
+-- the written table of an edge is read as the edge; by whether it has a `when`
 edge_by : (processes : List Process) (i : ℕ) (e : Edge) (when : Option Bool) → e.when ≡ when →
     IsJoined (names_of processes) e
     → read_edge (record { table = places.Edge; index = i; members = edge_members processes e })
@@ -100,7 +100,7 @@ map_same : {X : Type 0} (xs : List X) → map (λ x. x) xs ≡ xs
 map_same [] = refl
 map_same (x ∷ xs) = ap (λ l. x ∷ l) (map_same xs)
 
--- the names are names
+-- all names that the document of a graph has are lawful
 pub record AreNames (g : Graph) : Type 0 where
   pub nodes : AllByRecursion IsName g.nodes
   pub slots : AllByRecursion (λ s. IsName (get_or g.nodes s.node [])) g.slots
@@ -135,7 +135,8 @@ edges_read g h = each_read (λ i ms. read_edge (record { table = places.Edge; in
     (edge_members g.processes) (raw_edge (names_of g.processes)) (IsJoined (names_of g.processes))
     (λ i e c. edge_by g.processes i e e.when refl c) 0 g.edges h.edges
 
--- a written document is read as what the graph says, whatever order it gives
+-- The written members of a graph are read as its document. By whether it gives an order; each key is found, and each
+-- list is read as it was written.
 raw_by : (g : Graph) (order : Option (List ℕ)) → g.order ≡ order → AreNames g →
     IfSome order (AllByRecursion (λ p. IsName (name_in (names_of g.processes) p))) →
     read_raw (graph_members g) ≡ Ok (raw_of g)

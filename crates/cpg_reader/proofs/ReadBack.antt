@@ -21,7 +21,7 @@ use Rattle.cpg_reader.proofs.RawReads.{IsCalled, IsJoined, AreNames, all_by_recu
 use Rattle.cpg_reader.proofs.Limited.{raw_limited}
 use Rattle.cpg_reader.proofs.Numbered.{graph_back}
 
--- no table of a list holds a table
+-- a list of tables that hold no table is one deep
 tables_flat : {T : Type 0} (f : T → Members) → ((x : T) → members_depth (f x) ≤ 0) → (xs : List T) →
     items_depth (items_of (map (λ x. table (f x)) xs)) ≤ 1
 tables_flat f h [] = omega arith
@@ -44,7 +44,7 @@ names_flat : (names : List (List ℕ)) (order : List ℕ) →
 names_flat names [] = omega arith
 names_flat names (p ∷ ps) = omega (arith, names_flat names ps)
 
--- a written document is no deeper than a reader goes
+-- A written document is at most 80 deep, which a reader of documents allows. By whether the graph gives an order.
 shallow_by : (g : Graph) (order : Option (List ℕ)) → g.order ≡ order → members_depth (graph_members g) ≤ 80
 shallow_by g None is = rw is (
     let nodes = tables_flat node_members (λ n. omega arith) g.nodes in
@@ -59,11 +59,11 @@ shallow_by g (Some order) is = rw is (
     let edges = tables_flat (edge_members g.processes) (λ e. edge_flat g.processes e e.when refl) g.edges in
     omega (arith, nodes, slots, processes, edges, names_flat (names_of g.processes) order))
 
--- the written members of a graph are nested at most 80 deep
+-- the document of any graph is at most 80 deep
 pub graph_shallow : (g : Graph) → members_depth (graph_members g) ≤ 80
 graph_shallow g = shallow_by g g.order refl
 
--- given a graph within the limits, with well-formed names
+-- given a graph within the limits whose nodes and processes have lawful names
 module _ (g : Graph) (limited : IsWithinLimits g) (nodes : All IsName g.nodes)
     (processes : All (λ p. IsName p.name) g.processes) where
   -- each node has a lawful name
@@ -94,7 +94,7 @@ module _ (g : Graph) (limited : IsWithinLimits g) (nodes : All IsName g.nodes)
   order_named None h = tt
   order_named (Some o) h = all_by_recursion _ o (λ k d l. process_named (get_or o k d) (h.there k d l))
 
-  -- all names of the graph are lawful
+  -- all names that its document has are lawful, as each number in the graph is one of a node or a process
   are_names : AreNames g
   are_names = record {
     nodes = all_by_recursion IsName g.nodes nodes;
@@ -112,7 +112,8 @@ module _ (g : Graph) (limited : IsWithinLimits g) (nodes : All IsName g.nodes)
     order = order_named g.order limited.order;
   }
 
-  -- the written members are read as the graph
+  -- The written members are read as the graph: by keys and types as its document, which is within the limits, and whose
+  -- names are read as the numbers.
   members_back : read_members (graph_members g) ≡ Ok g
   unfolding read_members
   members_back = rw (raw_read g are_names, raw_limited g limited) (graph_back g limited)

@@ -1,21 +1,21 @@
--- What is known of the steps if all of them gave something.
+-- What is known of steps in a row if all of them succeed.
 use Rattle.std.proofs.Common.{◌≡◌, ℕ, zero, suc, ◌+◌, ◌<◌, List, [], ◌∷◌, length, get_or, Ok, Err, refl, sym, ap, ◌∙◌}
 use Rattle.std.proofs.Common.{arith}
 use Rattle.cpg_reader.specs.Reading.{Reading, pure, ◌>>=◌, ◌>>◌, each}
 
--- if two steps in a row gave something, each of them did
+-- if two steps in a row succeed, each of them does
 pub then-parts : {T U : Type 0} (a : Reading T) (b : Reading U) (y : U) → (a >> b) ≡ Ok y →
     (x : T) × (a ≡ Ok x) × (b ≡ Ok y)
 then-parts (Ok x) b y h = (x, refl, h)
 then-parts (Err fault) b y h = cc
 
--- if a step and the step on its value gave something, each of them did
+-- if a step and a step on its value succeed, each of them does
 pub bind-parts : {T U : Type 0} (a : Reading T) (next : T → Reading U) (y : U) → (a >>= next) ≡ Ok y →
     (x : T) × (a ≡ Ok x) × (next x ≡ Ok y)
 bind-parts (Ok x) next y h = (x, refl, h)
 bind-parts (Err fault) next y h = cc
 
--- what a reading gives, or a default
+-- the value of a reading, or d if it refuses
 ok_value : {T : Type 0} → T → Reading T → T
 ok_value d (Ok x) = x
 ok_value d (Err fault) = d
@@ -25,8 +25,9 @@ pub same_ok : {T : Type 0} (x y : T) → pure x ≡ pure y → x ≡ y
 unfolding ok_value
 same_ok x y h = ap (ok_value x) h
 
+-- given a step that is taken for each element
 module _ {T U : Type 0} (step : ℕ → T → Reading U) where
-  -- if all elements gave something, the first did, and so did the others
+  -- if the steps for all elements succeed, so does the first, and so do the others
   pub each-parts : (i : ℕ) (x : T) (xs : List T) (ys : List U) → each step i (x ∷ xs) ≡ Ok ys →
       (y : U) × (zs : List U) × (ys ≡ y ∷ zs) × (step i x ≡ Ok y) × (each step (i + 1) xs ≡ Ok zs)
   each-parts i x xs ys h =
@@ -41,7 +42,7 @@ module _ {T U : Type 0} (step : ℕ → T → Reading U) where
       let (y, zs, is, first, rest) = each-parts i x xs ys h in
       ap length is ∙ ap suc (each-length (i + 1) xs zs rest)
 
-  -- each element gives the value at its place
+  -- the element at place k gives the value at place k, if the first element has the index i; by the place
   pub each-at : (i : ℕ) (xs : List T) (ys : List U) → each step i xs ≡ Ok ys → (k j : ℕ) (d : T) (e : U) → i + k ≡ j →
       k < length xs →
       step j (get_or xs k d) ≡ Ok (get_or ys k e)

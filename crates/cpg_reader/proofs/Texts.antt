@@ -1,4 +1,4 @@
--- Borrowed texts, as a set keeps them.
+-- A set keeps borrowed texts; what it finds and adds, said of the texts themselves.
 use Rattle.std.proofs.Common.{◌≡◌, ℕ, ◌+◌, ◌<◌, Bool, true, false, not, List, [], ◌∷◌, ◌++◌, length, drop, take, get_or}
 use Rattle.std.proofs.Common.{map, Err, Bor, refl, ap, ◌∙◌, sym, cond}
 use Rattle.std.specs.Prelude.{bytes_eq, position, is_some}
@@ -42,18 +42,19 @@ position-texts name ks = rw (first-texts name ks, length-map ks (λ k. k.now)) r
 abbrev pub same_text : Bor (List ℕ) → Bor (List ℕ) → Bool
 same_text a b = bytes_eq a.now b.now
 
--- the texts with one more, if it is new
+-- the texts of a set, with one more if it is new
 inserted_if : (ks : Texts) (k : Bor (List ℕ)) (b : Bool) →
     texts (cond b ks (ks ++ k ∷ [])) ≡ cond b (texts ks) (texts ks ++ k.now ∷ [])
 inserted_if ks k true = refl
 inserted_if ks k false = map_push (λ n. n.now) ks k
 
--- a name is noted once
+-- the texts of a set after an insertion are those before, with the new one after them if it wasn't among them
 pub inserted : (ks : Texts) (k : Bor (List ℕ)) →
     texts (insert_key same_text ks k) ≡ cond (list_any (bytes_eq k.now) (texts ks)) (texts ks) (texts ks ++ k.now ∷ [])
 inserted ks k = rw (← any-texts k.now ks) (inserted_if ks k (list_any (same_text k) ks))
 
--- the source of a conditional edge is noted
+-- if the source of a conditional edge is added to those that were seen, the different sources of it and of the other
+-- edges are those of the other edges
 source_noted : (e : RawEdge) (es : List RawEdge) (ks new : Texts) (k : Bor (List ℕ)) → is_some e.when ≡ true →
     k.now ≡ e.from →
     new ≡ insert_key same_text ks k
@@ -61,13 +62,14 @@ source_noted : (e : RawEdge) (es : List RawEdge) (ks new : Texts) (k : Bor (List
 source_noted e es ks new k conditional named keys =
     rw (conditional, ← named) (ap (λ seen. different seen (sources es)) (sym (ap texts keys ∙ inserted ks k)))
 
--- a simple edge notes nothing
+-- an edge without a `when` adds no source
 simple_edge : (e : RawEdge) (es : List RawEdge) (seen : List (List ℕ)) → is_some e.when ≡ false →
     different seen (sources (e ∷ es)) ≡ different seen (sources es)
 simple_edge e es seen simple = rw simple refl
 
+-- given the edge e at place i, the sources ks that were seen before it, and all different ones, `whole`
 module _ (es : List RawEdge) (i : ℕ) (e : RawEdge) (whole : List (List ℕ)) (ks : Texts) where
-  -- a conditional edge notes its source
+  -- if e is conditional and its source is added, `whole` are those and the different sources of the edges after it
   pub more_sources : i < length es → e ≡ get_or es i e → (new : Texts) (k : Bor (List ℕ)) → is_some e.when ≡ true →
       k.now ≡ e.from →
       new ≡ insert_key same_text ks k
@@ -75,29 +77,29 @@ module _ (es : List RawEdge) (i : ℕ) (e : RawEdge) (whole : List (List ℕ)) (
   more_sources h is new k conditional named keys so_far =
       so_far ∙ rw (drop-here es i e h is) (source_noted e (drop (i + 1) es) ks new k conditional named keys)
 
-  -- a simple edge notes nothing, as one step of the loop
+  -- if e has no `when`, nothing is added
   pub same_sources : i < length es → e ≡ get_or es i e → is_some e.when ≡ false
       → whole ≡ different (texts ks) (sources (drop i es)) → whole ≡ different (texts ks) (sources (drop (i + 1) es))
   same_sources h is simple so_far =
       so_far ∙ rw (drop-here es i e h is) (simple_edge e (drop (i + 1) es) (texts ks) simple)
 
--- a name that wasn't added was there
+-- if an insertion added nothing, the name was there
 pub was_there : (b : Bool) → false ≡ not b → b ≡ true
 was_there true e = refl
 was_there false e = cc
 
--- a name that was added wasn't there
+-- if an insertion added the name, it wasn't there
 pub was_new : (b : Bool) → true ≡ not b → b ≡ false
 was_new false e = refl
 was_new true e = cc
 
 module _ (ks : Texts) (k : Bor (List ℕ)) (new : Texts) (keys : new ≡ insert_key same_text ks k)
     (e : list_any (same_text k) ks ≡ false) where
-  -- the texts with one more
+  -- given a set `new` to which a new text k was added, its texts are those before and then k
   noted : texts new ≡ texts ks ++ k.now ∷ []
   noted = ap texts (rw e at keys) ∙ map_push (λ n. n.now) ks k
 
-  -- with one more name, the names that were seen are those of the elements so far
+  -- if the texts before were the names of the elements before x, and k is that of x, the texts are those up to x
   pub seen_more : {T : Type 0} (named : T → List ℕ) (xs : List T) (i : ℕ) (x : T) → i < length xs → x ≡ get_or xs i x →
       k.now ≡ named x
       → texts ks ≡ map named (take i xs) → texts new ≡ map named (take (i + 1) xs)
@@ -105,26 +107,27 @@ module _ (ks : Texts) (k : Bor (List ℕ)) (new : Texts) (keys : new ≡ insert_
       let front : take (i + 1) xs ≡ take i xs ++ x ∷ [] = take_more xs i x h ∙ ap (λ y. take i xs ++ y ∷ []) (sym is) in
       noted ∙ rw (front, map_push named (take i xs) x, ← seen, ← name) refl
 
+-- given the place at which a double name is shown
 module _ (table : Table) (key : Key) where
-  -- a name that was seen is refused, and any other is added to those that were seen
+  -- the test for double names refuses a name that was seen, and adds any other to those that were
   apart-test : (i : ℕ) (seen : List (List ℕ)) (name : List ℕ) (names : List (List ℕ)) (b : Bool) →
       list_any (bytes_eq name) seen ≡ b
       → apart_from table key i seen (name ∷ names)
       ≡ cond b (Err (DoubleName (name_place table i key))) (apart_from table key (i + 1) (seen ++ name ∷ []) names)
   apart-test i seen name names b e = rw e refl
 
-  -- `named`, `xs`, `i`, `x`: the elements with their names, and the one at place i; `ks`, `k`: the names seen, and
-  -- its name
+  -- given elements with names, the element x at place i, its name k, and the names ks that were seen before it; `whole`
+  -- is what the test of all names comes to
   module _ {T : Type 0} (named : T → List ℕ) (xs : List T) (i : ℕ) (x : T) (ks : Texts) (k : Bor (List ℕ))
       (whole : Reading (Unit {0})) where
-    -- a name that was seen already is double
+    -- if k was seen already, the names are refused for it
     pub is_double : i < length xs → x ≡ get_or xs i x → k.now ≡ named x → list_any (same_text k) ks ≡ true
         → whole ≡ apart_from table key i (texts ks) (map named (drop i xs)) →
         whole ≡ Err (DoubleName (name_place table i key))
     is_double h is name e so_far = so_far ∙ rw (drop-here xs i x h is, ← name)
         (apart-test i (texts ks) k.now (map named (drop (i + 1) xs)) true (sym (any-texts k.now ks) ∙ e))
 
-    -- a name that is new is added to those that were seen
+    -- if k is new, the test goes on with the names after it
     pub is_new : i < length xs → x ≡ get_or xs i x → k.now ≡ named x → list_any (same_text k) ks ≡ false →
         (new : Texts) →
         new ≡ insert_key same_text ks k

@@ -33,13 +33,13 @@ use Rattle.cpg_reader.proofs.Steps.{then-parts, bind-parts, same_ok, each-length
 use Rattle.cpg_reader.proofs.Limits.{AreLimits, are_limits}
 use Rattle.cpg_reader.proofs.Numbering.{number-is, apart-pairs, different-Contains}
 
--- what a slot, a process or an edge of a document says, and what the graph has of it
+-- a slot of the graph has what the document's slot i says, and the number of the node that is named
 record ShowsSlot (nodes : List (List ℕ)) (i : ℕ) (raw : RawSlot) (s : Slot) : Type 0 where
   pub node : number_of nodes (place tables.Slot i Node) raw.node ≡ Ok s.node
   pub length : natural raw.length ≡ s.length
   pub bytes : natural raw.bytes ≡ s.bytes
 
--- a slot that was read is what the document says of it
+-- a slot that was read has what the document says
 shows_slot : (nodes : List (List ℕ)) (i : ℕ) (raw : RawSlot) (s : Slot) → slot_of nodes i raw ≡ Ok s →
     ShowsSlot nodes i raw s
 unfolding slot_of
@@ -64,7 +64,7 @@ record ShowsProcess (nodes : List (List ℕ)) (i : ℕ) (raw : RawProcess) (p : 
   pub release : natural raw.release ≡ p.release
   pub deadline : option_map natural raw.deadline ≡ p.deadline
 
--- a process that was read is what the document says of it
+-- a process that was read has what the document says
 shows_process : (nodes : List (List ℕ)) (i : ℕ) (raw : RawProcess) (p : Process) → process_of nodes i raw ≡ Ok p →
     ShowsProcess nodes i raw p
 unfolding process_of
@@ -90,7 +90,7 @@ record ShowsEdge (processes : List (List ℕ)) (i : ℕ) (raw : RawEdge) (e : Ed
   pub size : natural raw.bytes ≡ e.size
   pub when : raw.when ≡ e.when
 
--- an edge that was read is what the document says of it
+-- an edge that was read has what the document says
 shows_edge : (processes : List (List ℕ)) (i : ℕ) (raw : RawEdge) (e : Edge) → edge_of processes i raw ≡ Ok e →
     ShowsEdge processes i raw e
 unfolding edge_of
@@ -105,7 +105,8 @@ shows_edge processes i raw e h =
       when = ap (λ (x : Edge). x.when) is;
     }
 
--- the numbers of an order are different ones below the number of names
+-- The numbers of an order that was read are below the number of names, and differ, as the names of the order do.
+-- Without an order there are none.
 order_within : (names : List (List ℕ)) (raw : Option (List (List ℕ))) (order : Option (List ℕ)) →
     order_apart raw ≡ Ok tt →
     order_of names raw ≡ Ok order
@@ -128,7 +129,7 @@ order_within names (Some called) order h e =
           (sym (at i d (omega (arith, lt, l))).1 ∙ ap (λ p. get_or names p []) twice ∙ (at j d l).1);
     })
 
--- the parts of the graph of a document
+-- no name of the document is double, and these are the slots, processes, edges and order that are read of it
 record AreParts (g : RawGraph) (ss : List Slot) (ps : List Process) (es : List Edge)
     (found : Option (List ℕ)) : Type 0 where
   pub nodes_apart : AllPairs (λ a b. a ≢ b) g.nodes
@@ -140,17 +141,17 @@ record AreParts (g : RawGraph) (ss : List Slot) (ps : List Process) (es : List E
   pub order_apart : order_apart g.order ≡ Ok tt
   pub order : order_of (process_names g.processes) g.order ≡ Ok found
 
--- a deadline of its own that is within the limit is so as a natural number
+-- a process's own deadline, which counts as 0 if it is absent, is within the limit as a natural number too
 deadline_within : (own : Option ℤ) (most : ℕ) → natural (unwrap_or own (pos 0)) ≤ most →
     IfSome (option_map natural own) (λ d. d ≤ most)
 deadline_within (Some d) most h = h
 deadline_within None most h = tt
 
--- a slot for places behind the list
+-- a slot for places past the end of the list
 some_slot : RawSlot
 some_slot = record { node = []; length = pos 0; bytes = pos 0 }
 
--- a process for places behind the list
+-- a process for places past the end of the list
 some_process : RawProcess
 some_process = record {
   name = [];
@@ -166,12 +167,11 @@ some_process = record {
   deadline = None;
 }
 
--- an edge for places behind the list
+-- an edge for places past the end of the list
 some_edge : RawEdge
 some_edge = record { from = []; to = []; bytes = pos 0; when = None; frozen = false }
 
--- given a document within the limits, and the parts of its graph
--- `ss`, `ps`, `es`, `order`, `parts`: the slots, processes, edges and the order that are built of the document g
+-- given a document g within the limits, and the slots ss, processes ps, edges es and order that are read of it
 module _ (g : RawGraph) (ss : List Slot) (ps : List Process) (es : List Edge) (order : Option (List ℕ))
     (limited : AreLimits g) (parts : AreParts g ss ps es order) where
   -- there are as many slots as tables of slots
@@ -190,24 +190,24 @@ module _ (g : RawGraph) (ss : List Slot) (ps : List Process) (es : List Edge) (o
   name_count : length (process_names g.processes) ≡ length ps
   name_count = length-map g.processes (λ p. p.name) ∙ sym process_count
 
-  -- each slot has what its table says
+  -- each slot of the graph has what the document says of it
   slot_there : (k : ℕ) (d : Slot) → k < length ss → ShowsSlot g.nodes k (get_or g.slots k some_slot) (get_or ss k d)
   slot_there k d l = shows_slot g.nodes k _ _
       (each-at (slot_of g.nodes) 0 g.slots ss parts.slots k k some_slot d (zero-add k) (omega (arith, l, slot_count)))
 
-  -- each process of the graph is what the document says of it
+  -- each process of the graph has what the document says of it
   process_there : (k : ℕ) (d : Process) → k < length ps →
       ShowsProcess g.nodes k (get_or g.processes k some_process) (get_or ps k d)
   process_there k d l = shows_process g.nodes k _ _ (each-at (process_of g.nodes) 0 g.processes ps parts.processes k k
       some_process d (zero-add k) (omega (arith, l, process_count)))
 
-  -- each edge of the graph is what the document says of it
+  -- each edge of the graph has what the document says of it
   edge_there : (k : ℕ) (d : Edge) → k < length es →
       ShowsEdge (process_names g.processes) k (get_or g.edges k some_edge) (get_or es k d)
   edge_there k d l = shows_edge (process_names g.processes) k _ _ (each-at (edge_of (process_names g.processes)) 0
       g.edges es parts.edges k k some_edge d (zero-add k) (omega (arith, l, edge_count)))
 
-  -- each slot is within the limits
+  -- each slot is within the limits, as its numbers are in their ranges in the document
   slots_within : All (IsSlotWithin (length g.nodes)) ss
   slots_within k d l =
       let shown = slot_there k d l in
@@ -220,7 +220,7 @@ module _ (g : RawGraph) (ss : List Slot) (ps : List Process) (es : List Edge) (o
         bytes = rw (← shown.bytes) ranges.2.1;
       }
 
-  -- each process is within the limits, as its numbers are in the ranges of its row
+  -- each process is within the limits, as its numbers are in their ranges in the document
   processes_within : All (IsProcessWithin (length g.nodes)) ps
   processes_within k d l =
       let shown = process_there k d l in
@@ -239,7 +239,7 @@ module _ (g : RawGraph) (ss : List Slot) (ps : List Process) (es : List Edge) (o
             (deadline_within (get_or g.processes k some_process).deadline 1000000000 ranges.2.2.2.2.2.2.1);
       }
 
-  -- each edge is within the limits
+  -- each edge is within the limits, as its number is in its range in the document
   edges_within : All (IsEdgeWithin (length ps)) es
   edges_within k d l =
       let shown = edge_there k d l in
@@ -256,13 +256,13 @@ module _ (g : RawGraph) (ss : List Slot) (ps : List Process) (es : List Edge) (o
   named k d l =
       get_or-map _ g.processes k some_process [] (omega (arith, l, process_count)) ∙ (process_there k d l).name
 
-  -- the names of the processes differ
+  -- the names of the graph's processes differ, as they do in the document
   names_differ : AllPairs (λ p q. p.name ≢ q.name) ps
   names_differ i j d lt l e =
       parts.processes_apart i j [] lt (omega (arith, l, name_count))
       (named i d (omega (arith, lt, l)) ∙ e ∙ sym (named j d l))
 
-  -- the nodes of the slots differ
+  -- the nodes of the graph's slots differ, as their names do in the document
   slots_differ : AllPairs (λ s t. s.node ≢ t.node) ss
   slots_differ i j d lt l e =
       let a = number-is g.nodes _ _ _ (slot_there i d (omega (arith, lt, l))).node [] in
@@ -273,7 +273,7 @@ module _ (g : RawGraph) (ss : List Slot) (ps : List Process) (es : List Edge) (o
       parts.slots_apart i j [] lt (omega (arith, l, slot_count, length-map g.slots (λ s. s.node)))
       (name_i ∙ same ∙ sym name_j)
 
-  -- the processes with a condition, and what they are called
+  -- the processes with a conditional output
   conditional : List ℕ
   conditional = filter (has_conditional_output es) (numbers_below (length ps))
 
@@ -287,26 +287,30 @@ module _ (g : RawGraph) (ss : List Slot) (ps : List Process) (es : List Edge) (o
   conditional_below p c = numbers-Contains (length ps) p
       (Contains-filter_parts (has_conditional_output es) (numbers_below (length ps)) p c).0
 
-  -- the names of the conditional processes differ
+  -- the names of the conditional processes differ, as these are different processes
   conditional_names_differ : AllPairs (λ a b. a ≢ b) (map name_of conditional)
   unfolding conditional name_of
   conditional_names_differ i j d lt l e =
       let l' : j < length conditional = omega (arith, l, length-map conditional name_of) in
       let at_i = get_or-map name_of conditional i 0 d (omega (arith, lt, l')) in
       let at_j = get_or-map name_of conditional j 0 d l' in
+      -- the process at i is below that at j
       let rise = AllPairs-filter (λ x y. x < y) (has_conditional_output es) (numbers_below (length ps))
       (AllPairs-from_increasing (numbers_below (length ps)) (numbers_rise (length ps))) i j 0 lt l' in
       parts.processes_apart (get_or conditional i 0) (get_or conditional j 0) [] rise
       (omega (arith, name_count, conditional_below (get_or conditional j 0) (Contains-get_or conditional j 0 l')))
       (sym at_i ∙ e ∙ at_j)
 
-  -- a process with a condition is the source of a conditional edge
+  -- The name of a conditional process is the source of a conditional edge in the document: that from which its
+  -- conditional edge was read.
   conditional_named : (p : ℕ) → Contains conditional p → Contains (sources g.edges) (name_of p)
   unfolding conditional name_of
   conditional_named p c =
+      -- edge e, at place k, is a conditional output of p
       let (e, (k, l, here), test) = list_any_parts (is_conditional_output p) es
       (Contains-filter_parts (has_conditional_output es) (numbers_below (length ps)) p c).1 in
       let (from, taken) = and_parts (e.from == p) (is_some e.when) test in
+      -- it was read from the edge at place k of the document, which has its condition and the name of its source
       let shown = edge_there k e l in
       let raw = get_or g.edges k some_edge in
       let when : raw.when ≡ e.when = shown.when ∙ ap (λ (x : Edge). x.when) here in
@@ -317,7 +321,8 @@ module _ (g : RawGraph) (ss : List Slot) (ps : List Process) (es : List Edge) (o
       (Contains-filter (λ (r : RawEdge). is_some r.when) g.edges raw (ap is_some when ∙ taken)
       (Contains-get_or g.edges k some_edge (omega (arith, l, edge_count)))))
 
-  -- there are at most 32 of them
+  -- There are at most 32 conditional processes: their names differ, and are among the different sources of conditional
+  -- edges.
   few_conditional : length conditional ≤ 32
   few_conditional =
       let all = length-le_of_apart (map name_of conditional) (different [] (sources g.edges)) conditional_names_differ
@@ -326,19 +331,19 @@ module _ (g : RawGraph) (ss : List Slot) (ps : List Process) (es : List Edge) (o
       (inr (subst (Contains (sources g.edges)) is (conditional_named p there)))) in
       omega (arith, all, limited.conditions, length-map conditional name_of)
 
-  -- there are at most 32 conditions
+  -- there are at most 32 conditions, as there is one for each conditional process
   conditions_within : condition_count (graph_with g ss ps es order) ≤ 32
   unfolding conditional
   conditions_within = subst (λ n. n ≤ 32) (ap length (conditions_found (graph_with g ss ps es order))) few_conditional
 
-  -- an order that is within the limits of the document is within those of the graph
+  -- an order of the document's names is one of the graph's processes
   order_there : (o : Option (List ℕ)) →
       IfSome o (λ o. (n : ℕ) → length (process_names g.processes) ≡ n → IsOrderWithin n o) →
       IfSome o (IsOrderWithin (length ps))
   order_there None h = tt
   order_there (Some o) h = h (length ps) name_count
 
-  -- each limit of the graph is a limit of the document, read off its parts
+  -- each limit of the graph follows from one of the document
   all_within : IsWithinLimits (graph_with g ss ps es order)
   all_within = record {
     faults = limited.top_range.1;
@@ -357,7 +362,8 @@ module _ (g : RawGraph) (ss : List Slot) (ps : List Process) (es : List Edge) (o
     order = order_there order (order_within (process_names g.processes) g.order order parts.order_apart parts.order);
   }
 
--- the graph of a document within the limits is within the limits
+-- The graph of a document within the limits is within the limits. Its reading is taken apart step by step, which gives
+-- its parts and that no name is double.
 pub graph-within : (g : RawGraph) (graph : Graph) → limits g ≡ Ok tt → graph_of g ≡ Ok graph → IsWithinLimits graph
 unfolding graph_of resolved
 graph-within g graph limited h =
@@ -401,7 +407,7 @@ unordered-within graph h = record {
   order = tt;
 }
 
--- what holds of the result of a function on an optional value holds by the function
+-- if a fact holds of f x for the optional value x, it holds of x by way of f
 pub of_mapped : {S T : Type 0} (f : S → T) (P : T → Type 0) (o : Option S) → IfSome (option_map f o) P →
     IfSome o (λ x. P (f x))
 of_mapped f P None h = tt

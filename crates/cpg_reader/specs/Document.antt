@@ -10,22 +10,22 @@ use Rattle.cpg_reader.specs.Shape.{read_raw}
 use Rattle.cpg_reader.specs.Ranges.{limits}
 use Rattle.cpg_reader.specs.Names.{graph_of}
 
--- the members of a document, or the refusal of bytes that are no document
+-- the members of a document, or the refusal if there is none
 abbrev pub members_if : Option Members → Reading Members
 members_if None = Err NotToml
 members_if (Some ms) = pure ms
 
--- the table that the bytes spell, if they are UTF-8 and a document
+-- the members of the TOML document that the bytes spell; bytes that aren't UTF-8, or spell none, are refused
 unfoldable pub document_of : List ℕ → Reading Members
 document_of bytes = members_if (if is_utf8 bytes then parse_document bytes else None)
 
--- The graph of a table. Its keys and types are checked first, then its limits, and then its names.
+-- The graph that a document says. Its keys and types are checked first, then its limits, and then its names.
 unfoldable pub read_members : Members → Reading Graph
 read_members ms = do
   g ← read_raw ms
   limits g
   graph_of g
 
--- the graph that a file's bytes say, or their first refusal
+-- the graph that a file's bytes say, or the first reason to refuse them
 unfoldable pub problem_of : List ℕ → Reading Graph
 problem_of bytes = document_of bytes >>= read_members

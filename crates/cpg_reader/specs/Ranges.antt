@@ -18,7 +18,7 @@ use Rattle.cpg_reader.specs.declared.ranges.BoundedField.{BoundedField}
 use Rattle.cpg_reader.specs.Reading.{Reading, done, ◌>>◌}
 use Rattle.cpg_reader.specs.Shape.{RawGraph}
 
--- the number of a key, and the least and the greatest that it may be
+-- the two numbers at the top, each with the least and the greatest value that it may have
 abbrev pub top_numbers : RawGraph → List BoundedField
 top_numbers g =
     record { key = Faults; value = g.faults; low = 0; high = MOST_FAULTS }
@@ -32,7 +32,7 @@ slot_numbers s =
     ∷ record { key = Bytes; value = s.bytes; low = 1; high = LARGEST }
     ∷ []
 
--- a deadline that is absent counts as 0
+-- the numbers of a process, with their ranges; an absent deadline counts as 0, which is in range
 abbrev pub process_numbers : RawProcess → List BoundedField
 process_numbers p =
     record { key = Wcet; value = p.wcet; low = 1; high = LONGEST }
@@ -48,19 +48,19 @@ process_numbers p =
 abbrev pub edge_numbers : RawEdge → List BoundedField
 edge_numbers e = record { key = Bytes; value = e.bytes; low = 1; high = LARGEST } ∷ []
 
--- whether a number lies between the least and the greatest that it may be
+-- whether a number is from the least to the greatest value that it may have
 abbrev pub is_within : ℕ → ℕ → ℤ → Bool
 is_within low high (pos n) = nat_le low n && nat_le n high
 is_within low high (negsuc n) = false
 
--- the numbers of one table of the document are in range
+-- the numbers of element i of a list are in range; the refusal names the first that isn't
 abbrev pub in_range : Table → ℕ → List BoundedField → Reading (Unit {0})
 in_range table i [] = done
 in_range table i (n ∷ ns) = if is_within n.low n.high n.value
     then in_range table i ns
     else Err (OverLimit (Number (record { table = table; index = i; key = n.key })))
 
--- the numbers of all elements of a list are in range
+-- the numbers of all elements of a list are in range; the first element has the index i
 abbrev pub all_in_range : {T : Type 0} → Table → (T → List BoundedField) → ℕ → List T → Reading (Unit {0})
 all_in_range table numbers_of i [] = done
 all_in_range table numbers_of i (x ∷ xs) = do
@@ -71,16 +71,16 @@ all_in_range table numbers_of i (x ∷ xs) = do
 abbrev pub at_most : {T : Type 0} → ℕ → What → List T → Reading (Unit {0})
 at_most limit what xs = if nat_le (length xs) limit then done else Err (OverLimit what)
 
--- the sources of the conditional edges
+-- the names of the conditional edges' sources, edge by edge
 abbrev pub sources : List RawEdge → List (List ℕ)
 sources edges = map (λ e. e.from) (filter (λ e. is_some e.when) edges)
 
--- the names that were seen, and of the others each that is different from all before it
+-- the names that were seen and each further name once
 abbrev pub different : List (List ℕ) → List (List ℕ) → List (List ℕ)
 different seen [] = seen
 different seen (name ∷ names) = different (if list_any (bytes_eq name) seen then seen else seen ++ name ∷ []) names
 
--- a document within the limits
+-- A document is within the limits. Counts are tested first, then numbers, then how many processes have conditions.
 unfoldable pub limits : RawGraph → Reading (Unit {0})
 limits g = do
   at_most MOST_NODES Nodes g.nodes

@@ -39,11 +39,11 @@ raw_edge names e = record {
   frozen = e.frozen;
 }
 
--- the name at a number
+-- the name with this number, or the empty text if there is none
 abbrev pub name_in : List (List ℕ) → ℕ → List ℕ
 name_in names p = get_or names p []
 
--- what processes are called
+-- the names of processes, by number
 abbrev pub names_of : List Process → List (List ℕ)
 names_of processes = map (λ p. p.name) processes
 

@@ -4,7 +4,7 @@ use Rattle.cpg_reader.specs.declared.place.ReadFault.{ReadFault}
 use Rattle.cpg_reader.specs.declared.place.ReadFault.TheVariants.{NotToml, BadField, DoubleName, UnknownName, OverLimit}
 use Rattle.cpg_reader.specs.declared.place.ReadFault.TheVariants.{OutOfMemory}
 
--- the value that a step gives, or its refusal
+-- what a step gives: a value, or the reason to refuse the document
 abbrev pub Reading : Type 0 → Type 0
 Reading T = Result T ReadFault
 
@@ -22,12 +22,13 @@ abbrev pub ◌>>=◌ : {T U : Type 0} → Reading T → (T → Reading U) → Re
 (Ok x >>= next) = next x
 (Err fault >>= next) = Err fault
 
+-- a step and then the next, which doesn't need the value of the first; if the first fails, the whole does
 infixl 10 ◌>>◌
 abbrev pub ◌>>◌ : {T U : Type 0} → Reading T → Reading U → Reading U
 (Ok x >> next) = next
 (Err fault >> next) = Err fault
 
--- one step for each element, with its index
+-- the values that a step gives for the elements, each with its index; the first element has the index i
 abbrev pub each : {T U : Type 0} → (ℕ → T → Reading U) → ℕ → List T → Reading (List U)
 each step i [] = pure []
 each step i (x ∷ xs) = do
@@ -35,7 +36,7 @@ each step i (x ∷ xs) = do
   ys ← each step (i + 1) xs
   pure (y ∷ ys)
 
--- the answer of code that may also be out of memory
+-- Code may fail with this fault: the document is refused for it. `OutOfMemory` is always allowed.
 abbrev pub Refuses : {T : Type 0} → ReadFault → Reading T → Type 0
 Refuses NotToml reading = reading ≡ Err NotToml
 Refuses (BadField place) reading = reading ≡ Err (BadField place)
@@ -44,7 +45,7 @@ Refuses (UnknownName place) reading = reading ≡ Err (UnknownName place)
 Refuses (OverLimit what) reading = reading ≡ Err (OverLimit what)
 Refuses OutOfMemory reading = Unit {0}
 
--- the answer of code that gives what reading gives, or refuses as it does
+-- a result of code, whose value is seen through `view`, is what reading gives or refuses, or is `OutOfMemory`
 abbrev pub Gives : {S T : Type 0} → (S → T) → Reading S → Reading T → Type 0
 Gives view (Ok x) reading = reading ≡ Ok (view x)
 Gives view (Err fault) reading = Refuses fault reading

@@ -18,14 +18,14 @@ use Rattle.cpg_reader.specs.Reading.{Reading, pure, ◌>>=◌, ◌>>◌, each}
 use Rattle.cpg_reader.specs.Rows.{DocumentRow, read_name, read_integer, integer_or, flag_or, optional, as_names}
 use Rattle.cpg_reader.specs.Rows.{read_array, only}
 
--- the name of a node
+-- A node: its name. Here and below, unknown keys are refused after all known ones are read.
 unfoldable pub read_node : DocumentRow → Reading (List ℕ)
 read_node row = do
   name ← read_name row Name
   only (Name ∷ []) row
   pure name
 
--- a slot as the document has it
+-- a slot as the document has it; no key has a default
 unfoldable pub read_slot : DocumentRow → Reading RawSlot
 read_slot row = do
   node ← read_name row Node
@@ -34,7 +34,8 @@ read_slot row = do
   only (Node ∷ Length ∷ Bytes ∷ []) row
   pure (record { node = node; length = length; bytes = bytes })
 
--- a process as the document has it
+-- A process as the document has it. By default it has one part, costs nothing beside its wcet, is released at 0, is
+-- neither a join nor frozen, and has no own deadline.
 unfoldable pub read_process : DocumentRow → Reading RawProcess
 read_process row = do
   name ← read_name row Name
@@ -78,7 +79,7 @@ read_work row = do
   only (Name ∷ Node ∷ Wcet ∷ Parts ∷ Alpha ∷ Chi ∷ Mu ∷ Join ∷ Frozen ∷ Release ∷ Deadline ∷ []) row
   pure (record { wcet = wcet; parts = parts; alpha = alpha; chi = chi; mu = mu; join = join; frozen = frozen; release = release; deadline = deadline })
 
--- a process of these names
+-- a process with this name, on the node with this name
 abbrev pub process_with : List ℕ → List ℕ → RawWork → RawProcess
 process_with name node w = record {
   name = name;
@@ -94,7 +95,8 @@ process_with name node w = record {
   deadline = w.deadline;
 }
 
--- an edge as the document has it
+-- An edge as the document has it. By default its message has one byte and isn't frozen, and it is taken with either
+-- value.
 unfoldable pub read_edge : DocumentRow → Reading RawEdge
 read_edge row = do
   from ← read_name row From
@@ -118,22 +120,25 @@ read_link row = do
 abbrev pub edge_with : List ℕ → List ℕ → RawLink → RawEdge
 edge_with from to l = record { from = from; to = to; bytes = l.bytes; when = l.when; frozen = l.frozen }
 
--- the elements of a list of the document
+-- the elements of a list of the document, given their tables
 abbrev pub read_rows : {T : Type 0} → Table → (DocumentRow → Reading T) → List Members → Reading (List T)
 read_rows table element_at members =
     each (λ i ms. element_at (record { table = table; index = i; members = ms })) 0 members
 
--- what a document says: numbers of any size, and names that need not name anything
+-- what a document says by its keys and types: numbers may still be out of range, and names may name nothing
 pub record RawGraph : Type 0 where
+  -- the most faults in one cycle, and the time by which all has to end
   pub faults : ℤ
   pub deadline : ℤ
+  -- the names of the nodes
   pub nodes : List (List ℕ)
   pub slots : List RawSlot
   pub processes : List RawProcess
   pub edges : List RawEdge
+  -- the names of the processes in the order that the graph gives, or `None` if it gives none
   pub order : Option (List (List ℕ))
 
--- what a document says, as specifications see it
+-- what a document says, from the code's record of it
 abbrev pub raw_view : RawProblem → RawGraph
 raw_view p = record {
   faults = p.faults;
@@ -163,17 +168,20 @@ read_raw ms = do
   edges ← read_rows tables.Edge read_edge edge_tables
   pure (record { faults = faults; deadline = deadline; nodes = nodes; slots = slots; processes = processes; edges = edges; order = order })
 
--- what stands at the keys of the top: two numbers, the tables of each list, and the names of the order
+-- what the keys of the top have: two numbers, the tables of each list, and the names of the order, if it is there
 pub record Tops : Type 0 where
+  -- the two numbers of the top
   pub faults : ℤ
   pub deadline : ℤ
+  -- the members of each table of a list, in the document's order
   pub nodes : List Members
   pub slots : List Members
   pub processes : List Members
   pub edges : List Members
+  -- the names in the order, or `None` if there is no such key
   pub order : Option (List (List ℕ))
 
--- what stands at the keys of the top, as specifications see it
+-- the top of a document, from the code's record of it
 abbrev pub tops_view : TopsOfCode → Tops
 tops_view t = record {
   faults = t.faults;
@@ -185,7 +193,7 @@ tops_view t = record {
   order = option_map (λ names. names.items) t.order;
 }
 
--- the tables of each list, the names of the order, and the end of the top
+-- the lists and the order of a top whose two numbers are read; it has no other key
 unfoldable pub read_lists : DocumentRow → ℤ → ℤ → Reading Tops
 read_lists top faults deadline = do
   node_tables ← read_array top Node
@@ -196,14 +204,14 @@ read_lists top faults deadline = do
   only (Faults ∷ Deadline ∷ Node ∷ Slot ∷ Process ∷ Edge ∷ Order ∷ []) top
   pure (record { faults = faults; deadline = deadline; nodes = node_tables; slots = slot_tables; processes = process_tables; edges = edge_tables; order = order })
 
--- all keys of the top
+-- what all keys of the top have
 unfoldable pub read_tops : DocumentRow → Reading Tops
 read_tops top = do
   faults ← read_integer top Faults
   deadline ← read_integer top Deadline
   read_lists top faults deadline
 
--- the elements of each list, one list after the other
+-- the elements of each list, read from their tables, one list after the other
 unfoldable pub read_elements : Tops → Reading RawGraph
 read_elements t = do
   nodes ← read_rows tables.Node read_node t.nodes

@@ -9,7 +9,8 @@ use Rattle.cpg_base.specs.declared.process.Process.{Process}
 use Rattle.cpg_base.specs.declared.process.Edge.{Edge}
 use Rattle.cpg_base.specs.declared.process.Slot.{Slot}
 
--- the members with one more, or with another value at its key
+-- the members, which are in the order of their keys, with a value at key k: a new member at its place, or in place of
+-- the one that has the key
 abbrev pub with_member : List ℕ → Data → Members → Members
 with_member k d no_members = member k d no_members
 with_member k d (member l e ms) = match_ordering (slice_cmp nat_cmp k l) (member k d (member l e ms)) (member l d ms)
@@ -19,7 +20,7 @@ with_member k d (member l e ms) = match_ordering (slice_cmp nat_cmp k l) (member
 abbrev pub number : ℕ → Data
 number n = integer (pos n)
 
--- an array of tables
+-- an array with a table for each element
 abbrev pub tables : {T : Type 0} → (T → Members) → List T → Data
 tables members_of xs = array (items_of (map (λ x. table (members_of x)) xs))
 
@@ -33,21 +34,21 @@ slot_members nodes s =
     member (codes "bytes") (number s.bytes)
     (member (codes "length") (number s.length) (member (codes "node") (string (get_or nodes s.node [])) no_members))
 
--- the end of a process's table
+-- a process's table from the key `node` on
 abbrev pub process_low : List (List ℕ) → Process → Members
 process_low nodes p =
     member (codes "node") (string (get_or nodes p.node []))
     (member (codes "parts") (number p.parts)
     (member (codes "release") (number p.release) (member (codes "wcet") (number p.wcet) no_members)))
 
--- the middle of a process's table
+-- a process's table from the key `frozen` on
 abbrev pub process_middle : List (List ℕ) → Process → Members
 process_middle nodes p =
     member (codes "frozen") (boolean p.frozen)
     (member (codes "join") (boolean p.join)
     (member (codes "mu") (number p.mu) (member (codes "name") (string p.name) (process_low nodes p))))
 
--- an own deadline, if there is one
+-- members after an own deadline, if there is one
 abbrev pub with_deadline : Option ℕ → Members → Members
 with_deadline None ms = ms
 with_deadline (Some d) ms = member (codes "deadline") (number d) ms
@@ -57,7 +58,7 @@ abbrev pub process_members : List (List ℕ) → Process → Members
 process_members nodes p = member (codes "alpha") (number p.alpha)
     (member (codes "chi") (number p.chi) (with_deadline p.deadline (process_middle nodes p)))
 
--- the value with which an edge is taken, if it isn't always
+-- the end of an edge's table: the value with which it is taken, if it has a `when`
 abbrev pub when_members : Option Bool → Members
 when_members None = no_members
 when_members (Some value) = member (codes "when") (boolean value) no_members
@@ -70,22 +71,22 @@ edge_members processes e =
     (member (codes "frozen") (boolean e.frozen)
     (member (codes "to") (string (get_or (map (λ p. p.name) processes) e.to [])) (when_members e.when))))
 
--- the processes and the slots
+-- the end of the document: the processes and the slots
 abbrev pub last_members : Graph → Members
 last_members g = member (codes "process") (tables (process_members g.nodes) g.processes)
     (member (codes "slot") (tables (slot_members g.nodes) g.slots) no_members)
 
--- the order to compile under, if there is one
+-- members after the given order, if there is one, as names of processes
 abbrev pub with_order : List Process → Option (List ℕ) → Members → Members
 with_order processes None ms = ms
 with_order processes (Some order) ms =
     member (codes "order") (array (items_of (map (λ p. string (get_or (map (λ q. q.name) processes) p [])) order))) ms
 
--- the end of the document, after its numbers and its edges
+-- the document after its numbers and edges: the nodes, the order, the processes and the slots
 abbrev pub list_members : Graph → Members
 list_members g = member (codes "node") (tables node_members g.nodes) (with_order g.processes g.order (last_members g))
 
--- the whole document
+-- the whole document of a graph
 abbrev pub graph_members : Graph → Members
 graph_members g = member (codes "deadline") (number g.deadline)
     (member (codes "edge") (tables (edge_members g.processes) g.edges)

@@ -12,7 +12,7 @@ use crate::shape::{RawEdge, RawProblem, RawProcess, RawSlot};
 use cpg_base::{Edge, Name, Problem, Process, Slot};
 use std::alloc::Global;
 
-/// A number, or 0 if it is negative.
+/// Returns the number, or 0 if it is negative.
 fn natural(number: i64) -> u64
     ensures { result ≡ natural number }
 {
@@ -20,7 +20,7 @@ fn natural(number: i64) -> u64
     if number < 0 { 0 } else { number as u64 }
 }
 
-/// A number of at most 16 bits, or 0 if it is negative.
+/// Returns the number, which is at most 65,535, or 0 if it is negative.
 fn small(number: i64) -> u32
     requires { natural number ≤ 65535 }
     ensures { result ≡ natural number }
@@ -28,12 +28,12 @@ fn small(number: i64) -> u32
     natural(number) as u32
 }
 
-/// The numbers of the names of an order.
+/// Returns the numbers of the names of an order. An error is the first unknown name, or that memory runs out.
 fn numbers_of(alloc: Global, order: &[Name], processes: &Names<'_>) -> Result<Vec<u32>, ReadFault>
     requires few { length processes.now ≤ 128 }
     ensures { Gives (λ v. v.items) result (each (ordered processes.now) 0 order.now) }
 {
-    // an unknown name of the order is shown by the key of the order
+    // an unknown name is shown at the key `order`, so each name has this place
     let place = Place::of_name(Table::Top, 0, Key::Order);
     let mut numbers = Vec::with_capacity(alloc, order.len())?;
     for name in order {
@@ -42,7 +42,7 @@ fn numbers_of(alloc: Global, order: &[Name], processes: &Names<'_>) -> Result<Ve
     Ok(numbers)
 }
 
-/// A number that may be absent, or 0 if it is negative.
+/// Returns the number, 0 if it is negative, or `None` if it is absent.
 fn optional_natural(number: Option<i64>) -> Option<u64>
     ensures { result ≡ option_map natural number }
 {
@@ -52,14 +52,14 @@ fn optional_natural(number: Option<i64>) -> Option<u64>
     }
 }
 
-/// A slot, with the number of its node.
+/// Returns the slot that the document's slot says, with the number of its node. An error is that no node has this name.
 #[tactic(auto, unfolding(crate::specs::Names::slot_of))]
 fn slot_of(raw: &RawSlot, index: u64, nodes: &Names<'_>) -> Result<Slot, ReadFault>
     requires few { length nodes.now ≤ 128 }
     requires bytes { natural raw.now.bytes ≤ 65535 }
     ensures { Gives (λ s. s) result (slot_of nodes.now index raw.now) }
 {
-    // where the name of the node stands, if it is unknown
+    // shown if the name is unknown
     let place = Place {
         table: Table::Slot,
         index,
@@ -73,14 +73,15 @@ fn slot_of(raw: &RawSlot, index: u64, nodes: &Names<'_>) -> Result<Slot, ReadFau
     })
 }
 
-/// A process, with the number of its node.
+/// Returns the process that the document's process says, with the number of its node. An error is that no node has this
+/// name, or that memory runs out.
 #[tactic(auto, unfolding(crate::specs::Names::process_of))]
 fn process_of(raw: &RawProcess, index: u64, nodes: &Names<'_>) -> Result<Process, ReadFault>
     requires few { length nodes.now ≤ 128 }
     requires parts { natural raw.now.parts ≤ 65535 }
     ensures { Gives (λ p. p) result (process_of nodes.now index raw.now) }
 {
-    // where the name of the node stands, if it is unknown
+    // shown if the name is unknown
     let place = Place {
         table: Table::Process,
         index,
@@ -102,14 +103,15 @@ fn process_of(raw: &RawProcess, index: u64, nodes: &Names<'_>) -> Result<Process
     })
 }
 
-/// An edge, with the numbers of its ends.
+/// Returns the edge that the document's edge says, with the numbers of its two processes. An error is the first of the
+/// two names that no process has.
 #[tactic(auto, unfolding(crate::specs::Names::edge_of))]
 fn edge_of(raw: &RawEdge, index: u64, processes: &Names<'_>) -> Result<Edge, ReadFault>
     requires few { length processes.now ≤ 128 }
     requires bytes { natural raw.now.bytes ≤ 65535 }
     ensures { Gives (λ e. e) result (edge_of processes.now index raw.now) }
 {
-    // where the names of the two ends stand, if they are unknown
+    // shown if the first name is unknown, and the one below if the second is
     let place = Place {
         table: Table::Edge,
         index,
@@ -131,7 +133,7 @@ fn edge_of(raw: &RawEdge, index: u64, processes: &Names<'_>) -> Result<Edge, Rea
     })
 }
 
-/// The slots of a document.
+/// Returns the slots that a document says. An error is the first unknown name, or that memory runs out.
 fn slots_of(alloc: Global, raw: &RawProblem, nodes: &Names<'_>) -> Result<Vec<Slot>, ReadFault>
     requires limits { limits (raw_view raw.now) ≡ Ok tt }
     requires nodes { nodes.now ≡ (raw_view raw.now).nodes }
@@ -144,7 +146,7 @@ fn slots_of(alloc: Global, raw: &RawProblem, nodes: &Names<'_>) -> Result<Vec<Sl
     Ok(slots)
 }
 
-/// The processes of a document.
+/// Returns the processes that a document says. An error is the first unknown name, or that memory runs out.
 fn processes_of(
     alloc: Global,
     raw: &RawProblem,
@@ -161,7 +163,7 @@ fn processes_of(
     Ok(processes)
 }
 
-/// The edges of a document.
+/// Returns the edges that a document says. An error is the first unknown name, or that memory runs out.
 fn edges_of(alloc: Global, raw: &RawProblem, processes: &Names<'_>) -> Result<Vec<Edge>, ReadFault>
     requires limits { limits (raw_view raw.now) ≡ Ok tt }
     requires processes { processes.now ≡ process_names (raw_view raw.now).processes }
@@ -174,7 +176,8 @@ fn edges_of(alloc: Global, raw: &RawProblem, processes: &Names<'_>) -> Result<Ve
     Ok(edges)
 }
 
-/// The numbers of the processes of the order, if there is one.
+/// Returns the order as numbers of processes, or `None` if the document has none. An error is the first unknown name,
+/// or that memory runs out.
 #[tactic(auto, unfolding(crate::specs::Names::order_of))]
 fn order_of(
     alloc: Global,
@@ -191,16 +194,18 @@ fn order_of(
     }
 }
 
-/// The parts of a document that hold numbers in place of names.
+/// The parts of a graph in which the document has names and the graph numbers.
 #[derive(Drop)]
 struct NumberedParts {
     slots: Vec<Slot>,
     processes: Vec<Process>,
     edges: Vec<Edge>,
+    /// The numbers of the processes in their order, or `None` if the document gives none.
     order: Option<Vec<u32>>,
 }
 
-/// The parts of a graph, by the names of its nodes and processes.
+/// Returns the parts of the graph, given the names of its nodes and processes. An error is the first name that names
+/// nothing, or that memory runs out.
 #[tactic(auto, unfolding(crate::specs::Names::resolved))]
 fn resolved(
     alloc: Global,
@@ -226,7 +231,7 @@ fn resolved(
     })
 }
 
-/// The names of the nodes, if they differ.
+/// Returns the names of the nodes. An error is the first that stands twice, or that memory runs out.
 fn node_names<'a>(alloc: Global, raw: &'a RawProblem) -> Result<Names<'a>, ReadFault>
     ensures apart { Gives (λ _. tt) result (apart Table.Node Key.Name (raw_view raw.now).nodes) }
     ensures names { IfOk result (λ names. names ≡ (raw_view raw.now).nodes) }
@@ -234,7 +239,7 @@ fn node_names<'a>(alloc: Global, raw: &'a RawProblem) -> Result<Names<'a>, ReadF
     Names::of(alloc, Table::Node, Key::Name, raw.nodes.as_slice())
 }
 
-/// Checks that no node has two slots.
+/// Refuses a document in which a node has two slots. The place is that of its second slot.
 fn slots_differ(alloc: Global, raw: &RawProblem) -> Result<(), ReadFault>
     ensures { Gives (λ _. tt) result (apart Table.Slot Key.Node (slot_names (raw_view raw.now).slots)) }
 {
@@ -242,7 +247,7 @@ fn slots_differ(alloc: Global, raw: &RawProblem) -> Result<(), ReadFault>
     Ok(())
 }
 
-/// The names of the processes, if they differ.
+/// Returns the names of the processes. An error is the first that stands twice, or that memory runs out.
 fn process_names<'a>(alloc: Global, raw: &'a RawProblem) -> Result<Names<'a>, ReadFault>
     ensures apart { Gives (λ _. tt) result (apart Table.Process Key.Name (process_names (raw_view raw.now).processes)) }
     ensures names { IfOk result (λ names. names ≡ process_names (raw_view raw.now).processes) }
@@ -250,7 +255,7 @@ fn process_names<'a>(alloc: Global, raw: &'a RawProblem) -> Result<Names<'a>, Re
     Names::of(alloc, Table::Process, Key::Name, raw.processes.as_slice())
 }
 
-/// Refuses an order in which a name stands twice.
+/// Refuses an order in which a name stands twice. A document without an order is fine.
 #[tactic(auto, unfolding(crate::specs::Names::order_apart))]
 fn order_differs(alloc: Global, raw: &RawProblem) -> Result<(), ReadFault>
     ensures { Gives (λ _. tt) result (order_apart (raw_view raw.now).order) }
@@ -261,7 +266,8 @@ fn order_differs(alloc: Global, raw: &RawProblem) -> Result<(), ReadFault>
     Ok(())
 }
 
-/// The parts of a document whose nodes have these names.
+/// Returns the parts of the graph, given the names of its nodes. An error is the first double name of a process or of
+/// the order, then the first unknown name, or that memory runs out.
 #[tactic(auto, unfolding(crate::specs::Names::named))]
 fn parts_on(alloc: Global, raw: &RawProblem, nodes: &Names<'_>) -> Result<NumberedParts, ReadFault>
     requires limits { limits (raw_view raw.now) ≡ Ok tt }
@@ -274,7 +280,8 @@ fn parts_on(alloc: Global, raw: &RawProblem, nodes: &Names<'_>) -> Result<Number
     resolved(alloc, raw, nodes, &names)
 }
 
-/// The parts of the graph of a document.
+/// Returns the parts of the graph that a document says. An error is the first double name, then the first unknown one,
+/// or that memory runs out.
 #[tactic(auto, unfolding(crate::specs::Names::graph_of, crate::specs::Names::named))]
 fn parts_of(alloc: Global, raw: &RawProblem) -> Result<NumberedParts, ReadFault>
     requires { limits (raw_view raw.now) ≡ Ok tt }
@@ -286,15 +293,17 @@ fn parts_of(alloc: Global, raw: &RawProblem) -> Result<NumberedParts, ReadFault>
     parts_on(alloc, raw, &nodes)
 }
 
-/// How many faults the graph may have.
+/// Returns the fault number.
 fn faults_of(raw: &RawProblem) -> u8
     requires { limits (raw_view raw.now) ≡ Ok tt }
     ensures { result ≡ natural raw.now.faults }
 {
+    // within the limits it is at most 8, so the cast keeps it
     natural(raw.faults) as u8
 }
 
-/// The graph of a document that is within the limits.
+/// Returns the graph that a document within the limits says. An error is the first double name, then the first unknown
+/// one, or that memory runs out.
 pub fn problem_of(alloc: Global, raw: RawProblem) -> Result<Problem, ReadFault>
     requires { limits (raw_view raw) ≡ Ok tt }
     ensures { Gives (λ p. p) result (graph_of (raw_view raw)) }

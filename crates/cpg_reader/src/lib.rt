@@ -1,4 +1,4 @@
-//! Graph files: reading and writing.
+//! Reading a graph file, and writing one.
 #![tactic(auto)]
 
 mod building;

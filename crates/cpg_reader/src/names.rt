@@ -10,7 +10,7 @@ use indexmap::IndexSet;
 use std::alloc::Global;
 use std::marker::Model;
 
-/// An element that has a name, or that stands for one.
+/// An element that has a name, which no other element of its list may have. A slot has that of its node.
 pub trait Named {
     ghost named: { Self → List ℕ };
 
@@ -46,6 +46,7 @@ impl Named for RawProcess {
 /// Names that differ, seen as their list. The number of a name is its place.
 #[derive(Drop)]
 pub struct Names<'a> {
+    /// The names, in the order of their numbers.
     names: IndexSet<&'a str>,
 }
 
@@ -58,7 +59,8 @@ impl<'a> Model for Names<'a> {
 }
 
 impl<'a> Names<'a> {
-    /// The names of elements, if no two are equal.
+    /// Returns the names of the elements. An error is the first name that an earlier element has, at its place, or that
+    /// memory runs out.
     #[tactic(auto, unfolding(crate::specs::Names::apart))]
     pub fn of<T: Named>(
         alloc: Global,
@@ -71,7 +73,7 @@ impl<'a> Names<'a> {
     {
         let mut names = IndexSet::new(alloc);
         for (index, element) in elements.iter().enumerate() {
-            // the name stands among the earlier ones
+            // an earlier element has the name
             if !names.insert(element.name())? {
                 return Err(ReadFault::DoubleName(Place::of_name(table, index as u64, key)));
             }
@@ -79,13 +81,14 @@ impl<'a> Names<'a> {
         Ok(Names { names })
     }
 
-    /// The number of a name that stands at a place.
+    /// Returns the number of a name. If it isn't among the names, the error shows the place at which it stands.
     #[tactic(auto, unfolding(crate::specs::Names::number_of))]
     pub fn number(&self, place: Place, name: &str) -> Result<u32, ReadFault>
         requires few { length self.now ≤ 128 }
         ensures number { Gives (λ n. n) result (number_of self.now place name.now) }
     {
         match self.names.get_index_of(name) {
+            // there are at most 128 names, so the cast keeps it
             Some(number) => Ok(number as u32),
             None => Err(ReadFault::UnknownName(place)),
         }

@@ -1,4 +1,4 @@
-//! Where a graph file breaks a rule, and which.
+//! Why a graph file is refused, and at which place.
 
 ghost use Rattle.std.specs.Prelude.{◌≡◌};
 ghost use Rattle.cpg_reader.specs.Rows.{text_of};
@@ -7,17 +7,22 @@ ghost use Rattle.cpg_reader.specs.declared.place.ReadFault.TheVariants.{OutOfMem
 
 use std::alloc::{AllocError, AllocFailed};
 
-/// A table of the document: the top, or the elements of one of its lists.
+/// A kind of table of the document: its top, or the elements of one of its lists.
 #[derive(Clone, Copy, Debug, PartialEq, Eq)]
 pub enum Table {
+    /// The top of the document.
     Top,
+    /// An element of the list `node`.
     Node,
+    /// An element of the list `slot`.
     Slot,
+    /// An element of the list `process`.
     Process,
+    /// An element of the list `edge`.
     Edge,
 }
 
-/// A key of a table, or `Unknown` for a key that the table doesn't have.
+/// A key of the format, or `Unknown` for a key that its table may not have.
 #[derive(Clone, Copy, Debug, PartialEq, Eq)]
 pub enum Key {
     Faults,
@@ -41,24 +46,29 @@ pub enum Key {
     From,
     To,
     When,
+    /// Any key that its table may not have.
     Unknown,
 }
 
-/// A key of an element of a list, which counts from 0, or a key of the top, with index 0.
+/// A place in the document: a key of its top, or of an element of one of its lists.
 #[derive(Clone, Copy, Debug, PartialEq, Eq)]
 pub struct Place {
+    /// The top, or the list.
     pub table: Table,
+    /// The index of the element in the list, from 0; for the top, 0.
     pub index: u64,
+    /// The key.
     pub key: Key,
 }
 
 impl Place {
-    /// The place of a name in a list: the key of the element that has it, or the key of the top at which the list stands.
+    /// Returns the place of a name in a list: a key of the element that has it or, for a name of the order, the key of
+    /// the top.
     pub fn of_name(table: Table, index: u64, key: Key) -> Place
         ensures { result ≡ name_place table index key }
     {
         let index = match table {
-            // a name of the order has the place of the order's key
+            // the order is one value at the top
             Table::Top => 0,
             _ => index,
         };
@@ -66,29 +76,36 @@ impl Place {
     }
 }
 
-/// What is beyond its limit: how many there are of something, or a number at a place. A condition is a process with a
-/// conditional edge.
+/// What is beyond its limit: how many there are of something, or a number at a place.
 #[derive(Clone, Copy, Debug, PartialEq, Eq)]
 pub enum What {
+    /// There are too many nodes.
     Nodes,
+    /// There are too many slots.
     Slots,
+    /// There are too many processes.
     Processes,
+    /// There are too many edges.
     Edges,
+    /// The number at this place is out of range.
     Number(Place),
+    /// There are too many conditions, which are the processes with a conditional edge.
     Conditions,
 }
 
-/// Why a graph file is refused. A place or a number is always the first one.
+/// Why a graph file is refused. Of several places it has the first.
 #[derive(Clone, Copy, Debug, PartialEq, Eq)]
 pub enum ReadFault {
     /// The bytes aren't UTF-8, or they are no TOML document.
     NotToml,
-    /// A required key is missing, a value has another type, a text isn't a name, or a key isn't of this table. The first
-    /// place counts by table, then by element, then by the key's place in the format, where an unknown key comes last.
+    /// A required key is missing, a value has another type, a text isn't a name, or a key isn't of this table. The
+    /// first place counts by table, then by element, then by the key's place in the format, where an unknown key comes
+    /// last.
     BadField(Place),
-    /// A name of a node or a process, or the node of a slot, stands earlier in its kind, or a name stands twice in the order.
+    /// Two nodes or two processes have one name, two slots have one node, or a name stands twice in the order. The
+    /// place is that of the later one.
     DoubleName(Place),
-    /// A name of a node or a process names nothing.
+    /// No node, or no process, has the name at this place.
     UnknownName(Place),
     /// There is more of something than its limit, or a number is outside its range.
     OverLimit(What),
@@ -121,7 +138,7 @@ impl From<cpg_base::OutOfMemory> for ReadFault {
 }
 
 impl Key {
-    /// The key as it is written, and nothing for `Unknown`.
+    /// Returns the key as it is written, or the empty text for `Unknown`.
     pub fn text(self) -> &'static str
         ensures { result.now ≡ text_of self }
     {

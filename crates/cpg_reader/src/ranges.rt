@@ -1,4 +1,4 @@
-//! Tests of how much there is of each, and of the range of each number.
+//! Tests of how many elements a document has, and of the range of each number.
 ghost use Rattle.std.specs.Prelude.{◌≡◌, List, IfOk, length, [], if◌then◌else◌, nat_le};
 ghost use Rattle.cpg_reader.specs.Reading.{Gives, done};
 ghost use Rattle.cpg_reader.specs.Shape.{raw_view};
@@ -10,43 +10,47 @@ use cpg_base::{LONGEST, MOST_CONDITIONS, MOST_EDGES, MOST_NODES, MOST_PROCESSES}
 use indexmap::IndexSet;
 use std::alloc::{AllocError, Global};
 
-/// How many faults there are at most in a cycle.
+/// The greatest fault number.
 const MOST_FAULTS: u64 = cpg_base::MOST_FAULTS as u64;
-/// How many parts an execution has at most.
+/// The most parts of an execution.
 const MOST_PARTS: u64 = cpg_base::MOST_PARTS as u64;
 /// The greatest size of a message or a slot, in bytes.
 const LARGEST: u64 = cpg_base::LARGEST as u64;
 
-/// The number of a key, and the least and the greatest that it may be.
+/// A number at a key, with its range.
 #[derive(Clone, Copy)]
 pub struct BoundedField {
+    /// The key.
     pub key: Key,
+    /// The number that the document has there, or its default.
     pub value: i64,
+    /// The least number that may stand there.
     pub low: u64,
+    /// The greatest number that may stand there.
     pub high: u64,
 }
 
-/// An element with numbers.
+/// An element of a list, with numbers that have ranges.
 pub trait Numbered {
     ghost use Rattle.cpg_reader.specs.declared.ranges.BoundedField.{BoundedField as BoundedNumber};
 
     ghost numbers: { Self → List BoundedNumber };
 
-    /// Checks that the numbers of the element are in range.
+    /// Refuses the element if one of its numbers is out of range. `table` and `index` say where the element stands.
     fn in_range(&self, table: Table, index: u64) -> Result<(), ReadFault>
         ensures { Gives (λ _. tt) result (in_range table index (numbers self.now)) };
 }
 
-/// Whether a number lies between the least and the greatest that it may be.
+/// Whether a number is from `low` to `high`.
 fn is_within(value: i64, low: u64, high: u64) -> bool
     ensures { result ≡ is_within low high value }
 {
-    // a negative number is never within, so the conversion that follows is exact
+    // the casts are of numbers that aren't negative, so they keep them
     value >= 0 && low <= value as u64 && value as u64 <= high
 }
 
 impl BoundedField {
-    /// The number of a key, with its least and greatest values.
+    /// Returns a number at a key, with its least and greatest values.
     fn new(key: Key, value: i64, low: u64, high: u64) -> BoundedField
         ensures { result ≡ record { key = key; value = value; low = low; high = high } }
     {
@@ -59,7 +63,7 @@ impl BoundedField {
     }
 }
 
-/// Checks that numbers are in range. The first one that isn't is named in the fault.
+/// Refuses numbers of which one is out of range. The error has the place of the first such number.
 fn in_range(table: Table, index: u64, numbers: &[BoundedField]) -> Result<(), ReadFault>
     ensures { Gives (λ _. tt) result (in_range table index numbers.now) }
 {
@@ -104,7 +108,7 @@ impl Numbered for RawProcess {
                 BoundedField::new(Key::Chi, self.chi, 0, LONGEST),
                 BoundedField::new(Key::Mu, self.mu, 0, LONGEST),
                 BoundedField::new(Key::Release, self.release, 0, LONGEST),
-                // an absent deadline is in range, as 0 is
+                // an absent deadline counts as 0, which is in range
                 BoundedField::new(Key::Deadline, self.deadline.unwrap_or(0), 0, LONGEST),
             ],
         )
@@ -123,7 +127,7 @@ impl Numbered for RawEdge {
     }
 }
 
-/// Checks that the numbers of all elements are in range.
+/// Refuses elements of which one has a number out of range. The error has the place of the first such number.
 fn all_in_range<T: Numbered>(table: Table, elements: &[T]) -> Result<(), ReadFault>
     ensures { Gives (λ _. tt) result (all_in_range table T.numbers 0 elements.now) }
 {
@@ -133,7 +137,7 @@ fn all_in_range<T: Numbered>(table: Table, elements: &[T]) -> Result<(), ReadFau
     Ok(())
 }
 
-/// Checks that the numbers at the top of the document are in range.
+/// Refuses a document if a number at its top is out of range.
 fn top_in_range(raw: &RawProblem) -> Result<(), ReadFault>
     ensures { Gives (λ _. tt) result (in_range Table.Top 0 (top_numbers (raw_view raw.now))) }
 {
@@ -147,7 +151,8 @@ fn top_in_range(raw: &RawProblem) -> Result<(), ReadFault>
     )
 }
 
-/// How many different sources the conditional edges have.
+/// Returns how many different sources the conditional edges have, which is how many conditions there are. The one error
+/// is that memory runs out.
 fn source_count(alloc: Global, edges: &[RawEdge]) -> Result<usize, AllocError>
     ensures { IfOk result (λ n. n ≡ length (different [] (sources edges.now))) }
 {
@@ -160,7 +165,7 @@ fn source_count(alloc: Global, edges: &[RawEdge]) -> Result<usize, AllocError>
     Ok(sources.len())
 }
 
-/// Refuses more than the limit.
+/// Refuses a count of something that is over its limit.
 fn at_most(limit: usize, what: What, count: usize) -> Result<(), ReadFault>
     ensures { Gives (λ _. tt) result (if nat_le count limit then done else Err (ReadFault.OverLimit what)) }
 {
@@ -171,7 +176,8 @@ fn at_most(limit: usize, what: What, count: usize) -> Result<(), ReadFault>
     }
 }
 
-/// Refuses a document in which something is beyond its limit.
+/// Refuses a document in which a count or a number is beyond its limit. The error has the first of them, or is that
+/// memory runs out.
 #[tactic(auto, unfolding(crate::specs::Ranges::limits))]
 pub fn limits(alloc: Global, raw: &RawProblem) -> Result<(), ReadFault>
     ensures { Gives (λ _. tt) result (limits (raw_view raw.now)) }

@@ -11,7 +11,8 @@ use crate::shape::raw_problem;
 use cpg_base::Problem;
 use std::alloc::Global;
 
-/// The graph that the table of a document says.
+/// Returns the graph that the table of a document says. An error is the first reason to refuse it, or that memory runs
+/// out.
 #[tactic(auto, unfolding(crate::specs::Document::read_members))]
 fn read_members(alloc: Global, members: &toml::Table) -> Result<Problem, ReadFault>
     ensures { Gives (λ p. p) result (read_members (table_view members.now)) }
@@ -21,18 +22,19 @@ fn read_members(alloc: Global, members: &toml::Table) -> Result<Problem, ReadFau
     problem_of(alloc, raw)
 }
 
-/// Reads the graph that the bytes of a graph file say. Sizes are in bytes, and times in the time units of the file.
+/// Reads the bytes of a graph file and returns the graph that they say. Sizes are in bytes, and times in the time units
+/// of the file.
 ///
-/// The refusals come in this order, each over the whole document before the next, and each shows its first place: the
-/// bytes aren't UTF-8 or no TOML document, a field is bad, a count or a number is beyond its limit, a name stands twice,
-/// a name names nothing. Out of memory may come before any of these.
+/// An error is the first that applies, each looked for in the whole document before the next, with its first place: the
+/// bytes aren't UTF-8 or spell no TOML document, a field is bad, a count or a number is beyond its limit, a name stands
+/// twice, a name names nothing. `OutOfMemory` may come instead of any of these.
 pub fn read_problem(alloc: Global, bytes: &[u8]) -> Result<Problem, ReadFault>
     ensures { result ≢ Err ReadFault.OutOfMemory → result ≡ problem_of bytes.now }
 {
     match toml::table_from_slice(alloc, bytes) {
         Ok(table) => read_members(alloc, &table),
         Err(error) => {
-            // the parser gave up: memory ran out, or the bytes are no document
+            // memory ran out, or the bytes spell no document
             if error.is_memory() {
                 Err(ReadFault::OutOfMemory)
             } else {

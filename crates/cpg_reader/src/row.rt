@@ -1,4 +1,4 @@
-//! A table of the document, and readers of its fields.
+//! A table of the document, and reading its fields.
 ghost use Rattle.std.specs.Prelude.{◌≡◌, map, option_map, bytes_eq, false, IfOk};
 ghost use Rattle.std.specs.List.{list_any};
 ghost use Rattle.toml.specs.Data.{as_integer, as_bool, as_table};
@@ -12,16 +12,19 @@ use std::alloc::{AllocError, Global};
 use toml::Value;
 use toml::value::Array;
 
-/// A table of the document, and where it stands.
+/// A table of the document: its top, or an element of one of its lists.
 #[derive(Clone, Copy)]
 pub struct DocumentRow<'a> {
+    /// The top, or the list.
     pub table: Table,
+    /// The index of the element in the list, from 0; for the top, 0.
     pub index: u64,
+    /// The keys with their values.
     pub members: &'a toml::Table,
 }
 
 impl<'a> DocumentRow<'a> {
-    /// The fault of a bad field at a key.
+    /// Returns the fault that says that the field at a key is bad.
     fn bad(&self, key: Key) -> ReadFault
         ensures { result ≡ ReadFault.BadField (place_in (row_view self.now) key) }
     {
@@ -32,19 +35,19 @@ impl<'a> DocumentRow<'a> {
         })
     }
 
-    /// The value at a key, if there is one.
+    /// Returns the value at a key, or `None` if the table hasn't the key.
     fn value(&self, key: Key) -> Option<&'a Value>
         ensures { option_map (λ v. view v.now) result ≡ value_at (row_view self.now) key }
     {
         self.members.get(key.text())
     }
 
-    /// An integer, if anything stands at the key.
+    /// Returns the integer at a key, or `None` if the table hasn't the key. A value of another type is refused.
     #[tactic(auto, unfolding(crate::specs::Rows::optional))]
     pub fn optional_integer(&self, key: Key) -> Result<Option<i64>, ReadFault>
         ensures { Gives (λ n. n) result (optional as_integer (row_view self.now) key) }
     {
-        // nothing stands there
+        // the key may be left out
         let Some(value) = self.value(key) else {
             return Ok(None);
         };
@@ -54,12 +57,12 @@ impl<'a> DocumentRow<'a> {
         }
     }
 
-    /// A boolean, if anything stands at the key.
+    /// Returns the boolean at a key, or `None` if the table hasn't the key. A value of another type is refused.
     #[tactic(auto, unfolding(crate::specs::Rows::optional))]
     pub fn optional_flag(&self, key: Key) -> Result<Option<bool>, ReadFault>
         ensures { Gives (λ b. b) result (optional as_bool (row_view self.now) key) }
     {
-        // nothing stands there
+        // the key may be left out
         let Some(value) = self.value(key) else {
             return Ok(None);
         };
@@ -69,7 +72,7 @@ impl<'a> DocumentRow<'a> {
         }
     }
 
-    /// A required integer.
+    /// Returns the integer at a key. A missing value, or one of another type, is refused.
     #[tactic(auto, unfolding(crate::specs::Rows::read_integer))]
     pub fn integer(&self, key: Key) -> Result<i64, ReadFault>
         ensures { Gives (λ n. n) result (read_integer (row_view self.now) key) }
@@ -80,7 +83,7 @@ impl<'a> DocumentRow<'a> {
         }
     }
 
-    /// An integer with a default.
+    /// Returns the integer at a key, or `value` if the table hasn't the key. A value of another type is refused.
     #[tactic(auto, unfolding(crate::specs::Rows::integer_or))]
     pub fn integer_or(&self, key: Key, value: i64) -> Result<i64, ReadFault>
         ensures { Gives (λ n. n) result (integer_or value (row_view self.now) key) }
@@ -89,7 +92,7 @@ impl<'a> DocumentRow<'a> {
         Ok(found.unwrap_or(value))
     }
 
-    /// A boolean that is false by default.
+    /// Returns the boolean at a key, or false if the table hasn't the key. A value of another type is refused.
     #[tactic(auto, unfolding(crate::specs::Rows::flag_or))]
     pub fn flag(&self, key: Key) -> Result<bool, ReadFault>
         ensures { Gives (λ b. b) result (flag_or false (row_view self.now) key) }
@@ -98,12 +101,13 @@ impl<'a> DocumentRow<'a> {
         Ok(found.unwrap_or(false))
     }
 
-    /// A required name.
+    /// Returns the name at a key. A missing value, or one that is no name, is refused; the other error is that memory
+    /// runs out.
     #[tactic(auto, unfolding(crate::specs::Rows::read_name, crate::specs::Rows::optional))]
     pub fn name(&self, alloc: Global, key: Key) -> Result<Name, ReadFault>
         ensures { Gives (λ n. n) result (read_name (row_view self.now) key) }
     {
-        // nothing stands there, but the name is required
+        // a name is required
         let Some(value) = self.value(key) else {
             return Err(self.bad(key));
         };
@@ -113,12 +117,13 @@ impl<'a> DocumentRow<'a> {
         }
     }
 
-    /// An array of tables, which is empty by default.
+    /// Returns the tables of the array at a key, or none if the table hasn't the key. A value that isn't an array of
+    /// tables is refused; the other error is that memory runs out.
     #[tactic(auto, unfolding(crate::specs::Rows::read_array, crate::specs::Rows::optional))]
     pub fn tables(&self, alloc: Global, key: Key) -> Result<Vec<&'a toml::Table>, ReadFault>
         ensures { Gives (λ v. map (λ t. table_view t.now) v.items) result (read_array (row_view self.now) key) }
     {
-        // nothing stands there, so the list is empty
+        // the key may be left out
         let Some(value) = self.value(key) else {
             return Ok(Vec::new(alloc));
         };
@@ -128,12 +133,13 @@ impl<'a> DocumentRow<'a> {
         }
     }
 
-    /// An array of names, if anything stands at the key.
+    /// Returns the names of the array at a key, or `None` if the table hasn't the key. A value that isn't an array of
+    /// names is refused; the other error is that memory runs out.
     #[tactic(auto, unfolding(crate::specs::Rows::optional))]
     pub fn optional_names(&self, alloc: Global, key: Key) -> Result<Option<Vec<Name>>, ReadFault>
         ensures { Gives (λ names. option_map (λ v. v.items) names) result (optional as_names (row_view self.now) key) }
     {
-        // nothing stands there
+        // the key may be left out
         let Some(value) = self.value(key) else {
             return Ok(None);
         };
@@ -143,7 +149,7 @@ impl<'a> DocumentRow<'a> {
         }
     }
 
-    /// Refuses a key that isn't one of these.
+    /// Refuses a table that has a key besides these.
     #[tactic(auto, unfolding(crate::specs::Rows::only))]
     pub fn only(&self, keys: &[Key]) -> Result<(), ReadFault>
         ensures { Gives (λ _. tt) result (only keys.now (row_view self.now)) }
@@ -174,7 +180,7 @@ fn are_listed(keys: &[Key], members: &toml::Table) -> bool
     true
 }
 
-/// A name, if the value is a text that is one.
+/// Returns a value as a name, or `None` if it isn't a text that is one. The one error is that memory runs out.
 fn as_name(alloc: Global, value: &Value) -> Result<Option<Name>, OutOfMemory>
     ensures { IfOk result (λ name. name ≡ as_name (view value.now)) }
 {
@@ -184,7 +190,7 @@ fn as_name(alloc: Global, value: &Value) -> Result<Option<Name>, OutOfMemory>
     }
 }
 
-/// The tables of an array, if the value is an array of tables.
+/// Returns the tables of a value, or `None` if it isn't an array of tables. The one error is that memory runs out.
 fn as_tables<'a>(
     alloc: Global,
     value: &'a Value,
@@ -197,7 +203,7 @@ fn as_tables<'a>(
     }
 }
 
-/// The elements of an array, or `None` if one isn't a table.
+/// Returns the tables of an array, or `None` if an element isn't a table. The one error is that memory runs out.
 fn tables_in<'a>(
     alloc: Global,
     array: &'a Array,
@@ -214,7 +220,7 @@ fn tables_in<'a>(
     Ok(Some(tables))
 }
 
-/// The names of an array, if the value is an array of names.
+/// Returns the names of a value, or `None` if it isn't an array of names. The one error is that memory runs out.
 fn as_names(alloc: Global, value: &Value) -> Result<Option<Vec<Name>>, OutOfMemory>
     ensures { IfOk result (λ names. option_map (λ v. v.items) names ≡ as_names (view value.now)) }
 {
@@ -224,7 +230,7 @@ fn as_names(alloc: Global, value: &Value) -> Result<Option<Vec<Name>>, OutOfMemo
     }
 }
 
-/// The elements of an array, or `None` if one isn't a name.
+/// Returns the names of an array, or `None` if an element isn't a name. The one error is that memory runs out.
 fn names_in(alloc: Global, array: &Array) -> Result<Option<Vec<Name>>, OutOfMemory>
     ensures { IfOk result (λ names. option_map (λ v. v.items) names ≡ items_as as_name (array_view array.now)) }
 {

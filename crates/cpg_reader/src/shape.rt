@@ -14,54 +14,77 @@ use std::alloc::Global;
 pub trait Element {
     ghost reads: { RowOfDocument → Reading Self };
 
-    /// Reads an element from its table.
+    /// Returns the element that a table says. A bad field is refused; the other error is that memory runs out.
     fn read(alloc: Global, row: &DocumentRow<'_>) -> Result<Self, ReadFault>
         ensures { Gives (λ x. x) result (reads (row_view row.now)) };
 }
 
-/// A slot as the document has it.
+/// A slot as the document has it. In it and the records below, numbers may be out of range, and names may name nothing.
 #[derive(Drop)]
 pub struct RawSlot {
+    /// The name of the node that sends in it.
     pub node: Name,
+    /// Its length in time units.
     pub length: i64,
+    /// How many bytes a frame in it holds.
     pub bytes: i64,
 }
 
-/// A process as the document has it.
+/// A process as the document has it, with the defaults of what it leaves out.
 #[derive(Drop)]
 pub struct RawProcess {
+    /// What it is called.
     pub name: Name,
+    /// The name of its node.
     pub node: Name,
+    /// The longest time of its work alone.
     pub wcet: i64,
+    /// Into how many parts an execution is cut; 1 by default.
     pub parts: i64,
+    /// The time to detect a fault, in each part; 0 by default.
     pub alpha: i64,
+    /// The time to save a checkpoint, in each part; 0 by default.
     pub chi: i64,
+    /// The time to recover from a fault; 0 by default.
     pub mu: i64,
+    /// Whether it is a join; by default it isn't.
     pub join: bool,
+    /// Whether it starts at one time in all scenarios in which it is active; by default it needn't.
     pub frozen: bool,
+    /// The time before which it doesn't start; 0 by default.
     pub release: i64,
+    /// The deadline of its own, or `None` if it has none.
     pub deadline: Option<i64>,
 }
 
-/// An edge as the document has it.
+/// An edge as the document has it, with the defaults of what it leaves out.
 #[derive(Drop)]
 pub struct RawEdge {
+    /// The name of the process that it leads away from.
     pub from: Name,
+    /// The name of the process that it leads to.
     pub to: Name,
+    /// The size of its message in bytes; 1 by default.
     pub bytes: i64,
+    /// The value of the source's condition for which it is live; `None` if the edge has no condition.
     pub when: Option<bool>,
+    /// Whether its message is sent at one time in all scenarios in which it is live.
     pub frozen: bool,
 }
 
-/// All that a document says.
+/// All that a document says, by its keys and types.
 #[derive(Drop)]
 pub struct RawProblem {
+    /// The most faults in one cycle.
     pub faults: i64,
+    /// By when every execution has to have ended.
     pub deadline: i64,
+    /// The names of the nodes.
     pub nodes: Vec<Name>,
     pub slots: Vec<RawSlot>,
     pub processes: Vec<RawProcess>,
     pub edges: Vec<RawEdge>,
+    /// The names of the processes in the order that the document gives, or `None` if it gives none.
     pub order: Option<Vec<Name>>,
 }
 
@@ -93,7 +116,7 @@ impl Element for RawSlot {
     }
 }
 
-/// The fields of a process besides its names, as the document has them.
+/// The fields of a `RawProcess` besides its two names.
 #[derive(Clone, Copy)]
 struct RawWork {
     wcet: i64,
@@ -107,13 +130,13 @@ struct RawWork {
     deadline: Option<i64>,
 }
 
-/// The fields of a process besides its names, if its table has no other key.
+/// Returns the fields of a process besides its two names. A bad field or an unknown key is refused.
 #[tactic(auto, unfolding(crate::specs::Shape::read_work))]
 fn read_work(row: &DocumentRow<'_>) -> Result<RawWork, ReadFault>
     ensures { Gives (λ x. x) result (read_work (row_view row.now)) }
 {
     let wcet = row.integer(Key::Wcet)?;
-    // these have defaults: one part, and no cost beyond the execution
+    // what may be left out: by default there is one part, and nothing beside the wcet takes time
     let parts = row.integer_or(Key::Parts, 1)?;
     let alpha = row.integer_or(Key::Alpha, 0)?;
     let chi = row.integer_or(Key::Chi, 0)?;
@@ -122,7 +145,7 @@ fn read_work(row: &DocumentRow<'_>) -> Result<RawWork, ReadFault>
     let frozen = row.flag(Key::Frozen)?;
     let release = row.integer_or(Key::Release, 0)?;
     let deadline = row.optional_integer(Key::Deadline)?;
-    // a key besides these is refused
+    // the names have been read, and are keys of the table too
     row.only(&[
         Key::Name,
         Key::Node,
@@ -173,7 +196,7 @@ impl Element for RawProcess {
     }
 }
 
-/// The fields of an edge besides its ends, as the document has them.
+/// The fields of a `RawEdge` besides its two names.
 #[derive(Clone, Copy)]
 struct RawLink {
     bytes: i64,
@@ -181,11 +204,12 @@ struct RawLink {
     frozen: bool,
 }
 
-/// The fields of an edge besides its ends, if its table has no other key.
+/// Returns the fields of an edge besides its two names. A bad field or an unknown key is refused.
 #[tactic(auto, unfolding(crate::specs::Shape::read_link))]
 fn read_link(row: &DocumentRow<'_>) -> Result<RawLink, ReadFault>
     ensures { Gives (λ x. x) result (read_link (row_view row.now)) }
 {
+    // by default a message has one byte
     let bytes = row.integer_or(Key::Bytes, 1)?;
     let when = row.optional_flag(Key::When)?;
     let frozen = row.flag(Key::Frozen)?;
@@ -215,7 +239,8 @@ impl Element for RawEdge {
     }
 }
 
-/// The elements of a list.
+/// Returns the elements that the tables of a list say, in order. An error is the first bad field, or that memory runs
+/// out.
 fn rows<T: Element + Drop>(
     alloc: Global,
     table: Table,
@@ -235,7 +260,7 @@ fn rows<T: Element + Drop>(
     Ok(rows)
 }
 
-/// The keys of the top: the numbers, the tables of each list, and the names of the order.
+/// What the keys of the top have: the numbers, the tables of each list, and the names of the order, if it is there.
 #[derive(Drop)]
 struct Tops<'a> {
     faults: i64,
@@ -247,7 +272,8 @@ struct Tops<'a> {
     order: Option<Vec<Name>>,
 }
 
-/// The tables of each list of the top and the names of the order, if it has no other key.
+/// Returns what the keys of the top have, whose two numbers have been read. A bad field or an unknown key is refused;
+/// the other error is that memory runs out.
 #[tactic(auto, unfolding(crate::specs::Shape::read_lists))]
 fn read_lists<'a>(
     alloc: Global,
@@ -282,7 +308,8 @@ fn read_lists<'a>(
     })
 }
 
-/// What stands at the keys of the top.
+/// Returns what the keys of the top have. A bad field or an unknown key is refused; the other error is that memory runs
+/// out.
 #[tactic(auto, unfolding(crate::specs::Shape::read_tops))]
 fn read_top<'a>(alloc: Global, top: &DocumentRow<'a>) -> Result<Tops<'a>, ReadFault>
     ensures { Gives tops_view result (read_tops (row_view top.now)) }
@@ -292,7 +319,8 @@ fn read_top<'a>(alloc: Global, top: &DocumentRow<'a>) -> Result<Tops<'a>, ReadFa
     read_lists(alloc, top, faults, deadline)
 }
 
-/// The elements of each list, one list after the other.
+/// Returns all that a document says, with the elements of each list read from their tables, one list after the other.
+/// An error is the first bad field, or that memory runs out.
 #[tactic(auto, unfolding(crate::specs::Shape::read_elements))]
 fn read_elements(alloc: Global, tops: Tops<'_>) -> Result<RawProblem, ReadFault>
     ensures { Gives raw_view result (read_elements (tops_view tops.entry)) }
@@ -312,7 +340,8 @@ fn read_elements(alloc: Global, tops: Tops<'_>) -> Result<RawProblem, ReadFault>
     })
 }
 
-/// All that a document says.
+/// Returns all that a document says. An error is the first bad field, the top's before the elements', or that memory
+/// runs out.
 pub fn raw_problem(alloc: Global, members: &toml::Table) -> Result<RawProblem, ReadFault>
     ensures { Gives raw_view result (read_raw (table_view members.now)) }
 {

@@ -13,7 +13,7 @@ use std::alloc::Global;
 use toml::value::Array;
 use toml::{Table, Value};
 
-/// The tables of the nodes.
+/// Returns a table for each node. The one error here and below is that memory runs out.
 fn node_tables(alloc: Global, problem: &Problem) -> Result<Array, OutOfMemory>
     ensures tables { IfOk result (λ a. map view a.items ≡ map (λ n. table (node_members n)) problem.now.nodes) }
     ensures named { IfOk result (λ _. All IsName problem.now.nodes) }
@@ -25,7 +25,7 @@ fn node_tables(alloc: Global, problem: &Problem) -> Result<Array, OutOfMemory>
     Ok(made)
 }
 
-/// The tables of the slots.
+/// Returns a table for each slot.
 fn slot_tables(alloc: Global, problem: &Problem) -> Result<Array, OutOfMemory>
     ensures { IfOk result (λ a. map view a.items ≡ map (λ s. table (slot_members problem.now.nodes s)) problem.now.slots) }
 {
@@ -36,7 +36,7 @@ fn slot_tables(alloc: Global, problem: &Problem) -> Result<Array, OutOfMemory>
     Ok(made)
 }
 
-/// The tables of the processes.
+/// Returns a table for each process.
 fn process_tables(alloc: Global, problem: &Problem) -> Result<Array, OutOfMemory>
     ensures tables { IfOk result (λ a. map view a.items ≡ map (λ p. table (process_members problem.now.nodes p)) problem.now.processes) }
     ensures named { IfOk result (λ _. All (λ p. IsName p.name) problem.now.processes) }
@@ -48,7 +48,7 @@ fn process_tables(alloc: Global, problem: &Problem) -> Result<Array, OutOfMemory
     Ok(made)
 }
 
-/// The tables of the edges.
+/// Returns a table for each edge.
 fn edge_tables(alloc: Global, problem: &Problem) -> Result<Array, OutOfMemory>
     ensures { IfOk result (λ a. map view a.items ≡ map (λ e. table (edge_members problem.now.processes e)) problem.now.edges) }
 {
@@ -59,7 +59,7 @@ fn edge_tables(alloc: Global, problem: &Problem) -> Result<Array, OutOfMemory>
     Ok(made)
 }
 
-/// The processes and the slots.
+/// Returns the end of the document: the processes and the slots.
 fn last_lists(alloc: Global, problem: &Problem) -> Result<Table, OutOfMemory>
     ensures table { IfOk result (λ t. table_view t ≡ last_members problem.now) }
     ensures processes { IfOk result (λ _. All (λ p. IsName p.name) problem.now.processes) }
@@ -70,7 +70,7 @@ fn last_lists(alloc: Global, problem: &Problem) -> Result<Table, OutOfMemory>
     with_array(alloc, table, "process", processes)
 }
 
-/// The names of the processes of an order.
+/// Returns the names of the processes of an order.
 fn order_names(alloc: Global, order: &[u32], processes: &[Process]) -> Result<Array, OutOfMemory>
     requires { All (λ p. p < length processes.now) order.now }
     ensures { IfOk result (λ a. map view a.items ≡ map (λ p. string (get_or (map (λ q. q.name) processes.now) p [])) order.now) }
@@ -83,7 +83,7 @@ fn order_names(alloc: Global, order: &[u32], processes: &[Process]) -> Result<Ar
     Ok(names)
 }
 
-/// The order to compile under, if there is one, and then the processes and the slots.
+/// Returns the document from the given order on, if there is one: the order, the processes and the slots.
 fn order_and_last(alloc: Global, problem: &Problem) -> Result<Table, OutOfMemory>
     ensures table { IfOk result (λ t. table_view t ≡ with_order problem.now.processes problem.now.order (last_members problem.now)) }
     ensures processes { IfOk result (λ _. All (λ p. IsName p.name) problem.now.processes) }
@@ -98,7 +98,7 @@ fn order_and_last(alloc: Global, problem: &Problem) -> Result<Table, OutOfMemory
     }
 }
 
-/// The end of the document: nodes, the order, processes and slots.
+/// Returns the document from the nodes on: nodes, the order, processes and slots.
 fn lists(alloc: Global, problem: &Problem) -> Result<Table, OutOfMemory>
     ensures table { IfOk result (λ t. table_view t ≡ list_members problem.now) }
     ensures nodes { IfOk result (λ _. All IsName problem.now.nodes) }
@@ -109,7 +109,7 @@ fn lists(alloc: Global, problem: &Problem) -> Result<Table, OutOfMemory>
     with_array(alloc, table, "node", nodes)
 }
 
-/// The whole document of a graph.
+/// Returns the whole document of a graph.
 fn document(alloc: Global, problem: &Problem) -> Result<Table, OutOfMemory>
     ensures table { IfOk result (λ t. table_view t ≡ graph_members problem.now) }
     ensures nodes { IfOk result (λ _. All IsName problem.now.nodes) }
@@ -122,7 +122,8 @@ fn document(alloc: Global, problem: &Problem) -> Result<Table, OutOfMemory>
     with_number(alloc, table, "deadline", problem.deadline())
 }
 
-/// A text of a graph file that is read as the graph: its numbers and names, with each key that has a value.
+/// Returns the text of a graph file that says the graph, with each key that has a value. The one error is that memory
+/// runs out.
 pub fn graph_text(alloc: Global, problem: &Problem) -> Result<String, OutOfMemory>
     ensures { IfOk result (λ text. problem_of (string_bytes text) ≡ Ok problem.now) }
 {
@@ -131,6 +132,7 @@ pub fn graph_text(alloc: Global, problem: &Problem) -> Result<String, OutOfMemor
     let table = document(alloc, problem)?;
     match toml::table_to_string(alloc, &table) {
         Ok(text) => Ok(text),
+        // writing fails only if memory runs out
         Err(_) => Err(OutOfMemory),
     }
 }

@@ -1,4 +1,5 @@
-//! Tables of nodes, slots, processes and edges.
+//! The tables that are written for nodes, slots, processes and edges. Keys are added from the last to the first, so
+//! that each comes before all others.
 ghost use Rattle.std.specs.Prelude.{◌≡◌, ◌<◌, length, IfOk, All};
 ghost use Rattle.toml.specs.View.{table_view};
 ghost use Rattle.cpg_base.specs.Name.{IsName};
@@ -10,7 +11,7 @@ use cpg_base::{Edge, Name, OutOfMemory, Process, Slot};
 use std::alloc::Global;
 use toml::Table;
 
-/// The table of a node.
+/// Returns the table of a node. The one error here and below is that memory runs out.
 pub fn node_table(alloc: Global, name: &Name) -> Result<Table, OutOfMemory>
     ensures table { IfOk result (λ t. table_view t ≡ node_members name.now) }
     ensures named { IfOk result (λ _. IsName name.now) }
@@ -18,7 +19,7 @@ pub fn node_table(alloc: Global, name: &Name) -> Result<Table, OutOfMemory>
     with_name(alloc, Table::new(alloc), "name", name)
 }
 
-/// The table of a slot.
+/// Returns the table of a slot.
 pub fn slot_table(alloc: Global, slot: &Slot, nodes: &[Name]) -> Result<Table, OutOfMemory>
     requires { IsSlotWithin (length nodes.now) slot.now }
     ensures { IfOk result (λ t. table_view t ≡ slot_members nodes.now slot.now) }
@@ -28,7 +29,7 @@ pub fn slot_table(alloc: Global, slot: &Slot, nodes: &[Name]) -> Result<Table, O
     with_number(alloc, table, "bytes", u64::from(slot.bytes))
 }
 
-/// The end of a process's table.
+/// Returns a process's table from the key `node` on.
 fn process_low(alloc: Global, process: &Process, nodes: &[Name]) -> Result<Table, OutOfMemory>
     requires { IsProcessWithin (length nodes.now) process.now }
     ensures { IfOk result (λ t. table_view t ≡ process_low nodes.now process.now) }
@@ -39,7 +40,7 @@ fn process_low(alloc: Global, process: &Process, nodes: &[Name]) -> Result<Table
     with_name(alloc, table, "node", &nodes[process.node as usize])
 }
 
-/// The table of a process from `frozen` on, without its own deadline.
+/// Returns a process's table from the key `frozen` on.
 fn process_middle(alloc: Global, process: &Process, nodes: &[Name]) -> Result<Table, OutOfMemory>
     requires { IsProcessWithin (length nodes.now) process.now }
     ensures table { IfOk result (λ t. table_view t ≡ process_middle nodes.now process.now) }
@@ -52,7 +53,7 @@ fn process_middle(alloc: Global, process: &Process, nodes: &[Name]) -> Result<Ta
     with_flag(alloc, table, "frozen", process.frozen)
 }
 
-/// The table of a process from its own deadline on, if it has one.
+/// Returns a process's table from the key `deadline` on, which it has if the process has its own deadline.
 fn process_due(alloc: Global, process: &Process, nodes: &[Name]) -> Result<Table, OutOfMemory>
     requires { IsProcessWithin (length nodes.now) process.now }
     ensures table { IfOk result (λ t. table_view t ≡ with_deadline process.now.deadline (process_middle nodes.now process.now)) }
@@ -65,7 +66,7 @@ fn process_due(alloc: Global, process: &Process, nodes: &[Name]) -> Result<Table
     }
 }
 
-/// The table of a process.
+/// Returns the table of a process.
 pub fn process_table(alloc: Global, process: &Process, nodes: &[Name]) -> Result<Table, OutOfMemory>
     requires { IsProcessWithin (length nodes.now) process.now }
     ensures table { IfOk result (λ t. table_view t ≡ process_members nodes.now process.now) }
@@ -76,7 +77,7 @@ pub fn process_table(alloc: Global, process: &Process, nodes: &[Name]) -> Result
     with_number(alloc, table, "alpha", process.alpha)
 }
 
-/// The value with which an edge is taken, if it isn't always.
+/// Returns a table with the value with which an edge is taken, or an empty one if the edge has no `when`.
 fn when_table(alloc: Global, when: Option<bool>) -> Result<Table, OutOfMemory>
     ensures { IfOk result (λ t. table_view t ≡ when_members when) }
 {
@@ -86,7 +87,7 @@ fn when_table(alloc: Global, when: Option<bool>) -> Result<Table, OutOfMemory>
     }
 }
 
-/// The table of an edge.
+/// Returns the table of an edge.
 pub fn edge_table(alloc: Global, edge: &Edge, processes: &[Process]) -> Result<Table, OutOfMemory>
     requires { IsEdgeWithin (length processes.now) edge.now }
     ensures { IfOk result (λ t. table_view t ≡ edge_members processes.now edge.now) }

@@ -1,4 +1,4 @@
-//! Tables of a document that is written, key by key.
+//! Building the tables of a document that is written, key by key.
 ghost use Rattle.std.specs.Prelude.{◌≡◌, ◌≤◌, ◌++◌, ◌∷◌, [], map, IfOk, OnOk};
 ghost use Rattle.toml.specs.Data.{string, boolean, array, table};
 ghost use Rattle.toml.specs.View.{view, table_view, items_view};
@@ -10,7 +10,8 @@ use std::alloc::Global;
 use toml::value::Array;
 use toml::{Table, Value};
 
-/// A table with a value at a key.
+/// Returns the table with this value at a key, in place of any other. The one error here and below is that memory runs
+/// out.
 pub fn with(alloc: Global, table: Table, key: &str, value: Value) -> Result<Table, OutOfMemory>
     ensures { IfOk result (λ t. table_view t ≡ with_member key.now (view value) (table_view table)) }
 {
@@ -20,22 +21,23 @@ pub fn with(alloc: Global, table: Table, key: &str, value: Value) -> Result<Tabl
     Ok(table)
 }
 
-/// A table with a number at a key.
+/// Returns the table with a number at a key.
 pub fn with_number(alloc: Global, table: Table, key: &str, value: u64) -> Result<Table, OutOfMemory>
     requires { value ≤ LONGEST }
     ensures { IfOk result (λ t. table_view t ≡ with_member key.now (number value) (table_view table)) }
 {
+    // at most `LONGEST`, so the cast keeps it
     with(alloc, table, key, Value::from(value as i64))
 }
 
-/// A table with a flag at a key.
+/// Returns the table with a flag at a key.
 pub fn with_flag(alloc: Global, table: Table, key: &str, value: bool) -> Result<Table, OutOfMemory>
     ensures { IfOk result (λ t. table_view t ≡ with_member key.now (boolean value) (table_view table)) }
 {
     with(alloc, table, key, Value::from(value))
 }
 
-/// A table with a name at a key.
+/// Returns the table with a name at a key.
 pub fn with_name(alloc: Global, table: Table, key: &str, name: &Name) -> Result<Table, OutOfMemory>
     ensures table { IfOk result (λ t. table_view t ≡ with_member key.now (string name.now) (table_view table)) }
     ensures named { IfOk result (λ _. IsName name.now) }
@@ -44,7 +46,7 @@ pub fn with_name(alloc: Global, table: Table, key: &str, name: &Name) -> Result<
     with(alloc, table, key, value)
 }
 
-/// A table with an array at a key.
+/// Returns the table with an array at a key.
 pub fn with_array(
     alloc: Global,
     table: Table,
@@ -56,7 +58,7 @@ pub fn with_array(
     with(alloc, table, key, Value::Array(elements))
 }
 
-/// Adds a table to an array.
+/// Adds a table at the end of an array.
 pub fn push(elements: &mut Array, element: Table) -> Result<(), OutOfMemory>
     ensures { OnOk result (map view elements.new.items ≡ map view elements.old.items ++ table (table_view element) ∷ []) }
 {

@@ -1,4 +1,4 @@
--- The halt of a run, given the refusal of a layer.
+-- Why a run halts, by the fault that a layer answers with. Each fault but out of memory becomes a refusal.
 use Rattle.cpg_base.specs.Graph.{Graph}
 use Rattle.cpg_words.specs.declared.fault.WordsFault.{WordsFault}
 use Rattle.cpg_reader.specs.declared.place.ReadFault.{ReadFault}
@@ -12,12 +12,12 @@ use Rattle.cpg_refusal.specs.declared.halt.Refusal.TheVariants.{BadPack, BadScen
 use Rattle.cpg_refusal.specs.declared.halt.Halt.{Halt}
 use Rattle.cpg_refusal.specs.declared.halt.Halt.TheVariants.{Words, Refused, Memory}
 
--- when the words are read
+-- why a run halts whose command can't be read
 abbrev pub halt_of_words : WordsFault → Halt
 halt_of_words WordsFault.Bad = Words
 halt_of_words WordsFault.OutOfMemory = Memory
 
--- when a graph file is read
+-- why a run halts whose graph file can't be read
 abbrev pub halt_of_reading : ReadFault → Halt
 halt_of_reading ReadFault.NotToml = Refused NotToml
 halt_of_reading (ReadFault.BadField place) = Refused (BadField place)
@@ -26,17 +26,17 @@ halt_of_reading (ReadFault.UnknownName place) = Refused (UnknownName place)
 halt_of_reading (ReadFault.OverLimit what) = Refused (OverLimit what)
 halt_of_reading ReadFault.OutOfMemory = Memory
 
--- when a pack is read
+-- why a run halts whose pack can't be read
 abbrev pub halt_of_pack : PackFault → Halt
 halt_of_pack (PackFault.BadPack length) = Refused (BadPack length)
 halt_of_pack PackFault.OutOfMemory = Memory
 
--- when a scenario file is read
+-- why a run halts whose scenario file can't be read
 abbrev pub halt_of_scenario : ScenarioFault → Halt
 halt_of_scenario (ScenarioFault.Bad cause) = Refused (BadScenario cause)
 halt_of_scenario ScenarioFault.OutOfMemory = Memory
 
--- when a graph is admitted
+-- why a run halts whose graph isn't admitted
 abbrev pub halt_of_rules : Graph → RuleFault → Halt
 halt_of_rules g (RuleFault.Cycle walk) = Refused (Cycle g walk)
 halt_of_rules g RuleFault.TooManyTracks = Refused TooManyTracks
@@ -46,7 +46,7 @@ halt_of_rules g (RuleFault.TooBig e) = Refused (TooBig e)
 halt_of_rules g (RuleFault.BadOrder p) = Refused (BadOrder g p)
 halt_of_rules g RuleFault.OutOfMemory = Memory
 
--- when parts have no common graph
+-- why a run halts whose parts have no graph of several periods together: the refusal keeps the fault
 abbrev pub halt_of_parts : HyperFault → Halt
 halt_of_parts (HyperFault.Range p) = Refused (NoHypergraph (HyperFault.Range p))
 halt_of_parts (HyperFault.Differ p) = Refused (NoHypergraph (HyperFault.Differ p))

@@ -31,7 +31,7 @@ use Rattle.cpg_refusal.specs.declared.halt.Refusal.TheVariants.{UnknownNode, NoH
 use Rattle.cpg_refusal.specs.declared.halt.Halt.{Halt}
 use Rattle.cpg_refusal.specs.declared.halt.Halt.TheVariants.{Words, Read, Refused, Late, TooWide, Unsafe, Memory}
 
--- the status that a run ends with when it halts for this reason
+-- the exit status of a run that halts; 0 is success, and 3 a fault of a sink
 abbrev pub status_of : Halt → ℕ
 status_of Words = 1
 status_of Read = 2
@@ -41,12 +41,12 @@ status_of (TooWide a x) = 6
 status_of (Unsafe a f) = 7
 status_of Memory = 8
 
--- a key as it is written in the file, or `unknown`
+-- a key as it is written in the file, or `unknown` if it isn't one of the format
 abbrev pub key_text : Key → List ℕ
 key_text Unknown = codes "unknown"
 key_text key = text_of key
 
--- a table that is a list, with the index of one of its elements; the top table has no index
+-- a table of the file by its kind and its number; there is one top table, so it needs no number
 abbrev pub table_text : Table → ℕ → List ℕ
 table_text Top index = codes "top"
 table_text Node index = codes "node " ++ decimal index
@@ -58,7 +58,7 @@ table_text Edge index = codes "edge " ++ decimal index
 abbrev pub place_text : Place → List ℕ
 place_text place = table_text place.table place.index ++ codes " " ++ key_text place.key
 
--- what is over a limit, in a word or as a place
+-- what is over a limit: the number of such tables or of conditions, or the number at a place
 abbrev pub what_text : What → List ℕ
 what_text Nodes = codes "nodes"
 what_text Slots = codes "slots"
@@ -67,15 +67,15 @@ what_text Edges = codes "edges"
 what_text (Number place) = place_text place
 what_text Conditions = codes "conditions"
 
--- a process and a scenario
+-- a process, and a scenario in which something is true of it
 abbrev pub case_text : Graph → ℕ → Scenario → List ℕ
 case_text g p s = name_of g p ++ codes " in " ++ scenario_text g s
 
--- the processes around a cycle
+-- edges that lead around in a cycle, by the processes on it
 abbrev pub cycle_text : Graph → List ℕ → List ℕ
 cycle_text g walk = codes "6 cycle" ++ flat_map (λ p. codes " " ++ name_of g p) walk
 
--- a join with two live inputs
+-- a join, and a scenario in which it has two live inputs
 abbrev pub alternatives_text : Graph → ℕ → Scenario → List ℕ
 alternatives_text g p s = codes "7 alternatives " ++ case_text g p s
 
@@ -88,14 +88,15 @@ cause_text Cause.Condition = codes "condition"
 cause_text Cause.Budget = codes "budget"
 cause_text Cause.Length = codes "length"
 
--- a part of a head
+-- the part of a pack's head that differs from the graph's
 abbrev pub part_text : HeadPart → List ℕ
 part_text Faults = codes "faults"
 part_text HeadPart.Nodes = codes "nodes"
 part_text HeadPart.Processes = codes "processes"
 part_text HeadPart.Edges = codes "edges"
 
--- why parts have no graph together, and the number of the part
+-- why the parts of a graph of several periods have no graph together; p is the number of the part, if the cause is one. No
+-- refusal has the fault out of memory, which is a halt of its own.
 abbrev pub parts_text : HyperFault → List ℕ
 parts_text (HyperFault.Range p) = codes "range " ++ decimal p
 parts_text (HyperFault.Differ p) = codes "differ " ++ decimal p
@@ -106,7 +107,8 @@ parts_text (HyperFault.LongName p) = codes "name " ++ decimal p
 parts_text (HyperFault.Order p) = codes "order " ++ decimal p
 parts_text HyperFault.OutOfMemory = codes "memory"
 
--- a refusal: its number, its kind, and where it is
+-- A refusal: its number among all refusals, its kind, and where it is. `21 stream` and `16 long stream` aren't here, since a
+-- stream is refused while it is followed.
 abbrev pub refusal_text : Refusal → List ℕ
 refusal_text NotToml = codes "1 not toml"
 refusal_text (BadField place) = codes "2 field " ++ place_text place
@@ -130,11 +132,11 @@ refusal_text (NoHypergraph fault) = codes "22 hyper " ++ parts_text fault
 refusal_text (BadLog line) = codes "23 log " ++ decimal line
 refusal_text (BadOrder g p) = codes "24 order " ++ name_of g p
 
--- the text of a refusal
+-- a refusal, with the word that says that it is one
 abbrev pub refused_text : Refusal → List ℕ
 refused_text refusal = codes "refused " ++ refusal_text refusal
 
--- an end past its due
+-- that the process p ends past its due in the scenario s, at this time
 abbrev pub late_text : Graph → Scenario → ℕ → ℕ → List ℕ
 late_text g s p time = codes "late " ++ decimal time ++ codes " by " ++ case_text g p s
 
@@ -142,18 +144,18 @@ late_text g s p time = codes "late " ++ decimal time ++ codes " by " ++ case_tex
 abbrev pub item_text : Graph → ℕ → List ℕ
 item_text g x = done_text (labels_of g) (item_at g x)
 
--- the number of a column, or a dash if there is none
+-- the number of a column, or a dash if the violation is that an item has none
 abbrev pub column_text : Option ℕ → List ℕ
 column_text None = codes "-"
 column_text (Some column) = decimal column
 
--- a violation of a rule: the rule, the item and its column, and the scenario
+-- a violation of a rule by its number: the item and its column, and the scenario
 abbrev pub unsafe_text : Graph → Fault → List ℕ
 unsafe_text g f =
     codes "unsafe V" ++ decimal f.rule ++ codes " " ++ item_text g f.item ++ codes " column " ++ column_text f.column
     ++ codes " in " ++ scenario_text g f.scenario
 
--- the text of a reason to halt
+-- why a run halts, in words
 abbrev pub reason_text : Halt → List ℕ
 reason_text Words = codes "words"
 reason_text Read = codes "read fault"
@@ -163,21 +165,23 @@ reason_text (TooWide a x) = codes "too wide " ++ item_text a.graph x
 reason_text (Unsafe a f) = unsafe_text a.graph f
 reason_text Memory = codes "memory"
 
--- the line on `err`
+-- the line that a run which halts writes to `err`
 abbrev pub line_of : Halt → List ℕ
 line_of halt = codes "cpgc: " ++ reason_text halt ++ codes "\n"
 
--- the line on `err` when `out` met a fault
+-- the line that a run writes to `err` if `out` met a fault
 abbrev pub write_fault_line : List ℕ
 write_fault_line = codes "cpgc: write fault\n"
 
--- What a line names exists: a scenario has the graph's lengths, and an item is one of the graph's.
+-- What a line names exists, so that it can be written.
 
+-- the scenario that a refusal names has a value for each condition and a fault count for each process of the graph
 abbrev pub IsNamedRefusal : Refusal → Type 0
 IsNamedRefusal (TwoAlternatives g p s) = HasRoom g s
 IsNamedRefusal refusal = ⊤
 
--- an item that a halt names is one of the graph, and a scenario that it names has as many values as the graph
+-- a scenario that a halt names has a value for each condition and a fault count for each process of the graph, and an item
+-- that it names is one of the graph
 abbrev pub IsNamed : Halt → Type 0
 IsNamed (Refused refusal) = IsNamedRefusal refusal
 IsNamed (Late a s p time) = HasRoom a.graph s

@@ -13,14 +13,14 @@ use cpg_scenario::{Cause, ScenarioFault};
 use cpg_table::Fault;
 use cpg_violation::HeadPart;
 
-/// Why a file or a command is refused. A place or a number is always the first one.
+/// Why a file or a command is refused. If there are several such places, it is the first one.
 #[derive(Drop)]
 pub enum Refusal {
     /// The graph file isn't UTF-8, or it is no TOML document.
     NotToml,
-    /// A field of the graph file is missing, isn't of its type, or isn't of its table.
+    /// A field of the graph file is missing, has another type, or isn't one of its table.
     BadField(Place),
-    /// A name of the graph file, or the node of a slot, stands earlier in its kind.
+    /// A name of the graph file, or the node of a slot, is given twice: the second place.
     DoubleName(Place),
     /// A name of the graph file names nothing.
     UnknownName(Place),
@@ -39,7 +39,7 @@ pub enum Refusal {
         graph: Problem,
         /// The least such join.
         process: u32,
-        /// Its least scenario.
+        /// The least scenario in which it has two live inputs.
         scenario: Scenario,
     },
     /// A node of the graph sends and has no slot.
@@ -49,13 +49,13 @@ pub enum Refusal {
         /// The least such node.
         node: u32,
     },
-    /// A message has a size above its sender's slot: the least such edge.
+    /// A message has more bytes than its sender's slot takes: the least such edge.
     TooBig(u32),
     /// The order that the graph gives isn't topological.
     BadOrder {
         /// The graph.
         graph: Problem,
-        /// The least process that is lacking in it, or if none is lacking, the first in it that stands before the source of
+        /// The least process that is lacking in it, or if none is lacking, the first in it that comes before the source of
         /// one of its inputs.
         process: u32,
     },
@@ -63,7 +63,7 @@ pub enum Refusal {
     BadPack(u64),
     /// The bytes are no scenario file of the graph.
     BadScenario(Cause),
-    /// The bytes are no log of the graph: the first line that makes them none, counted from 0.
+    /// The bytes are no log of the graph: the first line that can't be of one, counted from 0.
     BadLog(u64),
     /// The graph file gave more than 16,777,216 bytes.
     LongGraph,
@@ -86,9 +86,9 @@ pub enum Refusal {
 /// Why a run stops without an output.
 #[derive(Drop)]
 pub enum Halt {
-    /// The words have no form.
+    /// The words of the command have none of its forms.
     Words,
-    /// The shelf met a fault.
+    /// The shelf met a fault, so a file couldn't be read.
     Read,
     /// A file or the command is refused.
     Refused(Refusal),
@@ -96,11 +96,11 @@ pub enum Halt {
     Late {
         /// The graph.
         graph: Admitted,
-        /// The least scenario of the greatest excess.
+        /// The least scenario that has the greatest excess.
         scenario: Scenario,
-        /// The least process that has this excess there.
+        /// The least process that has this excess in that scenario.
         process: u32,
-        /// Its end there, in time units.
+        /// When it ends in that scenario, in time units.
         finish: u64,
     },
     /// An item is too wide.
@@ -117,12 +117,12 @@ pub enum Halt {
         /// The first violation.
         fault: Fault,
     },
-    /// Out of memory.
+    /// Memory ran out.
     Memory,
 }
 
 impl Halt {
-    /// The exit status.
+    /// Returns the exit status of a run that halts so. It is neither 0, which is success, nor 3, a fault of a sink.
     pub fn status(&self) -> u8
         ensures { result ≡ status_of self.now }
     {
@@ -137,7 +137,7 @@ impl Halt {
         }
     }
 
-    /// What a refused reading of a graph file stops a run with.
+    /// Returns why a run halts whose graph file can't be read.
     pub fn of_reading(fault: ReadFault) -> Halt
         ensures { result ≡ halt_of_reading fault }
     {
@@ -151,7 +151,7 @@ impl Halt {
         }
     }
 
-    /// What a refused reading of a pack stops a run with.
+    /// Returns why a run halts whose pack can't be read.
     pub fn of_pack(fault: PackFault) -> Halt
         ensures { result ≡ halt_of_pack fault }
     {
@@ -161,7 +161,7 @@ impl Halt {
         }
     }
 
-    /// What a refused reading of a scenario file stops a run with.
+    /// Returns why a run halts whose scenario file can't be read.
     pub fn of_scenario(fault: ScenarioFault) -> Halt
         ensures { result ≡ halt_of_scenario fault }
     {
@@ -171,7 +171,7 @@ impl Halt {
         }
     }
 
-    /// What a graph that breaks a rule stops a run with.
+    /// Returns why a run halts whose graph isn't admitted.
     pub fn of_rules(refused: Refused) -> Halt
         ensures { result ≡ halt_of_rules refused.problem refused.fault }
     {
@@ -196,7 +196,7 @@ impl Halt {
         }
     }
 
-    /// What parts that have no graph together stop a run with.
+    /// Returns why a run halts whose parts have no graph together.
     pub fn of_parts(fault: HyperFault) -> Halt
         ensures { result ≡ halt_of_parts fault }
     {

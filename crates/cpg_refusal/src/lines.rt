@@ -1,4 +1,4 @@
-//! The line of a run that stops without an output.
+//! Writes the line of a run that stops without an output.
 ghost use Rattle.std.specs.Prelude.{◌≡◌, ◌<◌, ◌++◌, OnOk, IfOk, codes, string_bytes};
 ghost use Rattle.cpg_base.specs.Graph.{item_count};
 ghost use Rattle.cpg_violation.specs.Room.{HasRoom};
@@ -12,7 +12,7 @@ use cpg_scenario::scenario_text;
 use cpg_table::Fault;
 use std::alloc::{AllocError, Global};
 
-/// A process and a scenario.
+/// Writes a process and the scenario in which something is true of it.
 pub fn write_case(
     out: &mut String,
     problem: &Problem,
@@ -28,7 +28,7 @@ pub fn write_case(
     Ok(())
 }
 
-/// A process's end past its due.
+/// Writes that a process ends past its due in a scenario, and when.
 fn write_late(
     out: &mut String,
     problem: &Problem,
@@ -43,6 +43,7 @@ fn write_late(
     write_case(out, problem, process, scenario)
 }
 
+/// Writes that an item is too wide.
 fn write_wide(out: &mut String, problem: &Problem, item: u32) -> Result<(), AllocError>
     requires { item < item_count problem.now }
     ensures { OnOk result (string_bytes out.new ≡ string_bytes out.old ++ (codes "too wide " ++ item_text problem.now item)) }
@@ -51,7 +52,7 @@ fn write_wide(out: &mut String, problem: &Problem, item: u32) -> Result<(), Allo
     write_item(out, problem, item)
 }
 
-/// The number of a column, or a dash if there is none.
+/// Writes the number of a column, or a dash if the violation is that an item has none.
 fn write_column(out: &mut String, column: Option<u32>) -> Result<(), AllocError>
     ensures { OnOk result (string_bytes out.new ≡ string_bytes out.old ++ column_text column) }
 {
@@ -61,7 +62,7 @@ fn write_column(out: &mut String, column: Option<u32>) -> Result<(), AllocError>
     }
 }
 
-/// A violation of a rule.
+/// Writes a violation of a rule: the rule, the item, its column and the scenario.
 fn write_unsafe(out: &mut String, problem: &Problem, fault: &Fault) -> Result<(), OutOfMemory>
     requires item { fault.now.item < item_count problem.now }
     requires scenario { HasRoom problem.now fault.now.scenario }
@@ -77,6 +78,7 @@ fn write_unsafe(out: &mut String, problem: &Problem, fault: &Fault) -> Result<()
     Ok(())
 }
 
+/// Writes why a run halts, without the start and the end of the line.
 fn write_reason(out: &mut String, halt: &Halt) -> Result<(), OutOfMemory>
     requires { IsNamed halt.now }
     ensures { OnOk result (string_bytes out.new ≡ string_bytes out.old ++ reason_text halt.now) }
@@ -98,7 +100,7 @@ fn write_reason(out: &mut String, halt: &Halt) -> Result<(), OutOfMemory>
     Ok(())
 }
 
-/// The line, with its line feed.
+/// Returns the line that a run which halts writes to `err`, with its line feed.
 pub fn line(alloc: Global, halt: &Halt) -> Result<String, OutOfMemory>
     requires { IsNamed halt.now }
     ensures { IfOk result (λ text. string_bytes text ≡ line_of halt.now) }

@@ -1,4 +1,4 @@
-//! The texts of refusals.
+//! Writes the texts of refusals, each with its number among all refusals.
 ghost use Rattle.std.specs.Prelude.{◌≡◌, ◌++◌, OnOk, codes, flat_map, string_bytes};
 ghost use Rattle.cpg_base.specs.Called.{name_of, node_name};
 ghost use Rattle.cpg_violation.specs.Room.{HasRoom};
@@ -14,6 +14,7 @@ use cpg_scenario::Cause;
 use cpg_violation::HeadPart;
 use std::alloc::AllocError;
 
+/// Returns a key as it is written in the file, or `unknown` if it isn't one of the format.
 fn key_text(key: Key) -> &'static str
     ensures { result.now ≡ key_text key }
 {
@@ -23,6 +24,7 @@ fn key_text(key: Key) -> &'static str
     }
 }
 
+/// Writes a table of the graph file: its kind and, as there are several of all but the top, its number.
 fn write_table(out: &mut String, table: Table, index: u64) -> Result<(), AllocError>
     ensures { OnOk result (string_bytes out.new ≡ string_bytes out.old ++ table_text table index) }
 {
@@ -35,6 +37,7 @@ fn write_table(out: &mut String, table: Table, index: u64) -> Result<(), AllocEr
     }
 }
 
+/// Writes a place in the graph file: a table and one of its keys.
 fn write_place(out: &mut String, place: Place) -> Result<(), AllocError>
     ensures { OnOk result (string_bytes out.new ≡ string_bytes out.old ++ place_text place) }
 {
@@ -43,6 +46,7 @@ fn write_place(out: &mut String, place: Place) -> Result<(), AllocError>
     write!(out, " {key}")
 }
 
+/// Writes what is over a limit: of what there are too many, or the place of a number.
 fn write_what(out: &mut String, what: What) -> Result<(), AllocError>
     ensures { OnOk result (string_bytes out.new ≡ string_bytes out.old ++ what_text what) }
 {
@@ -56,7 +60,7 @@ fn write_what(out: &mut String, what: What) -> Result<(), AllocError>
     }
 }
 
-/// A kind of refusal, and its place.
+/// Writes a refusal that is at a place of the graph file. `kind` is its number and its kind, with a space at the end.
 fn write_placed(out: &mut String, kind: &str, place: Place) -> Result<(), AllocError>
     ensures { OnOk result (string_bytes out.new ≡ string_bytes out.old ++ (kind.now ++ place_text place)) }
 {
@@ -64,6 +68,7 @@ fn write_placed(out: &mut String, kind: &str, place: Place) -> Result<(), AllocE
     write_place(out, place)
 }
 
+/// Writes that the graph file has too many of something, or a number outside its range.
 fn write_limit(out: &mut String, what: What) -> Result<(), AllocError>
     ensures { OnOk result (string_bytes out.new ≡ string_bytes out.old ++ (codes "5 limit " ++ what_text what)) }
 {
@@ -71,6 +76,7 @@ fn write_limit(out: &mut String, what: What) -> Result<(), AllocError>
     write_what(out, what)
 }
 
+/// Writes the names of the processes of a walk, each after a space.
 fn write_names(out: &mut String, problem: &Problem, walk: &[u32]) -> Result<(), AllocError>
     ensures { OnOk result (string_bytes out.new ≡ string_bytes out.old ++ flat_map (λ p. codes " " ++ name_of problem.now p) walk.now) }
 {
@@ -81,6 +87,7 @@ fn write_names(out: &mut String, problem: &Problem, walk: &[u32]) -> Result<(), 
     Ok(())
 }
 
+/// Writes that edges lead around in a cycle, with the processes on it.
 fn write_cycle(out: &mut String, problem: &Problem, walk: &[u32]) -> Result<(), AllocError>
     ensures { OnOk result (string_bytes out.new ≡ string_bytes out.old ++ cycle_text problem.now walk.now) }
 {
@@ -88,6 +95,7 @@ fn write_cycle(out: &mut String, problem: &Problem, walk: &[u32]) -> Result<(), 
     write_names(out, problem, walk)
 }
 
+/// Writes that a join has two live inputs, and in which scenario.
 fn write_alternatives(
     out: &mut String,
     problem: &Problem,
@@ -102,6 +110,7 @@ fn write_alternatives(
     Ok(())
 }
 
+/// Writes that a node sends and has no slot.
 fn write_slot(out: &mut String, problem: &Problem, node: u32) -> Result<(), AllocError>
     ensures { OnOk result (string_bytes out.new ≡ string_bytes out.old ++ (codes "8 slot " ++ node_name problem.now node)) }
 {
@@ -109,6 +118,7 @@ fn write_slot(out: &mut String, problem: &Problem, node: u32) -> Result<(), Allo
     write!(out, "8 slot {name}")
 }
 
+/// Writes that the order which the graph gives isn't topological, with a process that shows it.
 fn write_order(out: &mut String, problem: &Problem, process: u32) -> Result<(), AllocError>
     ensures { OnOk result (string_bytes out.new ≡ string_bytes out.old ++ (codes "24 order " ++ name_of problem.now process)) }
 {
@@ -116,6 +126,7 @@ fn write_order(out: &mut String, problem: &Problem, process: u32) -> Result<(), 
     write!(out, "24 order {name}")
 }
 
+/// Returns what is wrong with a scenario file, in a word.
 fn cause_text(cause: Cause) -> &'static str
     ensures { result.now ≡ cause_text cause }
 {
@@ -129,18 +140,21 @@ fn cause_text(cause: Cause) -> &'static str
     }
 }
 
+/// Writes that a scenario file is none, given the word for the cause.
 fn write_cause(out: &mut String, cause: &str) -> Result<(), AllocError>
     ensures { OnOk result (string_bytes out.new ≡ string_bytes out.old ++ (codes "12 scenario " ++ cause.now)) }
 {
     write!(out, "12 scenario {cause}")
 }
 
+/// Writes that a scenario file is none, and why.
 fn write_scenario(out: &mut String, cause: Cause) -> Result<(), AllocError>
     ensures { OnOk result (string_bytes out.new ≡ string_bytes out.old ++ (codes "12 scenario " ++ cause_text cause)) }
 {
     write_cause(out, cause_text(cause))
 }
 
+/// Returns the word for a part of a pack's head.
 fn part_text(part: HeadPart) -> &'static str
     ensures { result.now ≡ part_text part }
 {
@@ -152,6 +166,7 @@ fn part_text(part: HeadPart) -> &'static str
     }
 }
 
+/// Writes that a pack is another graph's, with the first part of its head that differs.
 fn write_other(out: &mut String, part: HeadPart) -> Result<(), AllocError>
     ensures { OnOk result (string_bytes out.new ≡ string_bytes out.old ++ (codes "17 other graph " ++ part_text part)) }
 {
@@ -159,6 +174,7 @@ fn write_other(out: &mut String, part: HeadPart) -> Result<(), AllocError>
     write!(out, "17 other graph {part}")
 }
 
+/// Writes why the parts of a graph of several periods have no graph together, with the number of the part if it is one.
 fn write_parts(out: &mut String, fault: HyperFault) -> Result<(), AllocError>
     ensures { OnOk result (string_bytes out.new ≡ string_bytes out.old ++ parts_text fault) }
 {
@@ -170,10 +186,12 @@ fn write_parts(out: &mut String, fault: HyperFault) -> Result<(), AllocError>
         HyperFault::Count(what) => write_what(out, what),
         HyperFault::LongName(part) => write!(out, "name {part}"),
         HyperFault::Order(part) => write!(out, "order {part}"),
+        // out of memory never comes here: `Halt::of_parts` makes no refusal of it
         HyperFault::OutOfMemory => out.push_str("memory"),
     }
 }
 
+/// Writes that the parts of a graph of several periods have no graph together, and why.
 fn write_hyper(out: &mut String, fault: HyperFault) -> Result<(), AllocError>
     ensures { OnOk result (string_bytes out.new ≡ string_bytes out.old ++ (codes "22 hyper " ++ parts_text fault)) }
 {
@@ -181,6 +199,8 @@ fn write_hyper(out: &mut String, fault: HyperFault) -> Result<(), AllocError>
     write_parts(out, fault)
 }
 
+/// Writes a refusal: its number, its kind, and where it is. No other refusal has the number of one; files that are too long
+/// share 16.
 fn write_refusal(out: &mut String, refusal: &Refusal) -> Result<(), AllocError>
     requires { IsNamedRefusal refusal.now }
     ensures { OnOk result (string_bytes out.new ≡ string_bytes out.old ++ refusal_text refusal.now) }
@@ -214,7 +234,7 @@ fn write_refusal(out: &mut String, refusal: &Refusal) -> Result<(), AllocError>
     }
 }
 
-/// What a refusal is called, and its text.
+/// Writes that something is refused, and the refusal.
 pub fn write_refused(out: &mut String, refusal: &Refusal) -> Result<(), OutOfMemory>
     requires { IsNamedRefusal refusal.now }
     ensures { OnOk result (string_bytes out.new ≡ string_bytes out.old ++ refused_text refusal.now) }

@@ -13,7 +13,7 @@ pub matches_more : (s : Scenario) (ls : List Literal) (i : ℕ) (d : Literal) �
 matches_more s ls i d there before h =
     list_all_more (holds s) ls i d there ∙ and_from (matches (take i ls) s) (holds s (get_or ls i d)) before h
 
--- what doesn't hold if a literal of those that match must
+-- if a literal that must hold where others match doesn't, these don't match
 pub not_implied : (s : Scenario) (ls : List Literal) (l : Literal) → (matches ls s ≡ true → holds s l ≡ true) →
     holds s l ≡ false →
     matches ls s ≡ false

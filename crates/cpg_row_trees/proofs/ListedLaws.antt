@@ -23,6 +23,7 @@ use Rattle.cpg_row_trees.proofs.SliceLaws.{back_from_over, slice_tree_parted, ma
 
 -- ---- one literal more
 
+-- given: the literals of a cube, a place among them, and a scenario; l is what would be read behind the last one
 module _ (ls : List Literal) (i : ℕ) (l : Literal) (there : i < length ls) (s : Scenario) where
   -- a scenario that one literal more matches is matched by those before and by it
   less_matches : matches (take (i + 1) ls) s ≡ true → (matches (take i ls) s ≡ true) × (holds s (get_or ls i l) ≡ true)
@@ -30,7 +31,7 @@ module _ (ls : List Literal) (i : ℕ) (l : Literal) (there : i < length ls) (s 
       (sym (matches_push s (get_or ls i l) (take i ls))
       ∙ ap (λ (xs : List Literal). matches xs s) (sym (take_more ls i l there)) ∙ all)
 
--- if a cube's scenarios are those of the space, its literals and the range of any variable say who is in it
+-- if a cube's scenarios are those of the space, its literals and the range of any variable say which scenarios are in it
 pub own_on : (k : ℕ) (space : Space) (ls : List Literal) (v : ℕ) → IsOwn k space ls → IsOwnOn k space ls v
 own_on k space ls v is_own = record { hold = is_own.hold; come = λ s few all low high. is_own.come s few all }
 
@@ -39,6 +40,7 @@ pub own_more : (k : ℕ) (space : Space) (ls : List Literal) (i : ℕ) (l : Lite
     IsOwnOn k space (take i ls) (get_or ls i l).variable →
     ((s : Scenario) → IsInSpace space s → holds s (get_or ls i l) ≡ true) × IsInside space (get_or ls i l) →
     IsOwn k space (take (i + 1) ls)
+-- the literal holds in the whole space; and a scenario that it matches has a number of its variable within the space's range
 own_more k space ls i l there before known = record {
   hold = λ s few lies. matches_more s ls i l there (before.hold s few lies) (known.0 s lies);
   come = λ s few all.
@@ -48,7 +50,7 @@ own_more k space ls i l there before known = record {
       (omega (arith, inside.high, holds-high s (get_or ls i l) parts.1));
 }
 
--- the same of a literal that is read
+-- the same for a literal l that was read at place i, and is on v
 pub own_next : (k : ℕ) (space : Space) (ls : List Literal) (i : ℕ) (l : Literal) (v : ℕ) → i < length ls →
     l ≡ get_or ls i l → l.variable ≡ v →
     IsOwnOn k space (take i ls) v →
@@ -57,7 +59,7 @@ own_next k space ls i l v there is on before known = own_more k space ls i l the
     (subst (λ (u : ℕ). IsOwnOn k space (take i ls) u) (sym on ∙ ap (λ (m : Literal). m.variable) is) before)
     (subst (λ (m : Literal). ((s : Scenario) → IsInSpace space s → holds s m ≡ true) × IsInside space m) is known)
 
--- if a cube's literals up to a depth past its end say who is in the space, the whole cube does
+-- if a cube's literals up to a depth past its end say which scenarios are in the space, the whole cube does
 pub own_all : (k : ℕ) (space : Space) (ls : List Literal) (i : ℕ) → length ls ≤ i → IsOwn k space (take i ls) →
     IsOwn k space ls
 own_all k space ls i past = subst (IsOwn k space) (take_all i ls past)
@@ -72,8 +74,8 @@ le_self n = omega arith
 le_more : (n m : ℕ) → n + 1 ≤ (n + 1) + m
 le_more n m = omega arith
 
--- a space of which the ranges alone say who is in it, and a cut that is open on both sides
--- `ranges`: the ranges of the space alone say who is in it. `open_`: the cut has numbers of the space on both sides.
+-- given: a space, and a cut of one of its variables
+-- `ranges`: the ranges of the space alone say which scenarios are in it; `open_`: it has numbers on both sides of the cut
 module _ (k : ℕ) (space side : Space) (v cut : ℕ) (there : v < 256) (ranges : AreRangesAll k space)
     (open_ : IsOpenCut space v cut) where
   -- the space is one that a fork comes to
@@ -98,7 +100,7 @@ module _ (k : ℕ) (space side : Space) (v cut : ℕ) (there : v < 256) (ranges 
   -- the side below the cut has all scenarios of the space that are up to the cut
   module _ (long : length space.high ≡ 256) (is : side ≡ below_cut space v cut)
       (goes : (s : Scenario) → IsInSpace space s → number_of s v ≤ cut → IsInSpace side s) where
-    -- the ranges alone say who is in the space below the cut
+    -- the ranges alone say which scenarios are in the space below the cut
     pub ranges_under : AreRangesAll k side
     ranges_under = (under_reached k space side v cut (sum_by (narrowed k space) (numbers_below 256))
         ((sum_by (narrowed k space) (numbers_below 256)) + 1)
@@ -113,8 +115,9 @@ module _ (k : ℕ) (space side : Space) (v cut : ℕ) (there : v < 256) (ranges 
     high_is_cut =
         ap (λ (r : Space). get_or r.high v 0) is ∙ set_same space.high v cut v (omega (arith, long, there)) refl
 
-    -- literals that say with the variable's range who is in the space say it of the space below the cut, too
+    -- literals that say with the variable's range which scenarios are in the space say it of the space below the cut, too
     pub on_under : (ls : List Literal) → IsOwnOn k space ls v → IsOwnOn k side ls v
+    -- in the space below, the range of v is that of the space up to the cut
     on_under ls own = record {
       hold = λ s few lies. own.hold s few (back_from_under k space side v cut
           (sum_by (narrowed k space) (numbers_below 256)) ((sum_by (narrowed k space) (numbers_below 256)) + 1)
@@ -127,7 +130,7 @@ module _ (k : ℕ) (space side : Space) (v cut : ℕ) (there : v < 256) (ranges 
   -- the side above the cut has all scenarios of the space that are above the cut
   module _ (long : length space.low ≡ 256) (is : side ≡ above_cut space v cut)
       (goes : (s : Scenario) → IsInSpace space s → cut < number_of s v → IsInSpace side s) where
-    -- the ranges alone say who is in the space above the cut
+    -- the ranges alone say which scenarios are in the space above the cut
     pub ranges_over : AreRangesAll k side
     ranges_over = (over_reached k space side v cut (sum_by (narrowed k space) (numbers_below 256))
         ((sum_by (narrowed k space) (numbers_below 256)) + 1)
@@ -142,8 +145,9 @@ module _ (k : ℕ) (space side : Space) (v cut : ℕ) (there : v < 256) (ranges 
     high_as_before : get_or side.high v 0 ≡ get_or space.high v 0
     high_as_before = ap (λ (r : Space). get_or r.high v 0) is
 
-    -- literals that say with the variable's range who is in the space say it of the space above the cut, too
+    -- literals that say with the variable's range which scenarios are in the space say it of the space above the cut, too
     pub on_over : (ls : List Literal) → IsOwnOn k space ls v → IsOwnOn k side ls v
+    -- in the space above, the range of v is that of the space from the cut on
     on_over ls own = record {
       hold = λ s few lies. own.hold s few (back_from_over k space side v cut
           (sum_by (narrowed k space) (numbers_below 256)) ((sum_by (narrowed k space) (numbers_below 256)) + 1)
@@ -153,7 +157,7 @@ module _ (k : ℕ) (space side : Space) (v cut : ℕ) (there : v < 256) (ranges 
           goes s (own.come s few all (omega (arith, past, above_low)) (omega (arith, high, high_as_before))) past;
     }
 
--- a space whose ranges alone say who is in it, and its two sides at an open cut
+-- a space whose ranges alone say which scenarios are in it, and its two sides at an open cut
 -- `is_under`, `is_over`: the sides are the space below and above the cut. `goes_under`, `goes_over`: each scenario of
 -- the space is in one of them.
 module _ (cubes : List (List Literal)) (k : ℕ) (space under over : Space) (from border to v cut : ℕ) (there : v < 256)

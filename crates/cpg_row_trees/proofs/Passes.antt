@@ -15,7 +15,7 @@ pub holds_leaf : {T : Type 0} (fact : T → Scenario → Type 0) (space : Space)
     HoldsInSpace fact space n
 holds_leaf {T} fact space x n is all = subst (λ (m : TreeNode T). HoldsInSpace fact space m) (sym is) all
 
--- a fork, and a fact of the values that scenarios of a space come to
+-- given: a fork, and a fact of the values that scenarios of a space come to
 module _ {T : Type 0} (fact : T → Scenario → Type 0) (space : Space) (v cut : ℕ) (below above n : TreeNode T)
     (is : n ≡ Fork v cut below above) where
   -- what holds of the value of a side holds of the fork's
@@ -40,6 +40,7 @@ module _ {T : Type 0} (fact : T → Scenario → Type 0) (space : Space) (v cut 
   pub holds_fork : ((s : Scenario) → IsInSpace space s → number_of s v ≤ cut → fact (value_at below s) s) →
       ((s : Scenario) → IsInSpace space s → cut < number_of s v → fact (value_at above s) s) →
       HoldsInSpace fact space n
+  -- each scenario finds the value of the side of the cut to which it goes
   holds_fork of_below of_above =
       subst (λ (m : TreeNode T). HoldsInSpace fact space m) (sym is) (λ s lies. elim (cases_lt cut (number_of s v)) [
         | inl h ↦

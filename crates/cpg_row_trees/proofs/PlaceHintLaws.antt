@@ -24,13 +24,14 @@ use Rattle.cpg_row_trees.specs.PlaceHints.{IsVariableRange, IsImpliedBy, AddsPla
 use Rattle.cpg_row_trees.specs.PlaceHints.{KeepsPlace, places_of}
 
 module _ (fits : Scenario → Type 0) (place : ℕ) where
-  -- a place is kept as it should be without being added, if no scenario fits
+  -- if no scenario fits, a place is kept without being added
   pub kept_out : (hints : List PlaceHint) → ((s : Scenario) → fits s → ⊥) → KeepsPlace fits place hints hints
   kept_out hints off = record { earlier = λ i c. c; this = λ s h. absurd (off s h) }
 
   -- a place is kept if it is added
   pub kept_in : (hints : List PlaceHint) (e : PlaceHint) → e.place ≡ place →
       KeepsPlace fits place hints (hints ++ e ∷ [])
+  -- the places of the longer list are those before and then the place itself
   kept_in hints e is =
       let pushed = sym (map_push (λ (e : PlaceHint). e.place) hints e) in
       record {
@@ -46,7 +47,7 @@ module _ (fits : Scenario → Type 0) (place : ℕ) where
       KeepsPlace fewer place before now
   kept_for fewer before now come kept = record { earlier = kept.earlier; this = λ s h. kept.this s (come s h) }
 
--- one more place of a list
+-- the places of one hint more are those before and its own
 places_more : (hints : List PlaceHint) (k : ℕ) (d : PlaceHint) → k < length hints →
     places_of (take (k + 1) hints) ≡ places_of (take k hints) ++ (get_or hints k d).place ∷ []
 places_more hints k d within =
@@ -62,6 +63,7 @@ module _ (cubes : List (List Literal)) (fits : Scenario → Type 0) where
       KeepsPlace (λ s. fits s × IsMatched cubes s place) place before now →
       KeepsWhere cubes fits places (places_of before) → KeepsWhere cubes fits (places ++ place ∷ []) (places_of now)
   keeps_one place places before now kept h s i lies c m = ⊎_elim
+      -- an earlier place, or the new one
       (λ (b : Contains places i). kept.earlier i (h s i lies b m))
       (λ (q : place ≡ i).
       subst (λ j. Contains (places_of now) j) q (kept.this s (lies, subst (λ j. IsMatched cubes s j) (sym q) m)))
@@ -76,7 +78,7 @@ module _ (cubes : List (List Literal)) (fits : Scenario → Type 0) where
       subst (λ (xs : List ℕ). KeepsWhere cubes fits xs (places_of now)) (sym (places_more hints k d within))
       (keeps_one (get_or hints k d).place (places_of (take k hints)) before now kept h)
 
--- what a literal says of its variable
+-- the range of a literal that holds wherever some literals match is a range of its variable by these
 pub range_implied : (literals : List Literal) (l : Literal) (v : ℕ) (first : Bool) → l.variable ≡ v →
     IsImpliedBy literals l
     → IsVariableRange literals v (record { low = l.low; high = l.high; is_first = first })
@@ -107,6 +109,7 @@ module _ (cubes : List (List Literal)) (space one two : Space) (places low high 
     (goes_two : (s : Scenario) → IsInSpace space s → cut < number_of s v → IsInSpace two s) where
   -- each scenario of the space finds its match on its side
   found_parted : HoldsInSpace (IsMatchAmong cubes places) space r
+  -- a scenario finds the match among the places kept on its side, and no place that was left out there matches it
   found_parted s lies = elim (cases_lt cut (number_of s v)) [
     | inl h ↦ let l = goes_two s lies h in
         subst (λ (x : Option ℕ). IsMatchAmong cubes places x s) (sym (fork.value_above s h))
@@ -141,6 +144,8 @@ module _ (cubes : List (List Literal)) (space one two : Space) (places low high 
     (goes_two : (s : Scenario) → IsInSpace space s → cut < number_of s v → IsInSpace two s) where
   -- the fork is a tree of all places for the whole space
   pub place_tree_parted : AddsPlaceTree cubes space places old new
+  -- lo and hi: what is known of the trees of the two sides; fork: the tree that takes their place, which has the match among
+  -- all places by `found_parted`
   place_tree_parted =
       let lo = of_one.found in
       let hi = of_two.found in
@@ -169,7 +174,7 @@ module _ (lent : List (Bor (List Literal))) (i : ℕ) (b : Bor (List Literal)) (
   pub within_lent : i < length (map (λ (x : Bor (List Literal)). x.now) lent)
   within_lent = subst (λ n. i < n) (sym (length-map lent (λ (x : Bor (List Literal)). x.now))) there
 
--- a list of one
+-- what is in a list of one is its first
 only_one : (first j : ℕ) (rest : List ℕ) → rest ≡ [] → Contains (first ∷ rest) j → j ≡ first
 only_one first j rest none c = ⊎_elim (λ (b : Contains [] j). absurd (omega (arith, b.1))) (λ (q : first ≡ j). sym q)
     (Contains-push_cases [] first j (subst (λ xs. Contains (first ∷ xs) j) none c))

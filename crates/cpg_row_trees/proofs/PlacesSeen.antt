@@ -26,7 +26,7 @@ pub place_seen : (items : List (TreeItem (Option ℕ))) (n : TreeNode (Option �
     place_at places s ≡ value_at n s
 place_seen items n places s are is = ap (λ (p : PlacesState). place_at p s) (sym is) ∙ place_is items n s are
 
--- a tree of which no leaf is without a place leads each scenario to one
+-- a leaf that has a place doesn't lead to none
 is_no_leaf : (x : Option ℕ) → IsThere (Value x) → x ≡ None → ⊥
 is_no_leaf None h e = h
 is_no_leaf (Some i) h e = cc
@@ -50,6 +50,7 @@ side_there false x y low high = high
 
 -- a tree without leaves without a place gives each scenario a place
 pub there_in : (n : TreeNode (Option ℕ)) (s : Scenario) → All IsThere (flat n) → value_at n s ≡ None → ⊥
+-- by induction on the tree: a leaf, then a fork by its two sides
 there_in (Leaf x) s all = is_no_leaf x (All-head IsThere (Value x) [] all)
 there_in (Fork v cut below above) s all =
     let last : List (TreeItem (Option ℕ)) = Cut v cut (length (flat below)) ∷ [] in

@@ -40,6 +40,7 @@ use Rattle.cpg_tree.proofs.Demands.{weights_le, without, without_here, without_o
 
 -- ---- the ranges on the sides of a cut
 
+-- given: a cut of one of the 256 variables in a space, and a scenario
 module _ (space : Space) (v cut : ℕ) (there : v < 256) (s : Scenario) where
   module _ (long : length space.high ≡ 256) (in_side : IsInRanges (below_cut space v cut) s) where
     -- on the side below the cut, the number of the variable is at most the cut
@@ -48,6 +49,7 @@ module _ (space : Space) (v cut : ℕ) (there : v < 256) (s : Scenario) where
 
     -- a scenario in the ranges of the side below an open cut is in the ranges of the space
     pub range_below : cut < get_or space.high v 0 → IsInRanges space s
+    -- the number of v is at most the cut, so at most the old high; the ranges of other variables are the same
     range_below h = record {
       low = in_side.low;
       high = λ u l. elim (cases_eq u v) [
@@ -64,6 +66,7 @@ module _ (space : Space) (v cut : ℕ) (there : v < 256) (s : Scenario) where
 
     -- a scenario in the ranges of the side above an open cut is in the ranges of the space
     pub range_above : get_or space.low v 0 ≤ cut → IsInRanges space s
+    -- the number of v is above the cut, so at least the old low; the ranges of other variables are the same
     range_above h = record {
       low = λ u l. elim (cases_eq u v) [
         | inl e ↦ omega (arith, number_above, ap (number_of s) e, h, ap (λ w. get_or space.low w 0) e)
@@ -92,12 +95,13 @@ too_few literals rest whole at_rest here narrow found few changed none one most 
 narrowed_le : (k : ℕ) (space : Space) (v : ℕ) → narrowed k space v ≤ 1
 narrowed_le k space v = step (nat_lt v 256 && is_narrow k space v)
   where
+    -- it counts 1 if it is narrow, and otherwise 0
     step : (b : Bool) → cond b 1 0 ≤ 1
     step true = omega arith
     step false = omega arith
 
 -- a space that forks lead to, and a cut that is open on both sides
--- `reached`: the ranges alone say who is in the space, and at most `narrow` of them are narrower than at first.
+-- `reached`: the ranges alone say which scenarios are in the space, and at most `narrow` of them are narrower than at first.
 -- `more`: n counts the variable v as well.
 module _ (k : ℕ) (space : Space) (v cut narrow n : ℕ) (there : v < 256) (reached : IsForkSpace k space narrow)
     (open_ : IsOpenCut space v cut) (more : narrow + 1 ≤ n + narrowed k space v) where
@@ -163,6 +167,7 @@ whole_reached k space whole lies = record {
   few = omega (arith, sum_by_zeros (narrowed k space) (numbers_below 256) (λ v c. wide v (numbers-Contains 256 v c)));
 }
   where
+    -- each high of the space of all scenarios is the variable's top: k for a count, 1 for a value
     high_is : (v : ℕ) → v < 256 → get_or space.high v 0 ≡ top k v
     high_is v there = elim (cases_lt v 128) [
       | inl l ↦ whole.counts v l ∙ sym (cond-true (nat_lt v 128) k 1 (lt-ltb v 128 l))
@@ -216,6 +221,7 @@ module _ (k : ℕ) (space : Space) (ls : List Literal) (narrow found : ℕ) (ris
   has_literal : (v : ℕ) → v < 256 → is_narrow k space v ≡ true → (l : Literal) × Contains ls l × (l.variable ≡ v)
   has_literal v there on = step (list_any (λ (l : Literal). l.variable == v) ls) refl
     where
+      -- by whether some literal is on v: if none were, v wouldn't be narrow
       step : (b : Bool) → list_any (λ (l : Literal). l.variable == v) ls ≡ b →
           (l : Literal) × Contains ls l × (l.variable ≡ v)
       step true e = let r = list_any_parts (λ (l : Literal). l.variable == v) ls e in
@@ -253,7 +259,7 @@ module _ (k : ℕ) (space : Space) (ls : List Literal) (narrow found : ℕ) (ris
     comes_here = reached.by_ranges s few
         (record { low = λ v l. (at_each v l (is_narrow k space v) refl).0; high = λ v l. (at_each v l (is_narrow k space v) refl).1 })
 
-  -- literals that hold in the space, lie inside it and are on all its narrow variables say who is in it
+  -- literals that hold in the space, lie inside it and are on all its narrow variables say which scenarios are in it
   pub own : IsOwn k space ls
   own = record { hold = λ s few lies. bounds.hold s lies; come = comes_here }
 
@@ -287,19 +293,19 @@ finds_nowhere cubes k space from to none = record {
   comes = λ s j few after before m. absurd (omega (arith, none, after, before));
 }
 
--- two places that are there are equal if they are so as options
+-- two places are equal if the options that hold them are
 some_is : (i j : ℕ) → Some i ≡ Some j → i ≡ j
 some_is i j e = cc
 
 -- a slice of one cube at most, whose scenarios are those of the space
--- `one`: the slice has at most the cube at `from`. `is_own`: the literals of this cube say who is in the space.
+-- `one`: the slice has at most the cube at `from`. `is_own`: the literals of this cube say which scenarios are in the space.
 module _ (cubes : List (List Literal)) (k : ℕ) (space : Space) (from to : ℕ) (there : from < length cubes)
     (one : to ≤ from + 1) (is_own : IsOwn k space (cube_at cubes from)) where
   -- the slice has one place
   only_place : (j : ℕ) → from ≤ j → j < to → j ≡ from
   only_place j after before = omega (arith, one, after, before)
 
-  -- a leaf with the place of a cube is right for the slice of that cube, if the cube says who is in the space
+  -- a leaf with the place of a cube is right for the slice of that cube, if the cube says which scenarios are in the space
   pub finds_here : FindsMatches cubes k space from to (λ s. Some from)
   finds_here = record {
     is = λ s i few lies e. subst (λ (j : ℕ). IsMatched cubes s j) (some_is from i e)
@@ -327,6 +333,7 @@ module _ (cubes : List (List Literal)) (k : ℕ) (space one two : Space) (from b
     (at_least : (s : Scenario) → IsInSpace two s → cut < number_of s v) where
   -- the fork leads to the matches of both slices
   pub finds_parted : FindsMatches cubes k space from to (value_at r)
+  -- a scenario finds a place on the side of the cut to which it goes; a cube before the border is found below, and any other above
   finds_parted = record {
     is = λ s i few lies e. elim (cases_lt cut (number_of s v)) [
       | inl h ↦ high.is s i few (goes_two s lies h) (sym (fork.value_above s h) ∙ e)
@@ -385,15 +392,14 @@ module _ (k : ℕ) (space side : Space) (v cut narrow n : ℕ) (there : v < 256)
     back_from_over s few lies = lies_from_above k space v cut narrow n there reached open_ more long to_over s few
         (subst (λ (r : Space). IsInSpace r s) is lies)
 
-    -- in the side above it is greater
+    -- in the side above the number is greater than the cut
     over_cut : (s : Scenario) → IsInSpace side s → cut < number_of s v
     over_cut s lies = number_above space v cut there s long
         (in_range (above_cut space v cut) s (subst (λ (r : Space). IsInSpace r s) is lies))
 
--- a space that forks lead to, and its two sides at an open cut
--- `reached`, `more`: the ranges say who is in the space, and n counts the variable v as well. `open_`: the cut has
--- numbers on both sides. `is_under`, `is_over`: these are the sides. `goes_under`, `goes_over`: each scenario is in
--- one of them.
+-- a space that forks lead to, and its two sides at an open cut `reached`, `more`: the ranges say which scenarios are in
+-- the space, and n counts the variable v as well. `open_`: the cut has numbers on both sides. `is_under`, `is_over`:
+-- these are the sides. `goes_under`, `goes_over`: each scenario is in one of them.
 module _ (cubes : List (List Literal)) (k : ℕ) (space under over : Space) (from border to v cut narrow n : ℕ)
     (there : v < 256) (lows : length space.low ≡ 256) (highs : length space.high ≡ 256)
     (reached : IsForkSpace k space narrow) (open_ : IsOpenCut space v cut) (more : narrow + 1 ≤ n + narrowed k space v)
@@ -408,6 +414,8 @@ module _ (cubes : List (List Literal)) (k : ℕ) (space under over : Space) (fro
       start ≡ length old.items.items → middle ≡ length half.items.items →
       AddsSliceTree cubes k under from border old half → AddsSliceTree cubes k over border to half full
       → AddsSliceTree cubes k space from to old new
+  -- lo and hi: what is known of the trees of the two slices; fork: the tree that takes their place, which finds the matches of
+  -- both by `finds_parted`
   slice_tree_parted start middle old half full new forks as_full first second low high =
       let lo = low.finds in
       let hi = high.finds in
@@ -465,7 +473,7 @@ module _ (s : Scenario) (l : Literal) where
   pub matches_push : (ls : List Literal) → matches (ls ++ l ∷ []) s ≡ (matches ls s && holds s l)
   matches_push ls = list_all-append (holds s) ls (l ∷ []) ∙ ap (λ b. matches ls s && b) (with_true (holds s l))
 
-  -- one met with it
+  -- what two literals on one variable have in common holds exactly if both do
   met_holds : (m : Literal) → m.variable ≡ l.variable → holds s (met_by m l) ≡ (holds s m && holds s l)
   met_holds m same = met_parts (number_of s m.variable) m.low m.high l.low l.high
       ∙ ap (λ v. (nat_le m.low (number_of s m.variable) && nat_le (number_of s m.variable) m.high)
@@ -475,6 +483,7 @@ module _ (s : Scenario) (l : Literal) where
   matches_met : (ls : List Literal) (i : ℕ) (m : Literal) → i < length ls → get_or ls i m ≡ m →
       m.variable ≡ l.variable →
       matches (slice_set ls i (met_by m l)) s ≡ (matches ls s && holds s l)
+  -- by induction on the literals
   matches_met [] i m there is same = absurd (omega (arith, there))
   matches_met (x ∷ xs) zero m there is same =
       ap (λ b. b && matches xs s) (met_holds m same) ∙ swapped (holds s m) (holds s l) (matches xs s) ∙
@@ -499,6 +508,7 @@ as_long (x ∷ xs) (suc i) l = ap suc (as_long xs i l)
 before_last : (ls : List Literal) (l : Literal) → take (length (ls ++ l ∷ []) - 1) (ls ++ l ∷ []) ≡ ls
 before_last ls l = ap (λ n. take n (ls ++ l ∷ [])) (omega (arith, length-append ls (l ∷ []))) ∙ front ls
   where
+    -- as many literals as a list has, taken from it with one more behind it, are the list
     front : (xs : List Literal) → take (length xs) (xs ++ l ∷ []) ≡ xs
     front [] = refl
     front (x ∷ xs) = ap (λ (ys : List Literal). x ∷ ys) (front xs)
@@ -523,12 +533,12 @@ entered_last ls new l m last is = subst (λ (xs : List Literal). IsEntered ls l 
 })
 
 -- a side of a fork
--- `reached`, `more`: the ranges say who is in the space, and n counts the variable v as well. `is_own`: the path
--- `old` says who is in the space.
+-- `reached`, `more`: the ranges say which scenarios are in the space, and n counts the variable v as well. `is_own`: the path
+-- `old` says which scenarios are in the space.
 module _ (k : ℕ) (space side : Space) (v cut narrow n : ℕ) (there : v < 256) (reached : IsForkSpace k space narrow)
     (open_ : IsOpenCut space v cut) (more : narrow + 1 ≤ n + narrowed k space v)
     (old new : List Literal) (is_own : IsOwn k space old) where
-  -- a path that says who is in the space, with the range below the cut, says who is below the cut
+  -- a path that says which scenarios are in the space, with the range below the cut, says which scenarios are below the cut
   pub own_under : length space.high ≡ 256 → side ≡ below_cut space v cut →
       ((s : Scenario) → IsInSpace space s → number_of s v ≤ cut → IsInSpace side s)
       → (l : Literal) → l ≡ record {
@@ -537,17 +547,19 @@ module _ (k : ℕ) (space side : Space) (v cut narrow n : ℕ) (there : v < 256)
         high = cut;
       } → ((s : Scenario) → matches new s ≡ (matches old s && holds s l)) → IsOwn k side new
   own_under long is goes l says both = record {
+    -- a scenario of the side is one of the space, so it matches the path from before, and its number is up to the cut
     hold = λ s few lies. both s ∙ and_from (matches old s) (holds s l) (is_own.hold s few
         (back_from_under k space side v cut narrow n there long reached open_ more is goes s few lies))
         (ap (holds s) says ∙ holds-from s (record { variable = v; low = 0; high = cut }) (omega arith)
         (under_cut k space side v cut narrow n there long reached open_ more is goes s lies));
+    -- one that matches the new path matches the old one, so it is in the space, and its number is up to the cut
     come = λ s few all.
         let parts = and_parts (matches old s) (holds s l) (sym (both s) ∙ all) in
         goes s (is_own.come s few parts.0)
         (holds-high s (record { variable = v; low = 0; high = cut }) (ap (holds s) (sym says) ∙ parts.1));
   }
 
-  -- a path that says who is in the space, with the range above the cut, says who is above the cut
+  -- a path that says which scenarios are in the space, with the range above the cut, says which scenarios are above the cut
   pub own_over : length space.low ≡ 256 → side ≡ above_cut space v cut →
       ((s : Scenario) → IsInSpace space s → cut < number_of s v → IsInSpace side s)
       → (l : Literal) → l ≡ record {
@@ -556,11 +568,13 @@ module _ (k : ℕ) (space side : Space) (v cut narrow n : ℕ) (there : v < 256)
         high = top k v;
       } → ((s : Scenario) → matches new s ≡ (matches old s && holds s l)) → IsOwn k side new
   own_over long is goes l says both = record {
+    -- a scenario of the side is one of the space, so it matches the path from before, and its number is above the cut
     hold = λ s few lies. both s ∙ and_from (matches old s) (holds s l) (is_own.hold s few
         (back_from_over k space side v cut narrow n there long reached open_ more is goes s few lies))
         (ap (holds s) says ∙ holds-from s (record { variable = v; low = cut + 1; high = top k v })
         (omega (arith, over_cut k space side v cut narrow n there long reached open_ more is goes s lies))
         (number_le_top k s few v));
+    -- one that matches the new path matches the old one, so it is in the space, and its number is above the cut
     come = λ s few all.
         let parts = and_parts (matches old s) (holds s l) (sym (both s) ∙ all) in
         let low : cut + 1 ≤ number_of s v =
@@ -568,7 +582,7 @@ module _ (k : ℕ) (space side : Space) (v cut narrow n : ℕ) (there : v < 256)
         goes s (is_own.come s few parts.0) (omega (arith, low));
   }
 
--- a space of all scenarios, and no literal
+-- in the space of all scenarios of at most k faults, no literal is needed to say which are in it
 pub whole_own : (k : ℕ) (space : Space) → ((s : Scenario) → HasAtMostFaults k s → IsInSpace space s) → IsOwn k space []
 whole_own k space lies = record { hold = λ s few in_space. refl; come = λ s few all. lies s few }
 

@@ -22,7 +22,7 @@ use Rattle.cpg_row_trees.specs.Trees.{AreRowTrees, IsRowTree}
 abbrev cubes_in : List Column → List (List Literal)
 cubes_in columns = map (λ (c : Column). c.cube) columns
 
--- the tree of references to the cubes is that of the columns
+-- given: references to the cubes of columns
 module _ (lent : List (Bor (List Literal))) (columns : List Column)
     (same : map (λ (b : Bor (List Literal)). b.now) lent ≡ cubes_in columns) where
   -- there are as many references as columns
@@ -92,6 +92,7 @@ module _ {g : Graph} {columns : List Column} {tree : PlacesState} (is : IsRowTre
       matches (column_at columns j).cube s ≡ true → i ≡ j
   one_place i j k l m n = go (place_at tree s) refl
     where
+      -- by what the tree finds: not None, since the column at i matches; and if a place, both i and j are it
       go : (o : Option ℕ) → place_at tree s ≡ o → i ≡ j
       go None e = absurd (found_as None e i (matched_at columns s i k m))
       go (Some p) e = place_only p i e k m ∙ sym (place_only p j e l n)
@@ -114,6 +115,7 @@ module _ {g : Graph} {columns : List Column} {tree : PlacesState} (is : IsRowTre
   none_earlier = list_any_false (λ (d : Column). matches d.cube s) (take i columns)
       (λ d k. false_unless (matches d.cube s) (λ n. apart d k n))
     where
+      -- what can't be true is false
       false_unless : (b : Bool) → (b ≡ true → ⊥) → b ≡ false
       false_unless true h = absurd (h refl)
       false_unless false h = refl

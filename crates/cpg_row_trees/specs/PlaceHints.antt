@@ -1,4 +1,4 @@
--- Some places of cubes, sorted out by a tree.
+-- The places of cubes that scenarios of a space may match, as a tree is built: at each fork they are parted in two lists.
 use Rattle.std.specs.Prelude.{ℕ, ◌≡◌, ◌≤◌, ◌<◌, true, List, Option, None, Some, Contains, map}
 use Rattle.cpg_base.specs.Scenario.{Scenario, number_of}
 use Rattle.cpg_cube.specs.Cube.{holds, matches}
@@ -13,51 +13,52 @@ use Rattle.cpg_tree.specs.Space.{IsInSpace, is_open_below, is_open_above}
 use Rattle.cpg_tree.specs.Added.{AddsTree}
 use Rattle.cpg_row_trees.specs.Places.{IsMatched, HoldsInSpace}
 
--- the places of hints
+-- the places that hints are for
 abbrev pub places_of : List PlaceHint → List ℕ
 places_of hints = map (λ (e : PlaceHint). e.place) hints
 
--- a literal holds wherever these match
+-- the literal l holds in each scenario that the literals match
 abbrev pub IsImpliedBy : List Literal → Literal → Type 0
 IsImpliedBy literals l = (s : Scenario) → matches literals s ≡ true → holds s l ≡ true
 
--- the place is the only one of some places whose cube the scenario matches
+-- the scenario matches the cube at place i, and of the given places no other one's
 pub record IsOnlyMatch (cubes : List (List Literal)) (places : List ℕ) (s : Scenario) (i : ℕ) : Type 0 where
   pub is : IsMatched cubes s i
   pub only : (j : ℕ) → Contains places j → IsMatched cubes s j → j ≡ i
 
--- the place is that of the only match among some places, or none of them is matched
+-- the answer is the only one of the given places whose cube the scenario matches, or None if it matches none of them
 abbrev pub IsMatchAmong : List (List Literal) → List ℕ → Option ℕ → Scenario → Type 0
 IsMatchAmong cubes places None s = (j : ℕ) → Contains places j → IsMatched cubes s j → ⊥
 IsMatchAmong cubes places (Some i) s = IsOnlyMatch cubes places s i
 
--- the places of a list whose cubes fitting scenarios match are in another list, too
+-- each given place whose cube some scenario with `fits` matches is kept
 abbrev pub KeepsWhere : List (List Literal) → (Scenario → Type 0) → List ℕ → List ℕ → Type 0
 KeepsWhere cubes fits places kept =
     (s : Scenario) (i : ℕ) → fits s → Contains places i → IsMatched cubes s i → Contains kept i
 
--- a place is among others if there is a fitting scenario, and all that were there before still are
+-- the list now has the place, if some scenario fits, and all places that it had before
 pub record KeepsPlace (fits : Scenario → Type 0) (place : ℕ) (before now : List PlaceHint) : Type 0 where
   pub earlier : (i : ℕ) → Contains (places_of before) i → Contains (places_of now) i
   pub this : (s : Scenario) → fits s → Contains (places_of now) place
 
--- if literals match, the number of a variable is in the range that they give it; a high of 255 is no bound
+-- where the literals match, the number of v is in the range; a high of 255, the greatest byte, is no bound
 pub record IsVariableRange (literals : List Literal) (v : ℕ) (range : VariableRange) : Type 0 where
   pub low : (s : Scenario) → matches literals s ≡ true → range.low ≤ number_of s v
   pub high : (s : Scenario) → matches literals s ≡ true → range.high < 255 → number_of s v ≤ range.high
 
--- a cut has numbers of the space on both sides
+-- the space has numbers of v on both sides of the cut
 pub record IsOpenCut (space : Space) (v cut : ℕ) : Type 0 where
   pub below : is_open_below space v cut ≡ true
   pub above : is_open_above space v cut ≡ true
 
--- a leaf has the match among the places, and a fork is open on both sides
+-- What stands at the top of the tree of some places: a leaf with the match among them in each scenario of the space, or a
+-- fork at a cut that is open on both sides. `Unknown` promises nothing.
 abbrev pub IsPlacesTop : List (List Literal) → Space → List ℕ → PlacesTop → Type 0
 IsPlacesTop cubes space places (Leaf x) = (s : Scenario) → IsInSpace space s → IsMatchAmong cubes places x s
 IsPlacesTop cubes space places (Fork c) = IsOpenCut space c.variable c.most
 IsPlacesTop cubes space places Unknown = Unit {0}
 
--- a tree of the matches among the places is added, with no more items left than there were
+-- a tree is added that has the match among the places in each scenario of the space; no more items may be added than before
 pub record AddsPlaceTree (cubes : List (List Literal)) (space : Space) (places : List ℕ)
     (old new : TreeGrowth) : Type 0 where
   pub found : AddsTree (HoldsInSpace (IsMatchAmong cubes places) space) old.items.items new.items.items

@@ -1,4 +1,5 @@
--- Cubes that stand as a tree lists them, in slices.
+-- Cubes that stand in the order in which a tree lists them: the cubes of a place of the tree are a slice, those from one
+-- place of the list up to another.
 use Rattle.std.specs.Prelude.{ℕ, ◌+◌, ◌-◌, ◌≡◌, ◌≤◌, ◌<◌, Bool, ◌&&◌, ◌||◌, nat_lt, true, if◌then◌else◌, List, Option}
 use Rattle.std.specs.Prelude.{None, Some, get_or, length, max, min, slice_set, sum_by, take, Contains}
 use Rattle.cpg_base.specs.Numbers.{numbers_below}
@@ -17,83 +18,91 @@ use Rattle.cpg_tree.specs.Added.{AddsTree}
 use Rattle.cpg_row_trees.specs.Places.{IsMatched}
 use Rattle.cpg_row_trees.specs.PlaceHints.{IsOpenCut}
 
--- each number of a scenario is in the range of the space
+-- each number of a scenario is in the space's range, whatever faults are left
 pub record IsInRanges (space : Space) (s : Scenario) : Type 0 where
   pub low : (v : ℕ) → v < 256 → get_or space.low v 0 ≤ number_of s v
   pub high : (v : ℕ) → v < 256 → number_of s v ≤ get_or space.high v 0
 
--- whether fewer numbers of a variable are in range than scenarios of at most k faults have
+-- whether the range of v is narrower than that of all scenarios of at most k faults
 abbrev pub is_narrow : ℕ → Space → ℕ → Bool
 is_narrow k space v = nat_lt 0 (get_or space.low v 0) || nat_lt (get_or space.high v 0) (top k v)
 
--- 1 if fewer numbers of a variable are in range, and 0 if not
+-- 1 if v is one of the 256 variables and its range is narrower, and otherwise 0: to be summed up
 abbrev pub narrowed : ℕ → Space → ℕ → ℕ
 narrowed k space v = if nat_lt v 256 && is_narrow k space v then 1 else 0
 
--- a space that forks lead to: the ranges alone say which scenarios of at most k faults lie in it, and no more of
--- them than given are narrow
+-- what is known of a space that forks lead to; `narrow` is how many of its variables may be narrowed
 pub record IsForkSpace (k : ℕ) (space : Space) (narrow : ℕ) : Type 0 where
+  -- a scenario of at most k faults is in the space if its numbers are in range
   pub by_ranges : (s : Scenario) → HasAtMostFaults k s → IsInRanges space s → IsInSpace space s
+  -- at most `narrow` variables have a narrower range than at first
   pub few : sum_by (narrowed k space) (numbers_below 256) ≤ narrow
 
--- a literal's numbers are in range
+-- all numbers of a literal's range are in the space's range of its variable
 pub record IsInside (space : Space) (l : Literal) : Type 0 where
   pub low : get_or space.low l.variable 0 ≤ l.low
   pub high : l.high ≤ get_or space.high l.variable 0
 
--- each of some literals holds in the whole space and is inside it, and at least this many are on narrow variables
+-- the literals say no less and no more than the space does of their variables, at least `found` of which are narrowed
 pub record AreSpaceBounds (k : ℕ) (space : Space) (literals : List Literal) (found : ℕ) : Type 0 where
+  -- they hold in the whole space
   pub hold : (s : Scenario) → IsInSpace space s → matches literals s ≡ true
+  -- none has a number outside the space's range
   pub inside : (l : Literal) → Contains literals l → IsInside space l
+  -- at least `found` are on narrowed variables
   pub narrow : found ≤ sum_by (λ (l : Literal). narrowed k space l.variable) literals
 
--- the scenarios of the space are those of at most k faults that match
+-- the scenarios of at most k faults in the space are those that match the literals
 pub record IsOwn (k : ℕ) (space : Space) (literals : List Literal) : Type 0 where
   pub hold : (s : Scenario) → HasAtMostFaults k s → IsInSpace space s → matches literals s ≡ true
   pub come : (s : Scenario) → HasAtMostFaults k s → matches literals s ≡ true → IsInSpace space s
 
--- places by scenarios: a place has a cube that the scenario matches, and who matches a cube of the slice lies in the
--- space and comes to its place
+-- `place` finds the cubes of a slice, those from `from` up to `to`, in the scenarios of the space of at most k faults
 pub record FindsMatches (cubes : List (List Literal)) (k : ℕ) (space : Space) (from to : ℕ)
     (place : Scenario → Option ℕ) : Type 0 where
+  -- a scenario of the space matches the cube whose place is found
   pub is : (s : Scenario) (i : ℕ) → HasAtMostFaults k s → IsInSpace space s → place s ≡ Some i → IsMatched cubes s i
+  -- a scenario that matches a cube of the slice is in the space, and the place of that cube is found
   pub lies : (s : Scenario) (j : ℕ) → HasAtMostFaults k s → from ≤ j → j < to → IsMatched cubes s j → IsInSpace space s
   pub comes : (s : Scenario) (j : ℕ) → HasAtMostFaults k s → from ≤ j → j < to → IsMatched cubes s j → place s ≡ Some j
 
--- a leaf leads to its place, and a fork is open on both sides
+-- What stands at the top of the tree of a slice: a leaf whose place is right in all scenarios of the space, or a fork at
+-- a cut that is open on both sides. `Unknown` promises nothing.
 abbrev pub IsSliceTop : List (List Literal) → ℕ → Space → ℕ → ℕ → SliceTop → Type 0
 IsSliceTop cubes k space from to (Leaf x) = FindsMatches cubes k space from to (λ s. x)
 IsSliceTop cubes k space from to (Fork p) = IsOpenCut space p.cut.variable p.cut.most
 IsSliceTop cubes k space from to Unknown = Unit {0}
 
--- a tree that leads to the places of a slice is added, with no more items left than there were
+-- a tree is added that finds the cubes of a slice; no more items may be added than before
 pub record AddsSliceTree (cubes : List (List Literal)) (k : ℕ) (space : Space) (from to : ℕ)
     (old new : TreeGrowth) : Type 0 where
   pub finds : AddsTree (λ n. FindsMatches cubes k space from to (value_at n)) old.items.items new.items.items
   pub fewer : new.left ≤ old.left
 
--- the ranges of a fork's variable on its sides
+-- the literals that a fork on v at a cut says of its two sides
 pub record AreForkSides (k v cut : ℕ) (sides : ForkSides) : Type 0 where
   pub below : sides.below ≡ record { variable = v; low = 0; high = cut }
   pub above : sides.above ≡ record { variable = v; low = cut + 1; high = top k v }
 
--- what two ranges of a variable have in common
+-- what the ranges of two literals on one variable have in common; its low is above its high if that is nothing
 abbrev pub met_by : Literal → Literal → Literal
 met_by l m = record { variable = l.variable; low = max l.low m.low; high = min l.high m.high }
 
--- literals as they were before one was added, or before the last one was changed
+-- the literals before a fork's literal was entered: without the last one, or with the last one as it was
 abbrev pub left_by : Option Literal → List Literal → List Literal
 left_by None ls = take (length ls - 1) ls
 left_by (Some l) ls = slice_set ls (length ls - 1) l
 
--- the last of some literals, which is on a variable
+-- l is the last of the literals, and is on v
 pub record IsLastOn (ls : List Literal) (v : ℕ) (l : Literal) : Type 0 where
   pub some : 0 < length ls
   pub last : get_or ls (length ls - 1) l ≡ l
   pub on : l.variable ≡ v
 
--- the new literals say one more than the old, and without it they are the old ones
+-- the literal l is entered into the old literals; `was` is what the last one was if it was changed
 pub record IsEntered (old : List Literal) (l : Literal) (new : List Literal) (was : Option Literal) : Type 0 where
+  -- the new literals match if the old ones do and l holds
   pub both : (s : Scenario) → matches new s ≡ (matches old s && holds s l)
+  -- taking l back leaves the old ones
   pub back : left_by was new ≡ old
   pub some : 0 < length new

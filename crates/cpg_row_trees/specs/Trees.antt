@@ -1,4 +1,4 @@
--- Trees of columns: for each scenario the place of the column that matches.
+-- Trees of rows: each leads a scenario to the place of the row's column that matches it.
 use Rattle.std.specs.Prelude.{ℕ, ◌≡◌, ◌<◌, List, Option, None, IfSome, length, get_or, map}
 use Rattle.cpg_base.specs.Graph.{Graph, item_count}
 use Rattle.cpg_base.specs.Scenario.{Scenario, IsScenario}
@@ -11,12 +11,12 @@ use Rattle.cpg_row_trees.specs.Places.{place_at, IsPlaceOfMatch}
 pub record IsRowTree (g : Graph) (columns : List Column) (tree : PlacesState) : Type 0 where
   pub found : (s : Scenario) → IsScenario g s → IsPlaceOfMatch (map (λ c. c.cube) columns) (place_at tree s) s
 
--- one for each of the first items; if there is a tree, it is that of the item's row
+-- there is an entry for each of the first items; if it has a tree, that is the tree of the item's row
 pub record AreFirstTrees (g : Graph) (tables : List NodeTable) (items : ℕ)
     (trees : List (Option PlacesState)) : Type 0 where
   pub count : length trees ≡ items
   pub each : (x : ℕ) → x < items → IfSome (get_or trees x None) (IsRowTree g (columns_of tables x))
 
--- one tree for each item, if it has one
+-- there is an entry for each item of the graph; if it has a tree, that is the tree of the item's row
 abbrev pub AreRowTrees : Graph → List NodeTable → List (Option PlacesState) → Type 0
 AreRowTrees g tables trees = AreFirstTrees g tables (item_count g) trees

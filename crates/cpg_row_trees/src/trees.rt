@@ -1,4 +1,4 @@
-//! The trees of columns, and those of all rows.
+//! The tree of a row's columns, and those of all rows.
 ghost use Rattle.std.specs.Prelude.{◌≤◌, IfOk, IfSome, length};
 ghost use Rattle.cpg_base.specs.declared.limits.TheConstants.{MOST_LOAD};
 ghost use Rattle.cpg_row_trees.specs.Trees.{AreRowTrees, IsRowTree};
@@ -9,7 +9,8 @@ use cpg_cube::{Column, cubes_of};
 use cpg_table::Tables;
 use std::alloc::Global;
 
-/// The tree of columns, if they have one: not if two columns may match together, or if it would be too large.
+/// Returns the tree of a row's columns. `None` guarantees nothing: two columns may match together, or the tree would be too
+/// large. The one error is `OutOfMemory`.
 pub fn tree_of(
     alloc: Global,
     problem: &Problem,
@@ -23,8 +24,8 @@ pub fn tree_of(
     Ok(places)
 }
 
-/// For each item the tree of its row, if one is found: for each scenario the place of the one column that matches. The one error
-/// is `OutOfMemory`.
+/// Returns for each item the tree of its row, or `None` if none is found. A tree leads each scenario to the place of the one
+/// column that matches. The one error is `OutOfMemory`.
 pub fn row_trees(
     alloc: Global,
     problem: &Problem,

@@ -43,7 +43,8 @@ module _ (g : Graph) (order : List ℕ) (topological : IsTopological g order) wh
       let l = place-lt order p (Contains-order (process_count g) order topological.all p h) in
       omega (arith, ap length e, length-drop k order)
 
-  -- the processes before a place
+  -- The processes before a place.
+  -- A number among the first k of the order is a process of the graph, and its place is below k.
   pub in_take : (k r : ℕ) → Contains (take k order) r → (r < process_count g) × (place order r < k)
   in_take k r c =
       let l : c.0 < length (take k order) = c.1 in

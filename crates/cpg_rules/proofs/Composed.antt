@@ -41,7 +41,7 @@ test_parts None w t h = cc
 test_parts (Some c) None t h = cc
 test_parts (Some c) (Some v) t h = ap condition_in h
 
--- the places of the conditions' processes
+-- the ranks of the conditions: the places of their processes in the order
 abbrev pub place_ranks : Graph → List ℕ → List ℕ
 place_ranks g order = map (λ c. place order (process_of g c)) (numbers_below (condition_count g))
 
@@ -55,7 +55,8 @@ module _ (g : Graph) (order : List ℕ) (topological : IsTopological g order) wh
   length_ranks = length-map (numbers_below (condition_count g)) (λ d. place order (process_of g d))
       ∙ length-range_with_len 0 (condition_count g)
 
-  -- different conditions have different ranks
+  -- Different conditions have different ranks.
+  -- Equal ranks are equal places of their processes, so the processes, and then the conditions, are the same.
   ranks_apart : (c d : ℕ) → c < length (place_ranks g order) → d < length (place_ranks g order) →
       rank (place_ranks g order) c ≡ rank (place_ranks g order) d → c ≡ d
   ranks_apart c d l m e =
@@ -66,7 +67,8 @@ module _ (g : Graph) (order : List ℕ) (topological : IsTopological g order) wh
       (Contains-order (process_count g) order topological.all (process_of g d) (process_of_below g d k))
       (sym (rank_is c h) ∙ e ∙ rank_is d k))
 
-  -- a tree that is ordered by rank is ordered from a place on
+  -- A tree that is ordered by rank is ordered from a place on.
+  -- By induction on the tree: the rank of each tested condition is the place of its process.
   ordered_by_rank : (k m : ℕ) (t : Guard) → IsRanked (place_ranks g order) k m t → IsOrderedFrom g order k t
   ordered_by_rank k m (Leaf a) r = tt
   ordered_by_rank k m (Test c off on) r =
@@ -79,10 +81,13 @@ module _ (g : Graph) (order : List ℕ) (topological : IsTopological g order) wh
         subst (λ n. IsOrderedFrom g order (n + 1) on) is (ordered_by_rank (rank (place_ranks g order) c + 1) m on r.4),
       )
 
-  -- what holds of a tree that is composed for a process
+  -- a tree is right for process p: it gives its activation, tests earlier conditions by rank, and is reduced
   record IsComposed (p : ℕ) (t : Guard) : Type 0 where
+    -- it says how p is active in each outcome
     is : (o : List Bool) → length o ≡ condition_count g → outcome_at t o ≡ activation g o p
+    -- its tests are of conditions of earlier processes, by rising rank
     ranked : IsRanked (place_ranks g order) 0 (place order p) t
+    -- no test in it has equal sides
     reduced : IsReduced t
 
   -- given a process whose earlier processes have their trees: each says how its process is active
@@ -110,7 +115,8 @@ module _ (g : Graph) (order : List ℕ) (topological : IsTopological g order) wh
           (ap is_active ((made (source g e) from sooner).is o long))
           (passed g order topological o e within (condition_of g (source g e)) refl (edge_at g e).when refl)
 
-      -- the test of the edge is on a condition that comes before the process
+      -- The test of the edge is on a condition that comes before the process.
+      -- It is the condition of the edge's source, which stands before the process.
       its_test : IsRankedTest (place_ranks g order) (place order (source g e)) (place order p)
           (test_of (condition_of g (source g e)) (edge_at g e).when)
       its_test = record {
@@ -120,6 +126,7 @@ module _ (g : Graph) (order : List ℕ) (topological : IsTopological g order) wh
         to = λ t h. omega (arith, at t h, sooner);
       }
         where
+          -- the rank of what the edge tests is the place of its source
           at : (t : ValueTest) → test_of (condition_of g (source g e)) (edge_at g e).when ≡ Some t →
               rank (place_ranks g order) t.condition ≡ place order (source g e)
           at t h =
@@ -139,10 +146,13 @@ module _ (g : Graph) (order : List ℕ) (topological : IsTopological g order) wh
       input_reduced = live_tree_reduced (by_input join e) (test_of (condition_of g (source g e)) (edge_at g e).when)
           (get_or trees (source g e) (Leaf Inactive))
 
-    -- what holds of a tree that is composed of these inputs
+    -- a tree is right for these inputs of p: it says how p is active by them, tests earlier conditions by rank, and is reduced
     record IsComposedOf (es : List ℕ) (t : Guard) : Type 0 where
+      -- it says how p is active by these inputs in each outcome
       is : (o : List Bool) → length o ≡ condition_count g → outcome_at t o ≡ activation_by join es (live g o)
+      -- its tests are of conditions of earlier processes, by rising rank
       ranked : IsRanked (place_ranks g order) 0 (place order p) t
+      -- no test in it has equal sides
       reduced : IsReduced t
 
     -- the activation of a process with one input is settled by this input
@@ -162,7 +172,8 @@ module _ (g : Graph) (order : List ℕ) (topological : IsTopological g order) wh
     by_more true false e d es f h = ap (λ b. if b && list_all f (d ∷ es) then Plain else Inactive) (sym h)
     by_more false false e d es f h = ap (λ b. if b && list_all f (d ∷ es) then Plain else Inactive) (sym h)
 
-    -- the tree that is composed of some inputs is right for them
+    -- The tree that is composed of some inputs is right for them.
+    -- By induction on the inputs: one alone decides by its own tree, and the first of several meets the tree of the others.
     composed_of : (es : List ℕ) → ((e : ℕ) → Contains es e → Contains (inputs g p) e) →
         IsComposedOf es (composed g join (place_ranks g order) trees (map (input_of g) es))
     composed_of [] f = record { is = λ o long. refl; ranked = tt; reduced = tt }
@@ -192,10 +203,13 @@ module _ (g : Graph) (order : List ℕ) (topological : IsTopological g order) wh
 
   -- the trees of the processes before a place are made
   record AreComposed (k : ℕ) (trees : List Guard) : Type 0 where
+    -- there is a tree for each process
     long : length trees ≡ process_count g
+    -- those of the processes before the place are right
     made : (p : ℕ) → p < process_count g → place order p < k → IsComposed p (get_or trees p (Leaf Inactive))
 
-  -- with the tree of the next process in the order, one more tree is made
+  -- With the tree of the next process in the order, one more tree is made.
+  -- A process is the next one, or one before it, whose tree stays.
   one_more_composed : (k p : ℕ) (trees : List Guard) → AreComposed k trees → p < process_count g → place order p ≡ k
       → AreComposed (k + 1)
       (set trees p (composed g (process_at g p).join (place_ranks g order) trees (map (input_of g) (inputs g p))))
@@ -209,10 +223,12 @@ module _ (g : Graph) (order : List ℕ) (topological : IsTopological g order) wh
     ];
   }
     where
+      -- the tree of the process at the place
       tree : Guard
       tree = composed g (process_at g p).join (place_ranks g order) trees (map (input_of g) (inputs g p))
 
-      -- the tree is the one that is composed for the process
+      -- The tree is the one that is composed for the process.
+      -- It is right for all its inputs, so it gives the process's activation (`activation_is`).
       its : IsComposed p tree
       its =
           let of = composed_of p trees (λ q l m. are.made q l (omega (arith, at))) (process_at g p).join
@@ -223,7 +239,7 @@ module _ (g : Graph) (order : List ℕ) (topological : IsTopological g order) wh
             reduced = of.reduced;
           }
 
-  -- along the rest of the order
+  -- once the trees of the processes before place k are made, the steps of the rest of the order make those of all
   composed_to_end : (ps : List ℕ) (k : ℕ) (trees : List Guard) → drop k order ≡ ps → AreComposed k trees
       → (length (composed_along g (place_ranks g order) (map (step_of g) ps) trees) ≡ process_count g)
       × ((p : ℕ) → p < process_count g →
@@ -236,7 +252,7 @@ module _ (g : Graph) (order : List ℕ) (topological : IsTopological g order) wh
       (rest_more g order topological k p ps e)
       (one_more_composed k p trees are r.0 r.1)
 
-  -- from the start
+  -- the trees that the steps of the whole order make, from trees that are all inactive
   abbrev pub whole : List Guard
   whole = composed_along g (place_ranks g order) (map (step_of g) order) (replicate (process_count g) (Leaf Inactive))
 
@@ -250,7 +266,8 @@ module _ (g : Graph) (order : List ℕ) (topological : IsTopological g order) wh
   pub length_composed : length whole ≡ process_count g
   length_composed = all_composed.0
 
-  -- the tree that is composed for each process is its guard
+  -- The tree that is composed for each process is its guard.
+  -- It gives the activations, and being ordered by rank it is ordered along the order.
   pub composed_guards : (p : ℕ) → p < process_count g → IsGuardOf g order p (get_or whole p (Leaf Inactive))
   composed_guards p h =
       let made = all_composed.1 p h in

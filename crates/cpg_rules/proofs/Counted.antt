@@ -29,11 +29,14 @@ use Rattle.cpg_rules.proofs.Start.{none_settled, all_follow}
 module _ (g : Graph) (order : List ℕ) (topological : IsTopological g order) (few : process_count g ≤ 128) where
   -- an outcome on the way: the conditions that are left are false
   record IsOnWay (k : ℕ) (s : List (Option Bool)) (o : List Bool) : Type 0 where
+    -- it has a value for each condition
     count : length o ≡ condition_count g
+    -- it has the values of the standings so far
     follows : Follows g order k s o
+    -- the conditions that are left are false
     rest : (c : ℕ) → c < condition_count g → k ≤ place order (process_of g c) → get_or o c false ≡ false
 
-  -- how many outcomes are chosen
+  -- how many outcomes are chosen from o over these conditions, if every value is in reach
   abbrev many : List ℕ → List Bool → ℕ
   many cs o = sum_by (λ q. 1) (chosen g (all_values g) cs o)
 
@@ -53,7 +56,8 @@ module _ (g : Graph) (order : List ℕ) (topological : IsTopological g order) (f
       rest = λ c l m. on.rest c l (omega arith);
     }
 
-    -- if the condition of the process becomes true, the changed outcome is on the way
+    -- If the condition of the process becomes true, the changed outcome is on the way.
+    -- Only this condition changes, and later ones are still false.
     turns : (c : ℕ) → condition_of g p ≡ Some c → IsOnWay (k + 1) (settled s (step_of g p) true) (set o c true)
     turns c its = record {
       count = length-set o c true ∙ on.count;
@@ -65,6 +69,7 @@ module _ (g : Graph) (order : List ℕ) (topological : IsTopological g order) (f
           let j = ap (place order) of_it in omega arith) ∙ on.rest d l (omega arith);
     }
       where
+        -- the condition is one of the graph
         within : c < condition_count g
         within = condition_of_below g p c its
 
@@ -89,12 +94,14 @@ module _ (g : Graph) (order : List ℕ) (topological : IsTopological g order) (f
         ∙ ap (active g o) (process_of_condition_of g p c its)
         ∙ ap is_active (sym (activation_here g order topological k s are o on.follows p h at))
 
-    -- the ways from here are those with the condition false, and those with it true
+    -- The ways from here are those with the condition false, and those with it true.
+    -- A process without a condition, or an inactive one, has one way; the outcomes that are chosen split in the same way.
     ways_here : (cs : List ℕ) (x : Option ℕ) → condition_of g p ≡ x → (m n : ℕ) → m ≡ many cs o →
         ((c : ℕ) → x ≡ Some c → n ≡ many cs (set o c true))
         → m + if_both (choice here x) n ≡ many (option_to_list x ++ cs) o
     ways_here cs None its m n e f = ap (λ y. m + y) (none here) ∙ omega arith
       where
+        -- without a condition there is no second way, however the process is active
         none : (a : Activation) → if_both (choice a None) n ≡ 0
         none Inactive = refl
         none Plain = refl
@@ -103,12 +110,14 @@ module _ (g : Graph) (order : List ℕ) (topological : IsTopological g order) (f
         ap₂ (λ y z. y + z) e (go here ∙ ap (λ b. if b then many cs (set o c true) else 0) (sym (free_here c its)))
         ∙ sym (sum_chosen g (all_values g) (λ q. 1) c cs o)
       where
+        -- by how the process is active: only an active one has a second way
         go : (a : Activation) → if_both (choice a (Some c)) n ≡ (if is_active a then many cs (set o c true) else 0)
         go Inactive = refl
         go Plain = f c refl
         go (By i) = f c refl
 
-  -- the ways along the rest of the order are as many as the outcomes chosen over its conditions
+  -- The ways along the rest of the order are as many as the outcomes chosen over its conditions.
+  -- By induction on the rest of the order, step by step with `ways_here`.
   counted : (ps : List ℕ) (k : ℕ) (s : List (Option Bool)) (o : List Bool) → drop k order ≡ ps →
       AreSettled g order k s → IsOnWay k s o
       → tracks_from (map (step_of g) ps) s ≡ many (conditions_along g ps) o
@@ -124,7 +133,8 @@ module _ (g : Graph) (order : List ℕ) (topological : IsTopological g order) (f
       (λ c its. counted ps (k + 1) (settled s (step_of g p) true) (set o c true) f
       (settled_next g order topological k s are p r.0 few r.1 true) (turns k p s are r.0 r.1 o on c its))
 
-  -- the ways along the steps of an order are as many as the graph has tracks
+  -- The ways along the steps of an order are as many as the graph has tracks.
+  -- At the start no process is settled and all conditions are false; the outcomes chosen from there are the tracks.
   pub tracks_counted : tracks_from (map (step_of g) order) (replicate 128 None) ≡ track_count g
   tracks_counted = counted order 0 (replicate 128 None) (all_false g) refl (none_settled g order topological few)
       (record {

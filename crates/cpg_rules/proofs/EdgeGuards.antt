@@ -22,7 +22,7 @@ use Rattle.cpg_rules.specs.Guards.{IsEdgeBelow}
 -- given the guards of the first n edges
 module _ (g : Graph) (edges : List Edge) (are : edges ≡ g.edges) (n : ℕ) (xs : List EdgeGuard)
     (so_far : xs ≡ map (edge_guard_of g) (numbers_below n)) where
-  -- the edge of the number
+  -- the edge at the place
   abbrev here : Edge
   here = get_or edges n (record { from = 0; to = 0; size = 0; when = None; frozen = false })
 
@@ -60,13 +60,15 @@ module _ (g : Graph) (order : List ℕ) (topological : IsTopological g order) wh
       (sym (get_or-map-below (edge_guard_of g) (edge_count g) e (record { source = 0; test = None }) within))
       (record { source = source_in_order g order topological e within; test = below (condition_of g (source g e)) (edge_at g e).when (λ c is. condition_of_below g (source g e) c is) }))
     where
+      -- by whether the source has a condition, and whether the edge has a `when`
       below : (x : Option ℕ) (w : Option Bool) → ((c : ℕ) → x ≡ Some c → c < condition_count g) →
           IfSome (test_of x w) (λ t. t.condition < condition_count g)
       below None w f = tt
       below (Some c) None f = tt
       below (Some c) (Some v) f = f c refl
 
-  -- the test of an edge passes exactly if the edge takes the value of its source
+  -- The test of an edge passes exactly if the edge takes the value of its source.
+  -- Without a `when` both are true; an edge with one has a source with a condition, whose value both look at.
   pub passed : (values : List Bool) (e : ℕ) → e < edge_count g → (x : Option ℕ) → condition_of g (source g e) ≡ x →
       (w : Option Bool) →
       (edge_at g e).when ≡ w →

@@ -5,7 +5,8 @@ use Rattle.cpg_order.specs.Guard.{Guard, Leaf, Test}
 use Rattle.cpg_order.proofs.Outcomes.{same_activation_is, same_activation_refl}
 use Rattle.cpg_rules.specs.Trees.{same_guard}
 
--- trees that pass the comparison are equal
+-- Trees that pass the comparison are equal.
+-- By induction on both trees.
 pub same_guard-is : (s t : Guard) → same_guard s t ≡ true → s ≡ t
 same_guard-is (Leaf a) (Leaf b) h = ap Leaf (same_activation_is a b h)
 same_guard-is (Leaf a) (Test d low high) h = cc

@@ -39,7 +39,8 @@ module _ (g : Graph) (senders : HasSenderSlots g) (node : ℕ) where
       let slot = senders (broadcast_item g c) (omega arith) (ap (is_sent_item g) item ∙ some) in
       subst (λ n. has_slot g n ≡ true) (ap (λ i. node_of g (producer_of_item g i)) item ∙ at) slot
 
-  -- a node that sends has a slot
+  -- A node that sends has a slot.
+  -- What it sends, a message or a broadcast, is a sent item of the graph, whose sender has a slot.
   slot_of_sender : is_sender g node ≡ true → has_slot g node ≡ true
   slot_of_sender sends = elim (or_cases (sends_message g node) (nat_lt 1 (length g.nodes) && decides g node) sends) [
     | inl m ↦ (let r = list_any_parts (λ e. is_message_of g e node) (numbers_below (edge_count g)) m in
@@ -57,6 +58,7 @@ module _ (g : Graph) (senders : HasSenderSlots g) (node : ℕ) where
   no_lack lacks = let p = and_parts (is_sender g node) (not (has_slot g node)) lacks in
       go (has_slot g node) (slot_of_sender p.0) p.1
     where
+      -- the slot can't both be there and be missing
       go : (b : Bool) → b ≡ true → not b ≡ true → ⊥
       go true e f = both_ways false refl f
       go false e f = both_ways false refl e
@@ -65,7 +67,8 @@ module _ (g : Graph) (senders : HasSenderSlots g) (node : ℕ) where
 pub two_live : (n : ℕ) → n ≤ 1 → nat_lt 1 n ≡ true → ⊥
 two_live n l t = let h = ltb-true 1 n t in omega arith
 
--- an admitted graph shows no fault but that memory runs out
+-- An admitted graph shows no fault but that memory runs out.
+-- Fault by fault: each would break the rule that the graph keeps.
 pub no_fault : (g : Graph) (order : List ℕ) (trees : Guards) → IsAdmitted g order trees → (fault : RuleFault) →
     ShowsFault g fault →
     fault ≡ OutOfMemory

@@ -25,7 +25,7 @@ use Rattle.cpg_rules.specs.FaultNumber.{with_fault_number}
 use Rattle.cpg_rules.specs.Given.{GivesTopological}
 use Rattle.cpg_rules.specs.Guards.{Guards, tree_of, AreGuardsOf}
 
--- the graph stays within the limits
+-- a graph within its limits stays so with another fault number in range; no other limit looks at that number
 pub limits_same : (g : Graph) (faults : ℕ) → IsWithinLimits g → faults ≤ MOST_FAULTS →
     IsWithinLimits (with_fault_number g faults)
 limits_same g faults w few = record {
@@ -45,7 +45,7 @@ limits_same g faults w few = record {
   order = w.order;
 }
 
--- a graph stays within the limits without its order
+-- a graph within its limits stays so without its order; no other limit looks at the order
 pub orderless_within : (g : Graph) → IsWithinLimits g → IsWithinLimits (record g { order = None })
 orderless_within g w = record {
   faults = w.faults;
@@ -64,7 +64,7 @@ orderless_within g w = record {
   order = tt;
 }
 
--- what holds of a view of what is there holds of it
+-- what holds of the view of an option's value holds of the value's view
 pub of_view : {X Y : Type 0} (f : X → Y) (P : Y → Type 0) (r : Option X) (o : Option Y) → option_map f r ≡ o →
     IfSome o P →
     IfSome r (λ x. P (f x))
@@ -108,7 +108,7 @@ module _ (g : Graph) (faults : ℕ) where
   tracks_same =
       ap length (same_filter (is_track h) (is_track g) (outcomes (condition_count g)) (λ o among. track_same o))
 
-  -- single joins stay so
+  -- no join has two live inputs, as before
   joins_same : HasSingleJoins g → HasSingleJoins h
   joins_same single p values l join long =
       subst (λ n. n ≤ 1)
@@ -125,6 +125,7 @@ module _ (g : Graph) (faults : ℕ) where
   given_same : GivesTopological g → GivesTopological h
   given_same = go g.order
     where
+      -- by whether the graph gives an order
       go : (o : Option (List ℕ)) → IfSome o (IsTopological g) → IfSome o (IsTopological h)
       go None none = none
       go (Some order) top = topological_same order top
@@ -141,7 +142,7 @@ module _ (g : Graph) (faults : ℕ) where
   tail_same : (p : ℕ) → tail h p ≡ tail g p
   tail_same p = tail_within_same (process_count g) p
 
-  -- the urgency order stays
+  -- the urgency order stays: tails count executions without faults
   urgency_same : (order : List ℕ) → IsUrgencyOrder g order → IsUrgencyOrder h order
   urgency_same order urgent = record {
     all = urgent.all;
@@ -153,7 +154,7 @@ module _ (g : Graph) (faults : ℕ) where
 
   -- ---- guards
 
-  -- a tree stays ordered
+  -- a tree stays ordered: the processes of conditions are the same
   ordered_same : (order : List ℕ) (k : ℕ) (tree : Guard) → IsOrderedFrom g order k tree → IsOrderedFrom h order k tree
   ordered_same order k (Leaf a) is = is
   ordered_same order k (Test c off on) (within, later, is_off, is_on) = (
@@ -180,7 +181,7 @@ module _ (g : Graph) (faults : ℕ) where
     edges = are.edges;
   }
 
-  -- the graph stays well formed
+  -- the graph stays well-formed: no field looks at the fault number
   well_formed_same : WellFormed g → WellFormed h
   well_formed_same w = record {
     sources = w.sources;
@@ -196,7 +197,8 @@ module _ (g : Graph) (faults : ℕ) where
     few_conditions = w.few_conditions;
   }
 
-  -- a graph that is admitted is so with another fault number, by the same order and guards
+  -- A graph that is admitted is so with another fault number, by the same order and guards.
+  -- Each rule stays by itself.
   pub admitted_same : (order : List ℕ) (guards : Guards) → faults ≤ MOST_FAULTS → IsAdmitted g order guards →
       IsAdmitted h order guards
   admitted_same order guards few is = record {

@@ -62,7 +62,8 @@ module _ (g : Graph) (list : List ℕ) where
         let below = from_order (length list) list lawful.all (get_or list i 0) (Contains-get_or list i 0 l) in
         omega (arith, below, long)
 
-    -- the first early process that is found in the list is the first early one
+    -- The first early process that is found in the list is the first early one.
+    -- A process that comes before it is among the ones before its place.
     pub early_first : (i : ℕ) → i < length list → ((q : ℕ) → Contains (take i list) q → is_early g list q ≡ false) →
         is_early g list (get_or list i 0) ≡ true →
         IsFirstEarly g list (get_or list i 0)
@@ -73,6 +74,7 @@ module _ (g : Graph) (list : List ℕ) where
       before = λ q earlier. before q (taken q earlier);
     }
       where
+        -- what comes before the process at place i is among the first i
         taken : (q : ℕ) → comes_before list q (get_or list i 0) ≡ true → Contains (take i list) q
         taken q earlier =
             let c = before_contains list q (get_or list i 0) earlier in
@@ -110,7 +112,8 @@ module _ (g : Graph) (list : List ℕ) where
       all = subst (λ n. IsPermutation (numbers_below n) list) (sym whole_long) each_once;
     }
 
-    -- a list that lacks no process, and in which none is early, is topological
+    -- A list that lacks no process, and in which none is early, is topological.
+    -- The ends of an edge differ and are both in the list; were the target first, it would be early.
     pub none_early : (order : List ℕ) → IsTopological g order → IsWithinLimits g →
         ((p : ℕ) → p < process_count g → is_early g list p ≡ false) →
         IsTopological g list
@@ -119,6 +122,7 @@ module _ (g : Graph) (list : List ℕ) where
       forward = λ e c. first e (numbers-Contains (edge_count g) e c);
     }
       where
+        -- along each edge the source comes before the target
         first : (e : ℕ) → e < edge_count g → comes_before list (source g e) (target g e) ≡ true
         first e l =
             let ends = limits.edges e _ l in
@@ -134,7 +138,8 @@ module _ (g : Graph) (list : List ℕ) where
 
   -- ---- and a topological one shows none
 
-  -- in a topological list no process is lacking or early
+  -- In a topological list no process is lacking or early.
+  -- It has each process, and the source of each input comes before the process.
   pub none_bad : IsTopological g list → (p : ℕ) → IsLacking g list p ⊎ IsFirstEarly g list p → ⊥
   none_bad topological p (inl lacking) = both_ways (is_in list p) lacking.lacks
       (is_in_from list p (Contains-order (process_count g) list topological.all p lacking.within))
@@ -146,7 +151,8 @@ module _ (g : Graph) (list : List ℕ) where
 
   -- ---- one process at most shows it
 
-  -- one process is the first that the order lacks
+  -- One process is the first that the order lacks.
+  -- Of two different ones the lesser would be lacking before the other.
   one_lacking : (p q : ℕ) → IsLacking g list p → IsLacking g list q → p ≡ q
   one_lacking p q a b = elim (cases_lt p q) [
     | inl l ↦ absurd (both_ways (is_in list p) a.lacks (b.before p l))
@@ -156,7 +162,8 @@ module _ (g : Graph) (list : List ℕ) where
     ]
   ]
 
-  -- one process at most is the first that stands too early
+  -- One process at most is the first that stands too early.
+  -- Of two different ones the one that comes first would be early before the other.
   one_early : (p q : ℕ) → IsFirstEarly g list p → IsFirstEarly g list q → p ≡ q
   one_early p q a b = elim (cases_eq p q) [
     | inl same ↦ same

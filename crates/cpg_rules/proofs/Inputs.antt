@@ -12,7 +12,7 @@ use Rattle.cpg_rules.proofs.Collect.{collects, passes_over}
 -- given the inputs of a process among the first n edges
 module _ (g : Graph) (edges : List Edge) (are : edges ≡ g.edges) (p n : ℕ) (xs : List Input)
     (so_far : xs ≡ map (input_of g) (filter (λ e. target g e == p) (numbers_below n))) where
-  -- the edge of the number
+  -- the edge at the place
   abbrev here : Edge
   here = get_or edges n (record { from = 0; to = 0; size = 0; when = None; frozen = false })
 

@@ -10,7 +10,8 @@ use Rattle.cpg_rules.specs.Composing.{composed_along}
 use Rattle.cpg_rules.specs.Guards.{Guards, edge_guard_of, AreGuardsOf}
 use Rattle.cpg_rules.proofs.Composed.{place_ranks, length_composed, composed_guards}
 
--- trees composed along an order, with the edge guards of the graph, are the guards of the graph
+-- Trees composed along an order, with the edge guards of the graph, are the guards of the graph.
+-- The arguments are made those of `composed_guards` one by one, and that says it of each tree.
 pub made : (g : Graph) (order : List ℕ) → IsTopological g order → (ranks : List ℕ) → ranks ≡ place_ranks g order →
     (steps : List ActivationStep) →
     steps ≡ map (step_of g) order

@@ -27,10 +27,12 @@ module _ (o : List Bool) where
       outcome_at (tested c off on) o ≡ (if get_or o c false then outcome_at on o else outcome_at off o)
   tested_at c off on = go (same_guard off on) refl
     where
+      -- with equal sides it doesn't matter which one is taken
       one_tree : off ≡ on → (v : Bool) → outcome_at off o ≡ (if v then outcome_at on o else outcome_at off o)
       one_tree e true = ap (λ t. outcome_at t o) e
       one_tree e false = refl
 
+      -- by whether the sides are equal, so that no test is made
       go : (b : Bool) → same_guard off on ≡ b →
           outcome_at (if b then off else Test c off on) o
           ≡ (if get_or o c false then outcome_at on o else outcome_at off o)
@@ -43,6 +45,7 @@ module _ (o : List Bool) where
   passing_at a None = refl
   passing_at a (Some t) = go t.value
     where
+      -- the test for true passes exactly if the value is true
       yes_at : (v : Bool) → (if v then a else Inactive) ≡ (if same_bool true v then a else Inactive)
       yes_at true = refl
       yes_at false = refl
@@ -52,6 +55,7 @@ module _ (o : List Bool) where
       no_at true = refl
       no_at false = refl
 
+      -- by the value that the test asks for
       go : (w : Bool) →
           outcome_at (if w then tested t.condition (Leaf Inactive) (Leaf a)
           else tested t.condition (Leaf a) (Leaf Inactive)) o ≡
@@ -59,11 +63,13 @@ module _ (o : List Bool) where
       go true = tested_at t.condition (Leaf Inactive) (Leaf a) ∙ yes_at (get_or o t.condition false)
       go false = tested_at t.condition (Leaf a) (Leaf Inactive) ∙ no_at (get_or o t.condition false)
 
-  -- the tree of an input gives the activation exactly if the source is active and the test passes
+  -- The tree of an input gives the activation exactly if the source is active and the test passes.
+  -- By induction on the source's tree: a leaf is replaced, and a test goes on to the side of the outcome.
   pub live_tree_at : (a : Activation) (x : Option ValueTest) (t : Guard) →
       outcome_at (live_tree a x t) o ≡ (if is_active (outcome_at t o) && is_passed x o then a else Inactive)
   live_tree_at a x (Leaf b) = go (is_active b)
     where
+      -- by whether the leaf is active
       go : (v : Bool) →
           outcome_at (if v then passing a x else Leaf Inactive) o ≡ (if v && is_passed x o then a else Inactive)
       go true = passing_at a x
@@ -71,6 +77,7 @@ module _ (o : List Bool) where
   live_tree_at a x (Test c off on) = tested_at c (live_tree a x off) (live_tree a x on)
       ∙ go (get_or o c false) (live_tree_at a x off) (live_tree_at a x on)
     where
+      -- by the value of the condition in the outcome
       go : (v : Bool) →
           outcome_at (live_tree a x off) o ≡ (if is_active (outcome_at off o) && is_passed x o then a else Inactive)
           → outcome_at (live_tree a x on) o ≡ (if is_active (outcome_at on o) && is_passed x o then a else Inactive)
@@ -113,11 +120,13 @@ module _ (o : List Bool) where
       sooner x y p q h k true = k
       sooner x y p q h k false = h
 
-      -- a tree that goes against another comes to what settles of both
+      -- A tree that goes against another comes to what settles of both.
+      -- By induction on the second tree, in the three cases of `against`: the same condition, an earlier one, a later one.
       against_at : (t : Guard) → outcome_at (against ranks c off on t) o ≡ first_settling join mine (outcome_at t o)
       against_at (Leaf b) = tested_at c (off (Leaf b)) (on (Leaf b)) ∙ own (Leaf b) (get_or o c false)
       against_at (Test d s t) = go (c == d) (nat_lt (rank ranks d) (rank ranks c)) refl (against_at s) (against_at t)
         where
+          -- by whether both test the same condition, and otherwise by which test is of the earlier one
           go : (a b : Bool) → (c == d) ≡ a →
               outcome_at (against ranks c off on s) o ≡ first_settling join mine (outcome_at s o) →
               outcome_at (against ranks c off on t) o ≡ first_settling join mine (outcome_at t o)
@@ -130,11 +139,13 @@ module _ (o : List Bool) where
               (outcome_at s o) (outcome_at t o) h k (get_or o d false)
           go false false e h k = tested_at c (off (Test d s t)) (on (Test d s t)) ∙ own (Test d s t) (get_or o c false)
 
-    -- two trees that are walked down together give the first activation if it settles the matter, or else the second
+    -- Two trees that are walked down together give the first activation if it settles the matter, or else the second.
+    -- By induction on the first tree: a leaf settles or doesn't, and a test goes against the second tree.
     pub met_at : (s t : Guard) →
         outcome_at (met join ranks s t) o ≡ first_settling join (outcome_at s o) (outcome_at t o)
     met_at (Leaf a) t = go (settles join a)
       where
+        -- by whether the leaf settles the matter
         go : (v : Bool) → outcome_at (if v then Leaf a else t) o ≡ (if v then a else outcome_at t o)
         go true = refl
         go false = refl
@@ -155,7 +166,8 @@ module _ (ranks : List ℕ) where
   ranked_from k l m (Leaf a) h r = tt
   ranked_from k l m (Test c off on) h r = (r.0, (let a = r.1 in omega arith), r.2, r.3, r.4)
 
-  -- a tree with ranks below a bound has them below each greater bound
+  -- A tree with ranks below a bound has them below each greater bound.
+  -- By induction on the tree.
   pub ranked_to : (k m n : ℕ) (t : Guard) → m ≤ n → IsRanked ranks k m t → IsRanked ranks k n t
   ranked_to k m n (Leaf a) h r = tt
   ranked_to k m n (Test c off on) h r = (
@@ -173,14 +185,18 @@ module _ (ranks : List ℕ) where
       → IsRanked ranks k m (tested c off on)
   tested_ranked k m c off on within h l r q = go (same_guard off on)
     where
+      -- by whether the sides are equal, so that no test is made
       go : (b : Bool) → IsRanked ranks k m (if b then off else Test c off on)
       go true = ranked_from k (rank ranks c + 1) m off (omega arith) r
       go false = (within, h, l, r, q)
 
   -- a test, if there is one, comes after the tests with ranks below m, and its rank is below n
   pub record IsRankedTest (m n : ℕ) (x : Option ValueTest) : Type 0 where
+    -- it is of a condition that has a rank
     pub within : (t : ValueTest) → x ≡ Some t → t.condition < length ranks
+    -- this rank is at least m
     pub from : (t : ValueTest) → x ≡ Some t → m ≤ rank ranks t.condition
+    -- this rank is below n
     pub to : (t : ValueTest) → x ≡ Some t → rank ranks t.condition < n
 
   -- the tree of a test is ordered by rank
@@ -189,21 +205,25 @@ module _ (ranks : List ℕ) where
   passing_ranked k m n a None r h = tt
   passing_ranked k m n a (Some t) r h = go t.value
     where
+      -- the rank of the test is at least k, since k is at most m
       low : k ≤ rank ranks t.condition
       low = let f = r.from t refl in omega arith
 
+      -- by the value that the test asks for
       go : (w : Bool) →
           IsRanked ranks k n
           (if w then tested t.condition (Leaf Inactive) (Leaf a) else tested t.condition (Leaf a) (Leaf Inactive))
       go true = tested_ranked k n t.condition (Leaf Inactive) (Leaf a) (r.within t refl) low (r.to t refl) tt tt
       go false = tested_ranked k n t.condition (Leaf a) (Leaf Inactive) (r.within t refl) low (r.to t refl) tt tt
 
-  -- the tree of an input is ordered by rank, if its test comes after those of the source
+  -- The tree of an input is ordered by rank, if its test comes after those of the source.
+  -- By induction on the source's tree: at a leaf stands the input's own test, with a rank above those on the way.
   pub live_tree_ranked : (k m n : ℕ) (a : Activation) (x : Option ValueTest) (t : Guard) → IsRankedTest m n x → k ≤ m →
       m ≤ n → IsRanked ranks k m t →
       IsRanked ranks k n (live_tree a x t)
   live_tree_ranked k m n a x (Leaf b) r h l s = go (is_active b)
     where
+      -- by whether the leaf is active
       go : (v : Bool) → IsRanked ranks k n (if v then passing a x else Leaf Inactive)
       go true = passing_ranked k m n a x r h
       go false = tt
@@ -228,6 +248,7 @@ module _ (ranks : List ℕ) where
       against_ranked k (Test d s t) h r = go (c == d) (nat_lt (rank ranks d) (rank ranks c)) refl refl
           (λ l. against_ranked (rank ranks d + 1) s l r.3) (λ l. against_ranked (rank ranks d + 1) t l r.4)
         where
+          -- by whether both test the same condition, and otherwise by which test is of the earlier one
           go : (a b : Bool) → (c == d) ≡ a → nat_lt (rank ranks d) (rank ranks c) ≡ b
               → (rank ranks d + 1 ≤ rank ranks c → IsRanked ranks (rank ranks d + 1) m (against ranks c off on s)) →
               (rank ranks d + 1 ≤ rank ranks c → IsRanked ranks (rank ranks d + 1) m (against ranks c off on t))
@@ -251,11 +272,13 @@ module _ (ranks : List ℕ) where
               tested_ranked k m c (off (Test d s t)) (on (Test d s t)) within h below (of_off (Test d s t) later)
               (of_on (Test d s t) later)
 
-    -- two trees that are walked down together are ordered by rank
+    -- Two trees that are walked down together are ordered by rank.
+    -- By induction on the first tree, since of two tests the one of lower rank comes first.
     pub met_ranked : (join : Bool) (k : ℕ) (s t : Guard) → IsRanked ranks k m s → IsRanked ranks k m t →
         IsRanked ranks k m (met join ranks s t)
     met_ranked join k (Leaf a) t r q = go (settles join a)
       where
+        -- by whether the leaf settles the matter
         go : (v : Bool) → IsRanked ranks k m (if v then Leaf a else t)
         go true = tt
         go false = q
@@ -269,6 +292,7 @@ module _ (ranks : List ℕ) where
 pub tested_reduced : (c : ℕ) (off on : Guard) → IsReduced off → IsReduced on → IsReduced (tested c off on)
 tested_reduced c off on h j = go (same_guard off on) refl
   where
+    -- by whether the sides are equal, so that no test is made
     go : (b : Bool) → same_guard off on ≡ b → IsReduced (if b then off else Test c off on)
     go true e = h
     go false e = (
@@ -282,16 +306,19 @@ passing_reduced : (a : Activation) (x : Option ValueTest) → IsReduced (passing
 passing_reduced a None = tt
 passing_reduced a (Some t) = go t.value
   where
+    -- by the value that the test asks for
     go : (w : Bool) →
         IsReduced (if w then tested t.condition (Leaf Inactive) (Leaf a)
         else tested t.condition (Leaf a) (Leaf Inactive))
     go true = tested_reduced t.condition (Leaf Inactive) (Leaf a) tt tt
     go false = tested_reduced t.condition (Leaf a) (Leaf Inactive) tt tt
 
--- the tree of an input is reduced
+-- The tree of an input is reduced.
+-- By induction on the source's tree: each test is made by `tested`.
 pub live_tree_reduced : (a : Activation) (x : Option ValueTest) (t : Guard) → IsReduced (live_tree a x t)
 live_tree_reduced a x (Leaf b) = go (is_active b)
   where
+    -- by whether the leaf is active
     go : (v : Bool) → IsReduced (if v then passing a x else Leaf Inactive)
     go true = passing_reduced a x
     go false = tt
@@ -307,6 +334,7 @@ module _ (ranks : List ℕ) (c : ℕ) (off on : Guard → Guard) (of_off : (t : 
   against_reduced (Test d s t) r =
       go (c == d) (nat_lt (rank ranks d) (rank ranks c)) (against_reduced s r.1) (against_reduced t r.2)
     where
+      -- by whether both test the same condition, and otherwise by which test is of the earlier one
       go : (a b : Bool) → IsReduced (against ranks c off on s) → IsReduced (against ranks c off on t)
           → IsReduced (if a then tested c (off s) (on t) else (if b then tested d (against ranks c off on s)
           (against ranks c off on t) else tested c (off (Test d s t)) (on (Test d s t))))
@@ -315,11 +343,13 @@ module _ (ranks : List ℕ) (c : ℕ) (off on : Guard → Guard) (of_off : (t : 
       go false false h k =
           tested_reduced c (off (Test d s t)) (on (Test d s t)) (of_off (Test d s t) r) (of_on (Test d s t) r)
 
--- two reduced trees that are walked down together make a reduced tree
+-- Two reduced trees that are walked down together make a reduced tree.
+-- By induction on the first tree: each test is made by `tested`.
 pub met_reduced : (join : Bool) (ranks : List ℕ) (s t : Guard) → IsReduced s → IsReduced t →
     IsReduced (met join ranks s t)
 met_reduced join ranks (Leaf a) t r q = go (settles join a)
   where
+    -- by whether the leaf settles the matter
     go : (v : Bool) → IsReduced (if v then Leaf a else t)
     go true = tt
     go false = q

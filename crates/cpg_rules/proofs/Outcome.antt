@@ -13,7 +13,8 @@ use Rattle.cpg_base.specs.WellFormed.{HasSingleJoins}
 use Rattle.cpg_base.proofs.Lists.{get_or-map-below}
 use Rattle.cpg_rules.specs.Alternatives.{IsSingleJoin, is_set, scenario_of}
 
--- a scenario with these values and no faults is that of the standings
+-- A scenario with these values and no faults is that of the standings.
+-- Its values are equal condition by condition, and its faults as lists.
 pub scenario_given : (g : Graph) (s : List (Option Bool)) (t : Scenario) → length t.values ≡ condition_count g →
     t.faults ≡ replicate (process_count g) 0
     → ((c : ℕ) → c < condition_count g → get_or t.values c false ≡ is_set (get_or s (process_of g c) None)) →
@@ -30,5 +31,6 @@ scenario_given g s t long faults given = ap₂ (λ vs fs. let r : Scenario = rec
 pub single_joins : (g : Graph) → ((p : ℕ) → p < process_count g → IsSingleJoin g p) → HasSingleJoins g
 single_joins g h = λ p values l join long. few (length (filter (live g values) (inputs g p))) (h p l values join long)
   where
+    -- a count that isn't above 1 is at most 1
     few : (n : ℕ) → nat_lt 1 n ≡ false → n ≤ 1
     few n e = ltb-false 1 n e

@@ -29,7 +29,7 @@ use Rattle.cpg_rules.proofs.Parts.{all_parts}
 use Rattle.cpg_rules.proofs.Along.{rest_first, rest_more}
 use Rattle.cpg_rules.proofs.Searched.{search_none, search_some}
 
--- nothing is both true and false
+-- no truth value is both true and false
 true_false : (a : Bool) → a ≡ true → a ≡ false → ⊥
 true_false true h k = cc
 true_false false h k = cc
@@ -37,7 +37,7 @@ true_false false h k = cc
 -- ---- inputs whose sources stand alike
 
 module _ (s u : List (Option Bool)) where
-  -- the inputs are live alike
+  -- each of these inputs is live by the standings s exactly if it is by u
   abbrev pub AreLiveAlike : List Input → Type 0
   AreLiveAlike [] = Unit {0}
   AreLiveAlike (i ∷ is) = (is_live_in s i ≡ is_live_in u i) × AreLiveAlike is
@@ -84,10 +84,13 @@ module _ (s u : List (Option Bool)) where
 
 -- standings of the processes that agree on each process whose activation the steps read
 record IsAlike (steps : List ActivationStep) (s u : List (Option Bool)) : Type 0 where
+  -- there are as many standings in both
   long : length s ≡ length u
+  -- they agree on what the steps read
   same : (q : ℕ) → are_reading steps q ≡ true → get_or s q None ≡ get_or u q None
 
--- setting the same standing keeps standings alike
+-- Setting the same standing keeps standings alike.
+-- q is the process that was set, within the lists or past their ends, or another one.
 set_alike : (s u : List (Option Bool)) (p q : ℕ) (x : Option Bool) → length s ≡ length u →
     get_or s q None ≡ get_or u q None →
     get_or (set s p x) q None ≡ get_or (set u p x) q None
@@ -111,7 +114,8 @@ module _ (step : ActivationStep) (kept : List ActivationStep) (s u : List (Optio
   here_alike : IsAlike (step ∷ kept) s u → activation_in s step ≡ activation_in u step
   here_alike alike = activation_alike s u step.join step.inputs (inputs_alike alike)
 
-  -- standings stay alike after a step that is kept
+  -- Standings stay alike after a step that is kept.
+  -- The step's inputs have the same standings in both, so its process gets the same one.
   next_alike : IsAlike (step ∷ kept) s u → (v : Bool) → IsAlike kept (settled s step v) (settled u step v)
   next_alike alike v = record {
     long = length-set s step.process (standing (activation_in s step) v) ∙ alike.long
@@ -141,13 +145,16 @@ not_chosen Plain (Some c) n h = cc
 not_chosen (By e) None n h = refl
 not_chosen (By e) (Some c) n h = cc
 
--- from standings that are alike, both walks count the same tracks
+-- From standings that are alike, both walks count the same tracks.
+-- By induction on the steps: a step that is kept splits both walks alike. One that isn't has no condition and so no choice,
+-- and later steps that are kept don't read it.
 tracks_alike : (steps : List ActivationStep) (s u : List (Option Bool)) → IsAlike (rested Conditions steps) s u →
     tracks_from steps s ≡ tracks_from (rested Conditions steps) u
 tracks_alike [] s u alike = refl
 tracks_alike (step ∷ steps) s u alike =
     go (is_rested Conditions step (rested Conditions steps)) refl alike (λ t w a. tracks_alike steps t w a)
   where
+    -- by whether the walk rests on the step
     go : (b : Bool) → is_rested Conditions step (rested Conditions steps) ≡ b →
         IsAlike (if b then step ∷ rested Conditions steps else rested Conditions steps) s u
         → ((t w : List (Option Bool)) → IsAlike (rested Conditions steps) t w →
@@ -179,7 +186,8 @@ all_cons : (P : ActivationStep → Type 0) (step : ActivationStep) (steps : List
 all_cons P step steps h t zero d l = h
 all_cons P step steps h t (suc k) d l = t k d (omega arith)
 
--- what holds of all steps holds of those that a walk rests on
+-- What holds of all steps holds of those that a walk rests on.
+-- By induction on the steps: each is kept or left out.
 pub all_rested : (P : ActivationStep → Type 0) (aim : Aim) (steps : List ActivationStep) → All P steps →
     All P (rested aim steps)
 all_rested P aim [] h = h
@@ -187,6 +195,7 @@ all_rested P aim (step ∷ steps) h =
     let parts = all_parts P step (step ∷ steps) steps refl h in
     go (is_rested aim step (rested aim steps)) parts.0 (all_rested P aim steps parts.1)
   where
+    -- by whether the walk rests on the step, so that it is kept
     go : (b : Bool) → P step → All P (rested aim steps) →
         All P (if b then step ∷ rested aim steps else rested aim steps)
     go true first more = all_cons P step (rested aim steps) first more
@@ -242,13 +251,16 @@ module _ (p : ℕ) where
       are_two_live s step.inputs ≡ are_two_live u step.inputs
   two_alike step kept s u alike = ap (nat_lt 1) (count_alike s u step.inputs (inputs_alike step kept s u alike))
 
-  -- both searches find something, or neither does
+  -- Both searches find something, or neither does.
+  -- By induction on the steps: at p both look at the same inputs; a step that is kept splits both searches alike; one that
+  -- isn't kept isn't read by later ones, so either of its ways finds the same.
   some_alike : (steps : List ActivationStep) (s u : List (Option Bool)) → IsAlike (rested (Process p) steps) s u →
       is_some (found_from p steps s) ≡ is_some (found_from p (rested (Process p) steps) u)
   some_alike [] s u alike = refl
   some_alike (step ∷ steps) s u alike = go (step.process == p)
       (are_reading (rested (Process p) steps) step.process) refl refl alike (λ t w a. some_alike steps t w a)
     where
+      -- by whether the step is that of p, and otherwise by whether a later step that is kept reads it
       go : (a b : Bool) → (step.process == p) ≡ a → are_reading (rested (Process p) steps) step.process ≡ b
           → IsAlike (if a || b then step ∷ rested (Process p) steps else rested (Process p) steps) s u
           → ((t w : List (Option Bool)) → IsAlike (rested (Process p) steps) t w →
@@ -257,6 +269,7 @@ module _ (p : ℕ) where
           else first_some (found_from p steps (settled s step false))
           (if_other (choice (activation_in s step) step.condition) (found_from p steps (settled s step true))))
           ≡ is_some (found_from p (if a || b then step ∷ rested (Process p) steps else rested (Process p) steps) u)
+      -- the step is that of p: both searches end here, and look at inputs that are live alike
       go true b e f alike later =
           ap₂ (λ two at. is_some (if two then Some s else None)) (two_alike step (rested (Process p) steps) s u alike) e
           ∙ is_u (are_two_live u step.inputs)
@@ -265,9 +278,11 @@ module _ (p : ℕ) where
           (if_other (choice (activation_in u step) step.condition)
           (found_from p (rested (Process p) steps) (settled u step true))))) (sym e)
         where
+          -- whether something is found is the same with either standings
           is_u : (two : Bool) → is_some (if two then Some s else None) ≡ is_some (if two then Some u else None)
           is_u true = refl
           is_u false = refl
+      -- the step is kept: both searches split at it alike
       go false true e f alike later =
           ap (λ a. is_some (first_some (found_from p steps (settled s step false))
           (if_other (choice a step.condition) (found_from p steps (settled s step true)))))
@@ -284,6 +299,7 @@ module _ (p : ℕ) where
           else first_some (found_from p (rested (Process p) steps) (settled u step false))
           (if_other (choice (activation_in u step) step.condition)
           (found_from p (rested (Process p) steps) (settled u step true))))) (sym e)
+      -- the step isn't kept, so no later step reads it: either of its ways finds the same
       go false false e f alike later = some_passed (choice (activation_in s step) step.condition)
           (found_from p steps (settled s step false)) (found_from p steps (settled s step true))
           (found_from p (rested (Process p) steps) u)
@@ -294,8 +310,11 @@ module _ (p : ℕ) where
 module _ (g : Graph) (order : List ℕ) (topological : IsTopological g order) (few : process_count g ≤ 128) (p : ℕ) where
   -- the steps from a place on are not yet settled, and the same conditions are set in both standings
   record AreSetAlike (k : ℕ) (s u : List (Option Bool)) : Type 0 where
+    -- there is a standing for each number that a process may have
     long : length s ≡ 128
+    -- the same conditions are true by both
     sets : (q : ℕ) → is_set (get_or s q None) ≡ is_set (get_or u q None)
+    -- from the place on no process has a standing in the second
     fresh : (q : ℕ) → q < process_count g → k ≤ place order q → get_or u q None ≡ None
 
   -- an inactive process has no value set
@@ -323,7 +342,8 @@ module _ (g : Graph) (order : List ℕ) (topological : IsTopological g order) (f
       fresh = λ r l m. sets.fresh r l (omega arith);
     }
 
-    -- standings stay set alike when the process at the next place is settled
+    -- Standings stay set alike when the process at the next place is settled.
+    -- r is the process that is settled, which gets the same standing in both, or another one, of which nothing changes.
     sets_kept : length u ≡ 128 → (v : Bool) → activation_in s (step_of g q) ≡ activation_in u (step_of g q) →
         AreSetAlike (k + 1) (settled s (step_of g q) v) (settled u (step_of g q) v)
     sets_kept long v same = record {
@@ -341,7 +361,8 @@ module _ (g : Graph) (order : List ℕ) (topological : IsTopological g order) (f
           (λ e. let f = ap (place order) e in omega (arith, at)) ∙ sets.fresh r l (omega arith);
     }
 
-  -- both searches find the same conditions set
+  -- Both searches find the same conditions set.
+  -- By induction on the rest of the order, with the cases of `some_alike`.
   found_alike : (qs : List ℕ) (k : ℕ) (s u : List (Option Bool)) → drop k order ≡ qs →
       IsAlike (rested (Process p) (map (step_of g) qs)) s u →
       AreSetAlike k s u
@@ -353,6 +374,7 @@ module _ (g : Graph) (order : List ℕ) (topological : IsTopological g order) (f
       go r.0 r.1 ((step_of g q).process == p) (are_reading (rested (Process p) (map (step_of g) qs)) q) refl refl alike
       (λ t w a b. found_alike qs (k + 1) t w more a b)
     where
+      -- by whether the process is p, and otherwise by whether a later step that is kept reads it
       go : q < process_count g → place order q ≡ k → (a b : Bool) → (q == p) ≡ a →
           are_reading (rested (Process p) (map (step_of g) qs)) q ≡ b
           → IsAlike (if a || b then (step_of g q) ∷ (rested (Process p) (map (step_of g) qs))
@@ -367,6 +389,7 @@ module _ (g : Graph) (order : List ℕ) (topological : IsTopological g order) (f
           (found_from p (map (step_of g) qs) (settled s (step_of g q) true))))
           (found_from p (if a || b then (step_of g q) ∷ (rested (Process p) (map (step_of g) qs))
           else (rested (Process p) (map (step_of g) qs))) u)
+      -- q is p: both searches end here, and look at inputs that are live alike
       go h at true b e f alike later =
           subst (λ a. AreFoundAlike (if are_two_live s (step_of g q).inputs then Some s else None)
           (if a then (if are_two_live u (step_of g q).inputs then Some u else None)
@@ -378,9 +401,11 @@ module _ (g : Graph) (order : List ℕ) (topological : IsTopological g order) (f
           (sym (two_alike p (step_of g q) (rested (Process p) (map (step_of g) qs)) s u alike))
           (at_join (are_two_live u (step_of g q).inputs)))
         where
+          -- at p both searches find their standings, or both find nothing
           at_join : (two : Bool) → AreFoundAlike (if two then Some s else None) (if two then Some u else None)
           at_join true = sets.sets
           at_join false = tt
+      -- q is another process that is kept: both searches split at it alike
       go h at false true e f alike later =
           let here = here_alike (step_of g q) (rested (Process p) (map (step_of g) qs)) s u alike in
           let long : length u ≡ 128 = sym alike.long ∙ sets.long in
@@ -408,6 +433,7 @@ module _ (g : Graph) (order : List ℕ) (topological : IsTopological g order) (f
           (later (settled s (step_of g q) true) (settled u (step_of g q) true)
           (next_alike (step_of g q) (rested (Process p) (map (step_of g) qs)) s u alike true)
           (sets_kept k q h at s u sets long true here))))
+      -- q isn't kept, so no later step reads it: it is passed over, whichever way it goes
       go h at false false e f alike later =
           found_passed (choice (activation_in s (step_of g q)) (step_of g q).condition)
           (found_from p (map (step_of g) qs) (settled s (step_of g q) false))
@@ -441,22 +467,26 @@ module _ (g : Graph) (order : List ℕ) (topological : IsTopological g order) (f
   abbrev searched : Option (List (Option Bool))
   searched = found_from p (rested (Process p) (map (step_of g) order)) start
 
-  -- if that search finds nothing, no outcome makes two inputs of the process live
+  -- If that search finds nothing, no outcome makes two inputs of the process live.
+  -- Then the search along all steps finds nothing either.
   pub rested_none : p < process_count g → searched ≡ None → (o : List Bool) → has_two_live g o p ≡ false
   rested_none within e o = go (found_from p (map (step_of g) order) start) refl
       (subst (AreFoundAlike (found_from p (map (step_of g) order) start)) e rested_alike)
     where
+      -- by what the search along all steps finds
       go : (x : Option (List (Option Bool))) → found_from p (map (step_of g) order) start ≡ x → AreFoundAlike x None →
           has_two_live g o p ≡ false
       go None f a = search_none g order topological few p within f o
       go (Some found) f a = absurd a
 
-  -- if it finds standings, they give the least scenario in which two inputs of the process are live
+  -- If it finds standings, they give the least scenario in which two inputs of the process are live.
+  -- The search along all steps finds standings with the same conditions set, and so the same scenario.
   pub rested_some : p < process_count g → (found : List (Option Bool)) → searched ≡ Some found →
       IsLeast g order (λ t. has_two_live g t.values p ≡ true) (scenario_of g found)
   rested_some within found e = go (found_from p (map (step_of g) order) start) refl
       (subst (AreFoundAlike (found_from p (map (step_of g) order) start)) e rested_alike)
     where
+      -- standings that set the same conditions have the same scenario
       same : (other : List (Option Bool)) → AreFoundAlike (Some other) (Some found) →
           scenario_of g other ≡ scenario_of g found
       same other a = ap (λ f. let s : Scenario = record {
@@ -464,6 +494,7 @@ module _ (g : Graph) (order : List ℕ) (topological : IsTopological g order) (f
         faults = replicate (process_count g) 0;
       } in s) (λ i c. a (process_of g c) i)
 
+      -- by what the search along all steps finds
       go : (x : Option (List (Option Bool))) → found_from p (map (step_of g) order) start ≡ x →
           AreFoundAlike x (Some found) →
           IsLeast g order (λ t. has_two_live g t.values p ≡ true) (scenario_of g found)

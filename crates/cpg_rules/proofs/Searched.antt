@@ -39,7 +39,9 @@ use Rattle.cpg_rules.proofs.Start.{none_settled, all_follow}
 module _ (g : Graph) (s t : Scenario) where
   -- nowhere more in what a process gives to the key
   pub record IsNoMore (p : ℕ) : Type 0 where
+    -- p has no more faults in s than in t
     pub faults : fault_of s p ≤ fault_of t p
+    -- if p has a condition, this isn't true in s and false in t
     pub values : (c : ℕ) → condition_of g p ≡ Some c →
         number_of_value (get_or s.values c false) ≤ number_of_value (get_or t.values c false)
 
@@ -52,7 +54,8 @@ module _ (g : Graph) (s t : Scenario) where
   no_more_value (Some c) xs ys h k = not_below-cons (number_of_value (get_or t.values c false))
       (number_of_value (get_or s.values c false)) xs ys (h c refl) k
 
-  -- if the value is false in s and true in t, the key of t is not below that of s
+  -- If the value is false in s and true in t, the key of t is not below that of s.
+  -- At this condition the number in s is 0 and in t 1, so s is below.
   strictly : (o : Option ℕ) (c : ℕ) (xs ys : List ℕ) → o ≡ Some c → get_or s.values c false ≡ false →
       get_or t.values c false ≡ true
       → is_below (value_in_key t.values o ++ xs) (value_in_key s.values o ++ ys) ≡ false
@@ -92,17 +95,19 @@ module _ (g : Graph) (order : List ℕ) (s : List (Option Bool)) where
       get_or (scenario_of g s).values c false ≡ is_set (get_or s (process_of g c) None)
   value_in c l = get_or-map-below (λ d. is_set (get_or s (process_of g d) None)) (condition_count g) c false l
 
-  -- the scenario that is made has no faults
+  -- The scenario that is made has no faults.
+  -- Each number in the list is 0, and what is past its end counts as 0.
   no_faults : (p : ℕ) → fault_of (scenario_of g s) p ≡ 0
   no_faults p = get_or-zeros (process_count g) p
     where
+      -- each entry of a list of zeros, and any entry beyond it, is 0
       get_or-zeros : (n i : ℕ) → get_or (replicate {A = ℕ} n 0) i 0 ≡ 0
       get_or-zeros n i = elim (cases_lt i n) [
         | inl l ↦ get_or-replicate n i 0 0 l
         | inr l ↦ get_or_past (replicate {A = ℕ} n 0) i 0 (omega (arith, length-replicate {A = ℕ} n 0))
       ]
 
-  -- it follows the standings that it is made from
+  -- the values of a scenario that is made of standings follow these
   own_follows : (k : ℕ) → Follows g order k s (scenario_of g s).values
   own_follows k = record { takes = λ c l m v e. value_in c l ∙ ap is_set e }
 
@@ -115,12 +120,13 @@ module _ (g : Graph) (order : List ℕ) (s : List (Option Bool)) where
     budget = omega (arith, sum-zeros (process_count g));
   }
     where
+      -- zeros add up to 0
       sum-zeros : (n : ℕ) → sum (replicate n 0) ≡ 0
       sum-zeros n = omega (arith, sum_by-replicate (λ (x : ℕ). x) n 0)
 
 -- given a topological order of a graph of at most 128 processes
 module _ (g : Graph) (order : List ℕ) (topological : IsTopological g order) (few : process_count g ≤ 128) where
-  -- nothing stands from a place on
+  -- no process from place k of the order on stands as active yet
   record IsFresh (k : ℕ) (s : List (Option Bool)) : Type 0 where
     unset : (q : ℕ) → q < process_count g → k ≤ place order q → get_or s q None ≡ None
 
@@ -136,7 +142,8 @@ module _ (g : Graph) (order : List ℕ) (topological : IsTopological g order) (f
       ∙ ap length (same_filter (is_live_edge g s) (live g o) (inputs g p)
       (λ e c. live_here g order topological k s are o follows p e at c)))
 
-  -- no value of the outcome of standings is more than in an outcome that goes their way
+  -- No value of the outcome of standings is more than in an outcome that goes their way.
+  -- A condition that is true by its standing is true in the outcome, since that follows the standings.
   no_more : (k : ℕ) (s u : List (Option Bool)) (t : Scenario) → Follows g order k s t.values → (p : ℕ) →
       place order p < k → get_or u p None ≡ get_or s p None →
       IsNoMore g (scenario_of g u) t p
@@ -150,6 +157,7 @@ module _ (g : Graph) (order : List ℕ) (topological : IsTopological g order) (f
         (subst (λ q. get_or s q None ≡ Some v) (sym of_it) is));
   }
     where
+      -- by the standing of the process: the scenario is true there only if the outcome has to be
       below : (c : ℕ) → get_or (scenario_of g u).values c false ≡ is_set (get_or s p None) → (x : Option Bool) →
           get_or s p None ≡ x
           → ((v : Bool) → get_or s p None ≡ Some v → get_or t.values c false ≡ v) →
@@ -164,22 +172,29 @@ module _ (g : Graph) (order : List ℕ) (topological : IsTopological g order) (f
   module _ (p : ℕ) (within : p < process_count g) where
     -- the first standings at the process with two live inputs, of those that go on from others
     record IsFirstFrom (k : ℕ) (s found : List (Option Bool)) : Type 0 where
+      -- the standings found are right up to p
       settled : AreSettled g order (place order p) found
+      -- two inputs of p are live by them
       two : are_two_live found (step_of g p).inputs ≡ true
+      -- they go on from s, whose standings they keep
       keeps : (q : ℕ) → q < process_count g → place order q < k → get_or found q None ≡ get_or s q None
+      -- no scenario that follows s and makes two inputs live comes before theirs
       least : (t : Scenario) → Follows g order k s t.values → has_two_live g t.values p ≡ true →
           is_before g order t (scenario_of g found) ≡ false
 
-    -- what the search answers
+    -- what an answer of the search means for the outcomes of this way: none makes two inputs live, or these standings are the
+    -- first that do
     abbrev Answers : ℕ → List (Option Bool) → Option (List (Option Bool)) → Type 0
     Answers k s None = (o : List Bool) → Follows g order k s o → has_two_live g o p ≡ false
     Answers k s (Some found) = IsFirstFrom k s found
 
-    -- at the process itself the search answers by its inputs
+    -- At the process itself the search answers by its inputs.
+    -- If two are live by the standings, they are so in each outcome of this way, and the standings themselves are the least.
     at_process : (k : ℕ) (s : List (Option Bool)) → AreSettled g order k s → IsFresh k s → place order p ≡ k →
         Answers k s (if are_two_live s (step_of g p).inputs then Some s else None)
     at_process k s are fresh at = go (are_two_live s (step_of g p).inputs) refl
       where
+        -- by whether two inputs are live by these standings
         go : (b : Bool) → are_two_live s (step_of g p).inputs ≡ b → Answers k s (if b then Some s else None)
         go false e = λ o f. sym (two_live_here k s are o f p at) ∙ e
         go true e = record {
@@ -191,6 +206,7 @@ module _ (g : Graph) (order : List ℕ) (topological : IsTopological g order) (f
               (λ q c its. each t f q c its (cases_lt (place order q) k));
         }
           where
+            -- by whether the condition's process comes before place k: if so both follow s, and if not it is false here
             each : (t : Scenario) → Follows g order k s t.values → (q c : ℕ) → condition_of g q ≡ Some c →
                 (place order q < k) ⊎ (k ≤ place order q)
                 → number_of_value (get_or (scenario_of g s).values c false) ≤ number_of_value (get_or t.values c false)
@@ -230,11 +246,12 @@ module _ (g : Graph) (order : List ℕ) (topological : IsTopological g order) (f
       whole : order ≡ take k order ++ q ∷ qs
       whole = sym (take-append-drop k order) ∙ ap (λ xs. take k order ++ xs) rest
 
-      -- those before have earlier places
+      -- what stands among the first k of the order is a process of the graph with a place before k
       before_here : (r : ℕ) → Contains (take k order) r → (r < process_count g) × (place order r < k)
       before_here r c = in_take g order topological k r c
 
-      -- if only one way is taken, the search answers as it does after it
+      -- If only one way is taken, the search answers as it does after it.
+      -- Without a choice each outcome of this way goes on with false.
       one : choice here (condition_of g q) ≡ None → (x : Option (List (Option Bool))) → Answers (k + 1) off x →
           Answers k s (first_some x None)
       one none None a = λ o f. a o (follows_one_way g order topological k s are q h few at false none o f)
@@ -255,6 +272,7 @@ module _ (g : Graph) (order : List ℕ) (topological : IsTopological g order) (f
         active_here : is_active here ≡ true
         active_here = go here some
           where
+            -- by how the process is active: an inactive one has no choice
             go : (a : Activation) → choice a (condition_of g q) ≡ Some c → is_active a ≡ true
             go Inactive e = cc
             go Plain e = refl
@@ -265,7 +283,8 @@ module _ (g : Graph) (order : List ℕ) (topological : IsTopological g order) (f
         stands = get_or-set_same s q (standing here false) None (omega (arith, are.long))
             ∙ ap (λ b. if b then Some false else None) active_here
 
-        -- a scenario that follows and makes two inputs live has the value true if the search with false finds none
+        -- A scenario that follows and makes two inputs live has the value true if the search with false finds none.
+        -- With the value false it is no earlier than what was found. With true it comes later, since what was found has false.
         least_off : (found : List (Option Bool)) → IsFirstFrom (k + 1) off found → (t : Scenario) →
             Follows g order k s t.values → has_two_live g t.values p ≡ true → (v : Bool) →
             get_or t.values c false ≡ v
@@ -282,11 +301,14 @@ module _ (g : Graph) (order : List ℕ) (topological : IsTopological g order) (f
             (λ r i. let b = before_here r i in no_more k s found t f r b.1 (kept false found first r b.0 b.1))
             (omega (arith, no_faults g order found q)) its low e)
 
-        -- the answers of both values together are the answer, if the condition may be chosen
+        -- The answers of both values together are the answer, if the condition may be chosen.
+        -- Nothing found with either value: no outcome of this way has two. Something found with false is the least; otherwise what
+        -- is found with true is.
         both : (x y : Option (List (Option Bool))) → Answers (k + 1) off x → Answers (k + 1) on y →
             Answers k s (first_some x y)
         both None None a b = λ o f. go o f (get_or o c false) refl
           where
+            -- by the value of the condition in the outcome: each way was searched in vain
             go : (o : List Bool) → Follows g order k s o → (v : Bool) → get_or o c false ≡ v →
                 has_two_live g o p ≡ false
             go o f false e = a o (follows_value g order topological k s are q h few at false c some o e f)
@@ -298,6 +320,7 @@ module _ (g : Graph) (order : List ℕ) (topological : IsTopological g order) (f
           least = λ t f two. go t f two (get_or t.values c false) refl;
         }
           where
+            -- by the value of the condition: with false the first search found the least, and true comes later anyway
             go : (t : Scenario) → Follows g order k s t.values → has_two_live g t.values p ≡ true → (v : Bool) →
                 get_or t.values c false ≡ v →
                 is_before g order t (scenario_of g found) ≡ false
@@ -317,6 +340,7 @@ module _ (g : Graph) (order : List ℕ) (topological : IsTopological g order) (f
           Answers k s (first_some x (if_other (choice here (condition_of g q)) y))
       either x y a b = go (choice here (condition_of g q)) refl
         where
+          -- by whether the process has a condition to choose
           go : (z : Option ℕ) → choice here (condition_of g q) ≡ z → Answers k s (first_some x (if_other z y))
           go None e = one e x a
           go (Some c) e = both c e x y a b
@@ -329,7 +353,8 @@ module _ (g : Graph) (order : List ℕ) (topological : IsTopological g order) (f
           (λ e. let f = ap (place order) e in omega arith) ∙ fresh.unset r l (omega arith);
     }
 
-    -- the search along the rest of the order answers for all outcomes that follow the standings
+    -- The search along the rest of the order answers for all outcomes that follow the standings.
+    -- By induction on the rest of the order: the next process is p itself, or splits the search, or goes one way.
     searched : (qs : List ℕ) (k : ℕ) (s : List (Option Bool)) → drop k order ≡ qs → AreSettled g order k s →
         IsFresh k s → k ≤ place order p →
         Answers k s (found_from p (map (step_of g) qs) s)
@@ -343,6 +368,7 @@ module _ (g : Graph) (order : List ℕ) (topological : IsTopological g order) (f
         (λ n. searched qs (k + 1) (settled s (step_of g q) true) f
         (settled_next g order topological k s are q r.0 few r.1 true) (fresh_next k q s true r.1 fresh) n)
       where
+        -- by whether the next process in the order is p
         go : (b : Bool) → (q == p) ≡ b → q < process_count g → place order q ≡ k
             → (k + 1 ≤ place order p → Answers (k + 1) (settled s (step_of g q) false)
             (found_from p (map (step_of g) qs) (settled s (step_of g q) false)))

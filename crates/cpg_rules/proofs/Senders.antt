@@ -26,6 +26,7 @@ module _ (g : Graph) (w : IsWithinLimits g) (none_lacks : (n : ℕ) → n < leng
   slot_there : (n : ℕ) → n < length g.nodes → is_sender g n ≡ true → has_slot g n ≡ true
   slot_there n l sends = go (has_slot g n) (none_lacks n l)
     where
+      -- by whether the node has a slot
       go : (b : Bool) → (is_sender g n && not b) ≡ false → b ≡ true
       go true e = refl
       go false e = absurd (both_ways (is_sender g n && true) e (and_from (is_sender g n) true sends refl))
@@ -53,7 +54,8 @@ module _ (g : Graph) (w : IsWithinLimits g) (none_lacks : (n : ℕ) → n < leng
       (and_from (nat_lt 1 (length g.nodes)) (decides g node) some
       (any_there (λ d. node_of g (process_of g d) == node) (condition_count g) c l (eq-eqb node node refl))))
 
-  -- if no node that sends lacks a slot, each node that sends has one
+  -- If no node that sends lacks a slot, each node that sends has one.
+  -- By the kind of the item: a start isn't sent, and a message or a broadcast makes its node a sender.
   pub senders_have_slots : HasSenderSlots g
   senders_have_slots x l sent = elim (item_cases g x l) [
     | inl a ↦ (let never : false ≡ true = sym (ap (is_sent_item g) a.1) ∙ sent in cc)

@@ -1,4 +1,4 @@
--- What is composed with shared parts.
+-- Shared parts make the trees that the definitions compose, and keep what was made before.
 use Rattle.std.proofs.Common.{ℕ, zero, suc, ◌<◌, ◌≡◌, Bool, true, false, not, ◌==◌, if◌then◌else◌, List, [], ◌∷◌}
 use Rattle.std.proofs.Common.{length, set, replicate, Option, Some, None, refl, sym, ap, ap₂, ◌∙◌, subst}
 use Rattle.std.proofs.Common.{length-set}
@@ -19,6 +19,7 @@ pub seeded : (parts : List SharedPart) (count n : ℕ) (roots : List ℕ) (t : G
     trees_of parts roots ≡ replicate count t
 seeded parts count n roots t e is = ap (trees_of parts) e ∙ go count
   where
+    -- by induction on the number of copies
     go : (k : ℕ) → trees_of parts (replicate k n) ≡ replicate k t
     go zero = refl
     go (suc k) = ap₂ (λ u us. u ∷ us) is (go k)
@@ -71,7 +72,8 @@ module _ (a b : Sharing) (count p n : ℕ) (roots : List ℕ) (t : Guard) (are :
   pub step_trees : trees_of b.parts (set roots p n) ≡ set (trees_of a.parts roots) p t
   step_trees = map_set b.parts roots p n ∙ ap₂ (λ ts u. set ts p u) (same_trees a b roots made.more are.within) made.is
 
--- after one more step the trees are those of the rest of the steps
+-- After one more step the trees are those of the rest of the steps.
+-- The step's own values take the place of the definition's one by one; `step_trees` says that one root is set.
 pub step_along : (g : Graph) (a b : Sharing) (count p n : ℕ) (roots : List ℕ) (are : AreRoots a.parts count roots)
     (join : Bool) (inputs : List Input)
     (made : Makes a b (composed g join a.ranks (trees_of a.parts roots) inputs) n)
@@ -119,7 +121,7 @@ module _ (g : Graph) (a b c : Sharing) (count : ℕ) (roots : List ℕ) (are : A
   abbrev later : Option Guard
   later = union g b.ranks (trees_of b.parts roots) left
 
-  -- it is the one from before, since parts are only added
+  -- the tree of the later inputs is the one by the parts from before, since parts are only added
   later_is : later ≡ union g a.ranks (trees_of a.parts roots) left
   later_is = ap₂ (λ ranks trees. union g ranks trees left) made.more.ranks (same_trees a b roots made.more are.within)
 
@@ -204,7 +206,8 @@ apart_first g a b c roots first n m (Some t) h made =
     ap not (ap (λ ranks. are_both_live ranks (tree_at c.parts n) (tree_at c.parts m)) whole.more.ranks
     ∙ ap₂ (are_both_live a.ranks) made.is whole.is)
 
--- the inputs are apart exactly if the first is never live at once with a later one
+-- The inputs are apart exactly if the first is never live at once with a later one.
+-- The later ones have a tree, so no two of them are live at once.
 pub apart_more : (g : Graph) (a b c : Sharing) (count : ℕ) (roots : List ℕ) (are : AreRoots a.parts count roots)
     (input : Input) (left inputs : List Input) (all : inputs ≡ input ∷ left)
     (n m : ℕ) (y : Option ℕ) → y ≡ Some m → MakesUnion a b (union g a.ranks (trees_of a.parts roots) left) y →

@@ -29,11 +29,13 @@ module _ (g : Graph) (s : List (Option Bool)) where
   abbrev pub is_live_edge : ℕ → Bool
   is_live_edge e = is_taken (edge_at g e).when (get_or s (source g e) None)
 
-  -- the first live input by the standings is the first of those that are live
+  -- The first live input by the standings is the first of those that are live.
+  -- By induction on the inputs.
   first_live-is : (es : List ℕ) → first_live s (map (input_of g) es) ≡ by_first (filter is_live_edge es)
   first_live-is [] = refl
   first_live-is (e ∷ es) = go (is_live_edge e) (first_live-is es)
     where
+      -- by whether the first input is live
       go : (b : Bool) → first_live s (map (input_of g) es) ≡ by_first (filter is_live_edge es) →
           (if b then By e else first_live s (map (input_of g) es))
           ≡ by_first (if b then e ∷ filter is_live_edge es else filter is_live_edge es)
@@ -77,7 +79,8 @@ module _ (g : Graph) (order : List ℕ) (topological : IsTopological g order) wh
       sooner : place order (source g e) < k
       sooner = omega (arith, input_goes_up g order topological p e input)
 
-      -- its value by the standings is that of the outcome
+      -- An edge accepts the value of its source's condition by the standings exactly if it accepts that of the outcome.
+      -- An edge with a `when` has a source with a condition, whose value the outcome has from the standings.
       takes_same : (v : Bool) → get_or s (source g e) None ≡ Some v → (w : Option Bool) → (edge_at g e).when ≡ w →
           takes w v ≡ takes w (value_of g o (source g e))
       takes_same v is None when = refl
@@ -113,7 +116,7 @@ module _ (g : Graph) (order : List ℕ) (topological : IsTopological g order) wh
 
     -- given the process at the place, and a value of its condition
     module _ (p : ℕ) (h : p < process_count g) (few : process_count g ≤ 128) (at : place order p ≡ k) (v : Bool) where
-      -- the standings with that of p
+      -- the standings after p is settled with the value v
       abbrev next : List (Option Bool)
       next = settled s (step_of g p) v
 
@@ -121,7 +124,7 @@ module _ (g : Graph) (order : List ℕ) (topological : IsTopological g order) wh
       next_here : get_or next p None ≡ standing (activation_in s (step_of g p)) v
       next_here = get_or-set_same s p (standing (activation_in s (step_of g p)) v) None (omega (arith, are.long))
 
-      -- the others are as they were
+      -- all other processes stand as before
       next_before : (q : ℕ) → q ≢ p → get_or next q None ≡ get_or s q None
       next_before q n = get_or-set_other s p q (standing (activation_in s (step_of g p)) v) None n
 
@@ -142,7 +145,8 @@ module _ (g : Graph) (order : List ℕ) (topological : IsTopological g order) wh
       some_standing Plain v w e = (refl, cc)
       some_standing (By i) v w e = (refl, cc)
 
-      -- an outcome follows the standings after a process, if the condition of the process has the value
+      -- An outcome follows the standings after a process, if the condition of the process has the value.
+      -- A condition is that of the process, or of one before it, whose standing stays.
       pub follows_on : (o : List Bool) → Follows g order k s o →
           ((c : ℕ) → c < condition_count g → process_of g c ≡ p → is_active (activation_in s (step_of g p)) ≡ true →
           get_or o c false ≡ v) →
@@ -198,7 +202,8 @@ module _ (g : Graph) (order : List ℕ) (topological : IsTopological g order) wh
       is_some-standing Plain = refl
       is_some-standing (By i) = refl
 
-      -- the standings after a process are right for the next place
+      -- The standings after a process are right for the next place.
+      -- A process is the one that was settled, by its inputs, or one before it, whose standing stays.
       pub settled_next : AreSettled g order (k + 1) next
       settled_next = record {
         long = length-set s p (standing (activation_in s (step_of g p)) v) ∙ are.long;

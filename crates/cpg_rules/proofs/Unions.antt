@@ -60,12 +60,14 @@ module _ (o : List Bool) where
       own : (t : Guard) → on_in t ≡ true → (off t || on t) ≡ true
       own t h = either (get_or o c false) (off t) (on t) (λ e. at_off e t h) (λ e. at_on e t h)
 
-      -- trees that are live for one outcome are found to be live at once
+      -- Trees that are live for one outcome are found to be live at once.
+      -- By induction on the second tree, in the three cases of `beside`: the same condition, an earlier one, a later one.
       beside_at : (t : Guard) → on_in t ≡ true → beside ranks c off on t ≡ true
       beside_at (Leaf b) h = and_from (is_active b) (off (Leaf b) || on (Leaf b)) h (own (Leaf b) h)
       beside_at (Test d low high) h = go (c == d) (nat_lt (rank ranks d) (rank ranks c)) refl
           (λ e. beside_at low (way_off d low high h e)) (λ e. beside_at high (way_on d low high h e))
         where
+          -- by whether both test the same condition, and otherwise by which test is of the earlier one
           go : (a b : Bool) → (c == d) ≡ a → (get_or o d false ≡ false → beside ranks c off on low ≡ true) →
               (get_or o d false ≡ true → beside ranks c off on high ≡ true)
               → (if a then off low || on high else (if b then beside ranks c off on low || beside ranks c off on high
@@ -88,7 +90,9 @@ module _ (o : List Bool) where
 
 -- this many live inputs are one at most, and an activation is active exactly if there is one
 record IsOne (a : Activation) (n : ℕ) : Type 0 where
+  -- the activation is active exactly if there is one
   active : is_active a ≡ nat_lt 0 n
+  -- there is one at most
   few : nat_lt 1 n ≡ false
 
 -- without a live input there is at most one
@@ -102,7 +106,8 @@ first_alone e f true h =
     subst (λ v. IsOne (By e) (length (if v then e ∷ [] else []))) (sym h) (record { active = refl; few = refl })
 first_alone e f false h = subst (λ v. IsOne Inactive (length (if v then e ∷ [] else []))) (sym h) none_live
 
--- an input that is never live with the later ones makes at most one live input of all
+-- An input that is never live with the later ones makes at most one live input of all.
+-- The input is live, and then no later one is, or it isn't.
 first_with : (e : ℕ) (es : List ℕ) (f : ℕ → Bool) (b : Bool) → f e ≡ b → (a : Activation) →
     IsOne a (length (filter f es)) →
     (b ≡ true → is_active a ≡ true → ⊥)
@@ -110,6 +115,7 @@ first_with : (e : ℕ) (es : List ℕ) (f : ℕ → Bool) (b : Bool) → f e ≡
 first_with e es f true h a one apart = subst (λ v. IsOne (By e) (length (if v then e ∷ filter f es else filter f es)))
     (sym h) (go (length (filter f es)) one)
   where
+    -- by whether a later input is live, which the first forbids
     go : (n : ℕ) → IsOne a n → IsOne (By e) (suc n)
     go zero one = record { active = refl; few = refl }
     go (suc n) one = absurd (apart refl (one.active ∙ lt-ltb 0 (suc n) (omega arith)))
@@ -121,11 +127,12 @@ first_with e es f false h a one apart =
 module _ (g : Graph) (order : List ℕ) (topological : IsTopological g order) (guards : Guards)
     (are : AreGuardsOf g order guards) (ranks : List ℕ) (p : ℕ)
     (o : List Bool) (long : length o ≡ condition_count g) where
-  -- the tree of an input
+  -- the tree of the input with this edge
   abbrev tree_in : ℕ → Guard
   tree_in e = input_tree g true guards.trees (input_of g e)
 
-  -- the tree of an input gives the input exactly if it is live
+  -- The tree of an input gives the input exactly if it is live.
+  -- It is active in the outcomes in which the source is active and the test passes.
   input_at : (e : ℕ) → Contains (inputs g p) e → outcome_at (tree_in e) o ≡ (if live g o e then By e else Inactive)
   input_at e c =
       let within : e < edge_count g = (inputs_parts g p e c).0 in
@@ -158,7 +165,8 @@ module _ (g : Graph) (order : List ℕ) (topological : IsTopological g order) (g
   with_first e es c t one apart = first_with e es (live g o) (live g o e) refl (outcome_at t o) one
       (λ l k. never_both (tree_in e) t apart (input_is_active e c l) k)
 
-  -- the tree of some inputs, if there is one, is active exactly if one of them is live, and no two of them are
+  -- The tree of some inputs, if there is one, is active exactly if one of them is live, and no two of them are.
+  -- By induction on the inputs: none, one alone, or one that is apart from the later ones.
   union_is : (es : List ℕ) → ((e : ℕ) → Contains es e → Contains (inputs g p) e) →
       IsUnion es (union g ranks guards.trees (map (input_of g) es))
   union_is [] f = none_live
@@ -168,6 +176,7 @@ module _ (g : Graph) (order : List ℕ) (topological : IsTopological g order) (g
       go (union g ranks guards.trees (map (input_of g) (d ∷ es)))
       (union_is (d ∷ es) (λ x k. f x (Contains-rest e (d ∷ es) x k)))
     where
+      -- the first edge is an input of p
       its : Contains (inputs g p) e
       its = f e (Contains-first e (d ∷ es))
 
@@ -180,6 +189,7 @@ module _ (g : Graph) (order : List ℕ) (topological : IsTopological g order) (g
           (sym (met_at o true ranks (tree_in e) t ∙ ap (λ a. first_settling true a (outcome_at t o)) (input_at e its)))
           (with_first e (d ∷ es) its t one is)
 
+      -- by whether two of the later inputs are live at once
       go : (x : Option Guard) → IsUnion (d ∷ es) x →
           IsUnion (e ∷ d ∷ es) (union_with ranks (map (input_of g) (d ∷ es)) (tree_in e) x)
       go None h = tt

@@ -17,7 +17,8 @@ module _ (g : Graph) (order : List ℕ) where
   abbrev pub Sooner : ℕ → ℕ → Type 0
   Sooner c d = place order (process_of g c) < place order (process_of g d)
 
-  -- the conditions on the way through an ordered tree are those of the graph, at later places
+  -- The conditions on the way through an ordered tree are those of the graph, at later places.
+  -- By induction on the tree: the condition at the top, or one further down, which stands later still.
   way_within : (k : ℕ) (t : Guard) (o : List Bool) → IsOrderedFrom g order k t → (c : ℕ) → Contains (way t o) c →
       (c < condition_count g) × (k ≤ place order (process_of g c))
   way_within k (Leaf a) o h c d = absurd (Contains-nil c d)
@@ -27,6 +28,7 @@ module _ (g : Graph) (order : List ℕ) where
         (λ i. way_within (place order (process_of g e) + 1) off o h.2 c i)
   ]
     where
+      -- by the value of the tested condition
       go : (v : Bool) → Contains (if v then way on o else way off o) c
           → (Contains (way on o) c →
           (c < condition_count g) × (place order (process_of g e) + 1 ≤ place order (process_of g c)))
@@ -36,18 +38,21 @@ module _ (g : Graph) (order : List ℕ) where
       go true i f j = let r = f i in (r.0, let a = r.1 in let b = h.1 in omega arith)
       go false i f j = let r = j i in (r.0, let a = r.1 in let b = h.1 in omega arith)
 
-  -- on the way through an ordered tree the processes of the conditions rise in the order
+  -- On the way through an ordered tree the processes of the conditions rise in the order.
+  -- By induction on the tree: all conditions further down stand later than the one at the top.
   way_rises : (k : ℕ) (t : Guard) (o : List Bool) → IsOrderedFrom g order k t → Rises Sooner (way t o)
   way_rises k (Leaf a) o h = tt
   way_rises k (Test c off on) o h = go (get_or o c false) (way_rises (place order (process_of g c) + 1) off o h.2)
       (way_rises (place order (process_of g c) + 1) on o h.3)
     where
+      -- by the value of the tested condition
       go : (v : Bool) → Rises Sooner (way off o) → Rises Sooner (way on o) →
           Rises Sooner (c ∷ (if v then way on o else way off o))
       go true i j = (λ d m. let r = (way_within (place order (process_of g c) + 1) on o h.3 d m).1 in omega arith, j)
       go false i j = (λ d m. let r = (way_within (place order (process_of g c) + 1) off o h.2 d m).1 in omega arith, i)
 
--- an outcome's way through the tree of a process tests exactly the conditions that decide, in urgency order
+-- An outcome's way through the tree of a process tests exactly the conditions that decide, in urgency order.
+-- Both lists rise along the order and have the same conditions, so they are equal.
 pub ways_are_deciding : WaysAreDeciding
 ways_are_deciding g order p tree values urgency topological guard long =
     same_rising (Sooner g order) (λ a b s t. omega arith) (way tree values) (deciding_along g order values p)

@@ -14,32 +14,43 @@ use Rattle.cpg_rules.specs.Rules.{AllFit, LacksSlot, IsAboveSlot}
 use Rattle.cpg_rules.specs.Given.{IsBadOrder}
 use Rattle.cpg_rules.specs.Admission.{IsAdmitted}
 
+-- The records below name what a graph has kept when the next cause is looked for. Each adds one rule to the one before.
 -- the graph has no cycle, and this is its urgency order
 pub record IsOrdered (g : Graph) (order : List ℕ) : Type 0 where
+  -- each edge leads forward in the urgency order, so there is no cycle
   pub urgency : IsUrgencyOrder g order
   pub topological : IsTopological g order
 
--- the graph also has few enough tracks
+-- it has no cycle, and few enough tracks
 pub record HasFewTracks (g : Graph) (order : List ℕ) : Type 0 where
+  -- it has no cycle
   pub ordered : IsOrdered g order
+  -- it has at most 16,384 tracks
   pub few : track_count g ≤ most_tracks
 
--- no join has two live inputs, either
+-- it has no cycle, few enough tracks, and no join with two live inputs
 pub record HasFewInputs (g : Graph) (order : List ℕ) : Type 0 where
+  -- what is looked at before joins
   pub tracks : HasFewTracks g order
+  -- no outcome gives a join two live inputs
   pub joins : HasSingleJoins g
 
--- each node that sends has a slot, too
+-- it has all this, and a slot for each node that sends
 pub record HasSlots (g : Graph) (order : List ℕ) : Type 0 where
+  -- what is looked at before slots
   pub inputs : HasFewInputs g order
+  -- each node that sends has a slot
   pub slots : HasSenderSlots g
 
--- no message is larger than its slot holds, either
+-- it has all this, and no message that is larger than its sender's slot holds
 pub record HasSizes (g : Graph) (order : List ℕ) : Type 0 where
+  -- what is looked at before sizes
   pub slots : HasSlots g order
+  -- no message is larger than its sender's slot holds
   pub sizes : AllFit g
 
--- what each refusal means
+-- What each refusal means: its cause is there, and the graph keeps the rules that are looked at before it. Memory that runs
+-- out means nothing about the graph.
 abbrev pub ShowsFault : Graph → RuleFault → Type 0
 ShowsFault g (Cycle walk) = IsCycle g walk
 ShowsFault g TooManyTracks = (order : List ℕ) × IsOrdered g order × (most_tracks < track_count g)

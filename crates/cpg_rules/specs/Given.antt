@@ -12,13 +12,15 @@ use Rattle.cpg_rules.specs.declared.given.GivenFault.TheVariants.{Bad, OutOfMemo
 abbrev pub GivesTopological : Graph → Type 0
 GivesTopological g = IfSome g.order (IsTopological g)
 
--- no process is missing from a list
+-- each process of the graph is in the list
 abbrev pub LacksNone : Graph → List ℕ → Type 0
 LacksNone g list = (p : ℕ) → p < process_count g → is_in list p ≡ true
 
--- the least process that is missing from a list
+-- p is the least process of the graph that is missing from a list
 pub record IsLacking (g : Graph) (list : List ℕ) (p : ℕ) : Type 0 where
+  -- p is a process of the graph
   pub within : p < process_count g
+  -- the list lacks it, and no lesser one
   pub lacks : is_in list p ≡ false
   pub before : (q : ℕ) → q < p → is_in list q ≡ true
 
@@ -26,21 +28,24 @@ pub record IsLacking (g : Graph) (list : List ℕ) (p : ℕ) : Type 0 where
 abbrev pub is_early : Graph → List ℕ → ℕ → Bool
 is_early g list p = list_any (λ e. comes_before list p (source g e)) (inputs g p)
 
--- no process is missing, and this is the first in the list that comes before the source of one of its inputs
+-- no process is missing, and p is the first in the list that comes before the source of one of its inputs
 pub record IsFirstEarly (g : Graph) (list : List ℕ) (p : ℕ) : Type 0 where
+  -- the list has each process of the graph, of which p is one
   pub all : LacksNone g list
   pub within : p < process_count g
+  -- p is early, and no process before it in the list is
   pub early : is_early g list p ≡ true
   pub before : (q : ℕ) → comes_before list q p ≡ true → is_early g list q ≡ false
 
--- the graph gives an order that isn't topological: this process is missing from it, or is the first that comes too
--- early
+-- the graph gives an order that isn't topological: p is missing from it, or is the first that comes before a source
 pub record IsBadOrder (g : Graph) (p : ℕ) : Type 0 where
+  -- the order that the graph gives
   pub order : List ℕ
   pub given : g.order ≡ Some order
+  -- p shows that it isn't topological
   pub bad : IsLacking g order p ⊎ IsFirstEarly g order p
 
--- what a fault of a given order means
+-- what a fault of `given_order` means; memory that runs out means nothing about the order
 abbrev pub ShowsGivenFault : Graph → GivenFault → Type 0
 ShowsGivenFault g (Bad p) = IsBadOrder g p
 ShowsGivenFault g OutOfMemory = ⊤

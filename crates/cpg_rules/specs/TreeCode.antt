@@ -1,4 +1,4 @@
--- How a proof distinguishes trees: a tree as a list of steps, and back.
+-- A code for guard trees, by which a proof tells equal trees from others: a tree as a list of pieces, and back.
 use Rattle.std.specs.Prelude.{ℕ, ◌≡◌, List, [], ◌∷◌, Option, Some, None, ◌⊎◌, refl}
 use Rattle.std.proofs.Common.{inl, inr, ◌∙◌}
 use Rattle.std.specs.Coded.{Coded, code_by, coded_list, coded_option, coded_ℕ, coded⊎}
@@ -6,7 +6,7 @@ use Rattle.cpg_base.specs.declared.activation.Activation.{Activation}
 use Rattle.cpg_base.specs.declared.activation.Activation.TheVariants.{Inactive, Plain, By}
 use Rattle.cpg_order.specs.Guard.{Guard, Leaf, Test}
 
--- an activation as an option, and back
+-- the code of an activation: None if it is inactive, Some None if it is plain, and Some (Some e) if it is by edge e
 abbrev pub activation_to : Activation → Option (Option ℕ)
 activation_to Inactive = None
 activation_to Plain = Some None
@@ -29,25 +29,30 @@ abbrev pub activation_code : Coded Activation
 activation_code =
     code_by (Option (Option ℕ)) (coded_option (coded_option coded_ℕ)) activation_to activation_from activation_back
 
--- a leaf, or the condition of a test whose trees come before it
+-- a leaf, or the condition of a test, whose two sides come before it
 abbrev pub Piece : Type 0
 Piece = Activation ⊎ ℕ
 
--- a tree as a list of pieces: both sides of a test, and then the test
+-- the pieces of a tree, before the rest: of a test the side for false, the side for true, and then its condition
 abbrev pub pieces_of : Guard → List Piece → List Piece
 pieces_of (Leaf a) rest = inl a ∷ rest
 pieces_of (Test c off on) rest = pieces_of off (pieces_of on (inr c ∷ rest))
 
--- the tree that pieces stand for, with a stack of trees read so far
+-- The tree of some pieces, if these trees were read before, the last of them first. A condition takes the last two as
+-- its sides. Pieces that are those of no tree give a leaf.
 abbrev pub tree_from : List Piece → List Guard → Guard
 tree_from [] [] = Leaf Inactive
+-- no piece is left: the tree that was read last is the whole
 tree_from [] (t ∷ ts) = t
 tree_from (inl a ∷ rest) ts = tree_from rest (Leaf a ∷ ts)
+-- a condition without two trees before it: no tree has such pieces
 tree_from (inr c ∷ rest) [] = Leaf Inactive
 tree_from (inr c ∷ rest) (t ∷ []) = Leaf Inactive
+-- the side for true was read last, since it comes after the side for false
 tree_from (inr c ∷ rest) (on ∷ off ∷ ts) = tree_from rest (Test c off on ∷ ts)
 
--- the pieces of a tree are read as the tree
+-- The pieces of a tree are read as the tree. By induction on the tree: of a test first the side for false is read, then
+-- the side for true, and then the condition joins them.
 pub tree_from-pieces : (t : Guard) (rest : List Piece) (ts : List Guard) →
     tree_from (pieces_of t rest) ts ≡ tree_from rest (t ∷ ts)
 tree_from-pieces (Leaf a) rest ts = refl

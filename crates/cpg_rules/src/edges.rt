@@ -7,21 +7,26 @@ ghost use Rattle.cpg_rules.specs.Guards.{edge_guard_of, test_of};
 use cpg_base::{OutOfMemory, Problem};
 use std::alloc::Global;
 
-/// A test that a condition has a value.
+/// A test, which passes if a condition has a value.
 #[derive(Clone, Copy, Debug, PartialEq, Eq)]
 pub struct ValueTest {
+    /// The number of the condition.
     pub condition: u32,
+    /// The value that it has to have.
     pub value: bool,
 }
 
 /// When an edge is live: its source is active and the test passes, if there is one.
 #[derive(Clone, Copy, Debug, PartialEq, Eq)]
 pub struct EdgeGuard {
+    /// The number of the process that the edge leads away from.
     pub source: u32,
+    /// The test that the source's condition has to pass; `None` if the edge has no `when`.
     pub test: Option<ValueTest>,
 }
 
-/// The test of a conditional edge, by the condition of its source.
+/// Returns the test of an edge with this `when`, by the condition of its source, and `None` if it has no `when` or the
+/// source no condition.
 pub fn test_of(condition: Option<u32>, when: Option<bool>) -> Option<ValueTest>
     ensures { result ≡ test_of condition when }
 {
@@ -30,7 +35,7 @@ pub fn test_of(condition: Option<u32>, when: Option<bool>) -> Option<ValueTest>
     Some(ValueTest { condition, value })
 }
 
-/// The guards of all edges, by number.
+/// Returns the guard of each edge of the graph, by number.
 pub fn edge_guards(alloc: Global, problem: &Problem) -> Result<Vec<EdgeGuard>, OutOfMemory>
     ensures { IfOk result (λ guards. guards.items ≡ map (edge_guard_of problem.now) (numbers_below (edge_count problem.now))) }
 {

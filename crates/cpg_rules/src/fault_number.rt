@@ -6,7 +6,7 @@ ghost use Rattle.cpg_rules.specs.FaultNumber.{with_fault_number};
 use cpg_base::{OutOfMemory, Problem};
 use std::alloc::Global;
 
-/// The graph with another fault number.
+/// Returns a copy of the graph that has this fault number in place of its own.
 pub fn with_fault_number(
     alloc: Global,
     problem: &Problem,
@@ -20,6 +20,7 @@ pub fn with_fault_number(
     let processes = Vec::from_clones(alloc, problem.processes())?;
     let edges = Vec::from_slice(alloc, problem.edges())?;
     let order = problem.order_copy()?;
+    // made anew without an order, which is then put back
     let made = Problem::of(faults, problem.deadline(), nodes, slots, processes, edges);
     Ok(made.with_order(order))
 }

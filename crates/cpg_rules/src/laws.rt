@@ -1,7 +1,8 @@
 //! Laws on guards.
 ghost use Rattle.cpg_rules.specs.Laws.{WaysAreDeciding};
 
-/// A scenario's way through the tree of a process tests exactly the conditions that decide it there, in urgency order.
+/// On its way through the tree of a process an outcome meets tests of exactly the conditions that decide the process in
+/// it, in urgency order.
 pub fn ways_are_deciding()
     ensures { WaysAreDeciding }
 {}

@@ -7,20 +7,21 @@ ghost use Rattle.cpg_rules.specs.Rules.{is_message_of, sends_message, decides, i
 
 use cpg_base::{Problem, Slot};
 
-/// Whether an edge is a message of this node.
+/// Whether an edge is a message that this node sends.
 fn is_message_of(problem: &Problem, edge: u32, node: u32) -> bool
     requires { edge < edge_count problem.now }
     ensures { result ≡ is_message_of problem.now edge node }
 {
     let ends = problem.edges()[edge as usize];
     let sender = problem.node_of(ends.from);
+    // within a node there is no message
     if sender == problem.node_of(ends.to) {
         return false;
     }
     sender == node
 }
 
-/// Whether a node is the source of a message.
+/// Whether a node sends a message.
 fn sends_message(problem: &Problem, node: u32) -> bool
     ensures { result ≡ sends_message problem.now node }
 {
@@ -44,13 +45,14 @@ fn decides(problem: &Problem, node: u32) -> bool
     false
 }
 
-/// Whether a node sends messages, or broadcasts if there are two nodes or more.
+/// Whether a node sends anything: a message or, if there are at least two nodes, the broadcast of a condition.
 fn is_sender(problem: &Problem, node: u32) -> bool
     ensures { result ≡ is_sender problem.now node }
 {
     if sends_message(problem, node) {
         return true;
     }
+    // with one node nothing is broadcast
     if problem.nodes().len() <= 1 {
         return false;
     }
@@ -74,13 +76,14 @@ fn lacks_slot(problem: &Problem, node: u32) -> bool
     !has_slot(problem, node)
 }
 
-/// The least node that sends and has no slot.
+/// Returns the number of the least node that sends and has no slot, and `None` exactly if each node that sends has one.
 pub fn without_slot(problem: &Problem) -> Option<u32>
     ensures none { IfNone result (HasSenderSlots problem.now) }
     ensures within { IsWithinLimits problem.now }
     ensures some { IfSome result (LacksSlot problem.now) }
 {
     for node in 0..problem.nodes().len() as u32 {
+        // nodes are met by number, so this is the least
         if lacks_slot(problem, node) {
             return Some(node);
         }
@@ -88,7 +91,7 @@ pub fn without_slot(problem: &Problem) -> Option<u32>
     None
 }
 
-/// How many bytes a frame in the first slot of a node holds, or 0 if it has none.
+/// Returns how many bytes a frame of the node holds, by the first of these slots that is the node's; 0 if none is.
 fn slot_bytes(slots: &[Slot], node: u32) -> u32
     ensures { result ≡ bytes_in slots.now node }
 {
@@ -100,25 +103,28 @@ fn slot_bytes(slots: &[Slot], node: u32) -> u32
     0
 }
 
-/// Whether an edge is a message whose size is above its sender's slot.
+/// Whether an edge is a message that is larger than its sender's slot holds.
 fn is_too_big(problem: &Problem, edge: u32) -> bool
     requires { edge < edge_count problem.now }
     ensures { result ≡ is_too_big problem.now edge }
 {
     let ends = problem.edges()[edge as usize];
     let sender = problem.node_of(ends.from);
+    // within a node there is no message
     if sender == problem.node_of(ends.to) {
         return false;
     }
     ends.size > slot_bytes(problem.slots(), sender)
 }
 
-/// The least message whose size is above its sender's slot.
+/// Returns the number of the least edge whose message is larger than its sender's slot holds, and `None` exactly if there
+/// is none.
 pub fn above_slot(problem: &Problem) -> Option<u32>
     ensures none { IfNone result (AllFit problem.now) }
     ensures some { IfSome result (IsAboveSlot problem.now) }
 {
     for edge in 0..problem.edges().len() as u32 {
+        // edges are met by number, so this is the least
         if is_too_big(problem, edge) {
             return Some(edge);
         }

@@ -19,15 +19,18 @@ use cpg_base::{Order, OutOfMemory, Problem, Scenario};
 use std::alloc::{AllocError, AllocFailed, Global};
 use std::marker::Model;
 
-/// How many tracks a graph has at most.
+/// The most tracks that an admitted graph may have, in the type in which they are counted.
 const MOST_TRACKS: u32 = cpg_base::MOST_TRACKS as u32;
 
-/// How each process becomes active, and when each edge is live: seen as the number of conditions, a tree for each
-/// process, and a guard for each edge.
+/// In which outcomes each process is active and each edge live: seen as the number of conditions, a tree for each process,
+/// and a guard for each edge.
 #[derive(Drop)]
 pub struct GuardTrees {
+    /// How many conditions the trees and edges may test.
     conditions: u32,
+    /// By process, in which outcomes it is active, and how.
     trees: Vec<GuardTree>,
+    /// By edge, when it is live.
     edges: Vec<EdgeGuard>,
 }
 
@@ -42,10 +45,11 @@ impl Model for GuardTrees {
 
     ghost view = { λ g. record { conditions = g.conditions; trees = g.trees.items; edges = g.edges.items } };
 
+    // no tree or edge refers to a process or condition that isn't there
     ghost invariant = { λ g. AreBelow (record { conditions = g.conditions; trees = g.trees.items; edges = g.edges.items }) };
 }
 
-/// Why a graph has no guards.
+/// Why no guards are returned for a graph.
 #[derive(Clone, Copy, Debug, PartialEq, Eq)]
 pub enum GuardFault {
     /// It has more than 16,384 tracks.
@@ -68,13 +72,16 @@ impl From<OutOfMemory> for GuardFault {
 /// The guards of a graph, with the parts of their trees.
 #[derive(Drop)]
 pub struct SharedGuards {
+    /// The guards.
     pub guards: GuardTrees,
+    /// The shared parts, among which are the trees of the guards.
     pub parts: SharedParts,
-    /// The parts of the processes, by number.
+    /// The number of the part with the tree of each process, by process.
     pub roots: Vec<usize>,
 }
 
-/// The guards of a graph, by the trees along its urgency order, with the parts of the trees.
+/// Returns the guards of a graph along an order, with the shared parts of their trees. `TooManyTracks` comes only if the
+/// graph has more than 16,384 tracks, and `Ok` only if it doesn't.
 pub fn shared_guards(
     alloc: Global,
     problem: &Problem,
@@ -82,6 +89,7 @@ pub fn shared_guards(
 ) -> Result<SharedGuards, GuardFault>
     requires { IsTopological problem.now order.now }
     ensures guards { IfOk result (λ shared. AreGuardsOf problem.now order.now shared.guards) }
+    // each process has the part with its tree as its root
     ensures roots { IfOk result (λ shared. AreRoots shared.parts.parts (process_count problem.now) shared.roots.items) }
     ensures trees { IfOk result (λ shared. shared.guards.trees ≡ trees_of shared.parts.parts shared.roots.items) }
     ensures few { IfOk result (λ _. track_count problem.now ≤ most_tracks) }
@@ -89,7 +97,8 @@ pub fn shared_guards(
 {
     let count = problem.processes().len();
     let steps = steps_of(alloc, problem, order)?;
-    // tracks are counted along the steps that conditions rest on; the count stops one above the most
+    // only the steps that conditions rest on make tracks; at first no process has a standing, and the count stops at the
+    // first track too many
     let choosing = rested(alloc, Aim::Conditions, steps.as_slice())?;
     if tracks(choosing.as_slice(), [None; 128], MOST_TRACKS + 1) > MOST_TRACKS {
         return Err(GuardFault::TooManyTracks);
@@ -114,21 +123,22 @@ pub fn shared_guards(
     })
 }
 
-/// The guards of a graph, by the trees along its urgency order.
+/// Returns the guards of a graph along an order.
 ///
-/// `TooManyTracks` comes exactly if the graph has more than 16,384 tracks.
+/// `TooManyTracks` comes only if the graph has more than 16,384 tracks, and `Ok` only if it doesn't.
 pub fn guards(alloc: Global, problem: &Problem, order: &Order) -> Result<GuardTrees, GuardFault>
     requires { IsTopological problem.now order.now }
     ensures guards { IfOk result (AreGuardsOf problem.now order.now) }
     ensures few { IfOk result (λ _. track_count problem.now ≤ most_tracks) }
     ensures many { result ≡ Err GuardFault.TooManyTracks → most_tracks < track_count problem.now }
 {
+    // the parts aren't needed here, so they are dropped
     let shared = shared_guards(alloc, problem, order)?;
     Ok(shared.guards)
 }
 
 impl GuardTrees {
-    /// The tree of a process.
+    /// Returns the tree of a process.
     pub fn guard_of(&self, process: u32) -> &GuardTree
         requires { process < length self.now.trees }
         ensures tree { result.now ≡ tree_of self.now process }
@@ -142,6 +152,7 @@ impl GuardTrees {
         requires process { process < length self.now.trees }
         requires scenario { length scenario.now.values ≡ self.now.conditions }
         ensures tree { result ≡ active_by self.now scenario.now.values process }
+        // if these are the guards of a graph, the answer is whether the process is active in it
         ensures active { (g : Graph) (order : List ℕ) → AreGuardsOf g order self.now → result ≡ active g scenario.now.values process }
     {
         self.guard_of(process).at(scenario).is_active()
@@ -155,17 +166,19 @@ impl GuardTrees {
         // if these are the guards of a graph, the answer is whether the edge is live in it
         ensures live { (g : Graph) (order : List ℕ) → IsTopological g order → AreGuardsOf g order self.now → result ≡ live g scenario.now.values edge }
     {
+        // bound to a name, by which the proof of the second clause refers to it
         let live = self.is_live(edge, scenario);
         live
     }
 
-    /// Whether an edge is live in a scenario, by the guards.
+    /// Whether an edge is live in a scenario: its source is active, and the source's condition passes the test, if any.
     fn is_live(&self, edge: u32, scenario: &Scenario) -> bool
         requires edge { edge < length self.now.edges }
         requires scenario { length scenario.now.values ≡ self.now.conditions }
         ensures { result ≡ live_by self.now scenario.now.values edge }
     {
         let guard = self.edges[edge as usize];
+        // an edge of an inactive source is never live
         if !self.active(guard.source, scenario) {
             return false;
         }
@@ -175,7 +188,7 @@ impl GuardTrees {
         }
     }
 
-    /// The conditions that decide a process in a scenario, in urgency order.
+    /// Returns the conditions that decide a process in a scenario, in urgency order.
     pub fn deciding(
         &self,
         alloc: Global,
@@ -185,14 +198,16 @@ impl GuardTrees {
         requires process { process < length self.now.trees }
         requires scenario { length scenario.now.values ≡ self.now.conditions }
         ensures way { IfOk result (λ conditions. conditions.items ≡ way (tree_of self.now process) scenario.now.values) }
+        // if these are the guards of a graph under its urgency order, these are the conditions that decide the process in it
         ensures deciding { IfOk result (λ conditions. (g : Graph) (order : List ℕ) → IsUrgencyOrder g order → IsTopological g order →
             AreGuardsOf g order self.now → conditions.items ≡ deciding_along g order scenario.now.values process) }
     {
+        // bound to a name: so the prover closes the second clause from the first
         let conditions = self.way(alloc, process, scenario)?;
         Ok(conditions)
     }
 
-    /// The conditions that are tested on a scenario's way through the tree of a process.
+    /// Returns the conditions that are tested on a scenario's way through the tree of a process, the first first.
     fn way(&self, alloc: Global, process: u32, scenario: &Scenario) -> Result<Vec<u32>, OutOfMemory>
         requires process { process < length self.now.trees }
         requires scenario { length scenario.now.values ≡ self.now.conditions }

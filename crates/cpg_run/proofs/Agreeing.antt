@@ -1,4 +1,4 @@
--- What is found before a place rests only on the frozen times of items of earlier places.
+-- What is found before a place depends only on the frozen times of the items of processes at earlier places.
 use Rattle.std.proofs.Common.{◌≡◌, ◌∙◌, ℕ, ◌+◌, ◌*◌, ◌<◌, ◌≤◌, ◌==◌, true, if◌then◌else◌, List, get_or, Option, None}
 use Rattle.std.proofs.Common.{unwrap_or, arith, sym, ap, ap₂, inl, inr, subst, mul-le-mul_right}
 use Rattle.std.proofs.lemmas.Bool.{cases_lt}
@@ -17,13 +17,13 @@ use Rattle.cpg_run.proofs.RunExists.{a_run}
 use Rattle.cpg_run.proofs.RunUnique.{AgreeBefore, agree_before}
 use Rattle.cpg_run.specs.Progress.{IsSentBefore, IsFree, IsReady, Knows, IsAt, ProgressState, IsAlong, free_after}
 
--- over plain numbers: what is before the beginning of a place is at an earlier one
+-- over plain numbers: a moment before the first of the place i, i * m, belongs to an earlier place
 pub earlier_place : (a i f m : ℕ) → a * m + f < i * m → a < i
 earlier_place a i f m h =
     elim (cases_lt a i) [ inl l ↦ l | inr l ↦ absurd (let k = mul-le-mul_right m l in omega arith) ]
 
 module _ (g : Graph) (order : List ℕ) (topological : IsTopological g order) where
-  -- two runs of a scenario that agree before a place
+  -- given two lists of times that agree before the first moment of place i
   module _ (s : Scenario) (t u : Times) (i : ℕ) (a : AgreeBefore g order t u (i * phases g)) where
     -- the items of a process before the place have their moments before the place begins
     pub item_before : (x : ℕ) → x < item_count g → place order (producer g x) < i → moment g order x < i * phases g
@@ -33,12 +33,12 @@ module _ (g : Graph) (order : List ℕ) (topological : IsTopological g order) wh
     pub end_before : (p : ℕ) → place order p < i → moment_of_end g order p < i * phases g
     end_before p l = sooner (place order p) i 1 (phases g) l (omega arith)
 
-    -- the broadcast of a condition of an earlier process is of an earlier moment
+    -- the broadcast of a condition of a process before the place has its moment before the place begins
     broadcast_before : (c : ℕ) → place order (process_of g c) < i → moment g order (broadcast_item g c) < i * phases g
     broadcast_before c l = subst (λ x. moment_of_item g order x < i * phases g) (sym (item_at-broadcast g c))
         (sooner (place order (process_of g c)) i 2 (phases g) l (omega arith))
 
-    -- an earlier process has the same end in both
+    -- a process before the place has the same end in both
     end_same : (p : ℕ) → p < process_count g → place order p < i → end_in t p ≡ end_in u p
     end_same p h l = ap (λ o. unwrap_or o 0) (a.ends p h (end_before p l))
 
@@ -53,11 +53,11 @@ module _ (g : Graph) (order : List ℕ) (topological : IsTopological g order) wh
         (ap (λ o. unwrap_or o 0 + slot_length g (home g (broadcast_item g c)))
         (a.items (broadcast_item g c) (omega arith) (broadcast_before c up)))
 
-    -- what was sent before leaves a node's slots free from the same time in both
+    -- the time from which an item sent before the place leaves the slots free is the same in both
     after_same : (node y : ℕ) → IsSentBefore g order s node i y → free_after g t y ≡ free_after g u y
     after_same node y b = ap (λ o. unwrap_or o 0 + round g) (a.items y b.0.within (item_before y b.0.within b.1))
 
-    -- what is known of the first is known of the second
+    -- what is known of the one before the place is known of the other
     knows_same : (known : Times) → Knows g order t i known → Knows g order u i known
     knows_same known k = record {
       times = λ x h l. k.times x h l ∙ a.items x h (item_before x h l);

@@ -1,4 +1,4 @@
--- After the last place all is known.
+-- What is known after the last place is the run.
 use Rattle.std.proofs.Common.{◌≡◌, ◌∙◌, ℕ, List, length, flat_map, Option, None, option_to_list, arith, sym, ap, subst}
 use Rattle.std.proofs.lemmas.List.{ext_get_or}
 use Rattle.std.proofs.lemmas.List.FromFn.{length-map-range_with_len}
@@ -20,7 +20,8 @@ module _ (g : Graph) (order : List ℕ) where
     same_times known t finish times ends same =
         λ j. record { times = sym times j; ends = sym ends j; finish = sym same j }
 
-    -- a list with the time of each item and the end of each process is the run
+    -- if `known` has what every run has before the place behind the last, it is the run, with its finish: each item and each
+    -- process comes from a place before that
     pub at_last : (known : Times) → length known.times ≡ item_count g → length known.ends ≡ process_count g
         → ((t : Times) → IsRun g order frozen s t → Knows g order t (process_count g) known)
         → IsRun g order frozen s (record known { finish = greatest (flat_map option_to_list known.ends) })

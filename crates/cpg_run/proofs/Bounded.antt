@@ -1,4 +1,4 @@
--- What bounds a start or a send is no greater than a number if each thing that it waits for is not.
+-- A number bounds all that a start or a send waits for, if it bounds each kind of it.
 use Rattle.std.proofs.Common.{◌≡◌, ℕ, ◌+◌, ◌≤◌, true, List, [], ◌∷◌, ◌++◌, map, filter, flat_map, Contains, inl, inr}
 use Rattle.std.proofs.Common.{subst}
 use Rattle.std.proofs.lemmas.List.Elements.{Contains-append_cases}
@@ -14,14 +14,14 @@ use Rattle.cpg_base.specs.Scenario.{Scenario}
 use Rattle.cpg_run.specs.Run.{Times, time_in, end_in, input_there, heard_there, input_bounds, processor_bounds}
 use Rattle.cpg_run.specs.Run.{hearing_bounds, start_bounds, send_bounds}
 
--- each value of a map is at most b if `f` is at most b on the elements
+-- each element of `map f xs` is at most b, if f is at most b on the elements of xs
 pub passing_le : (f : ℕ → ℕ) (xs : List ℕ) (v b : ℕ) → ((x : ℕ) → Contains xs x → f x ≤ b) → Contains (map f xs) v →
     v ≤ b
 passing_le f xs v b h c = let r = Contains-map_parts f xs v c in subst (λ n. n ≤ b) r.2 (h r.0 r.1)
 
 module _ (g : Graph) (order : List ℕ) (s : Scenario) (t : Times) where
-  -- a start has to wait for nothing after b if its release, its live inputs, the ends before it on its node and all
-  -- that the node has to hear come by b
+  -- No bound of the start of p is after b, if none of the four kinds is: its release, a live input, the end of an active process
+  -- before it on its node, and a condition that the node has to hear.
   pub start_bounds_le : (p b : ℕ) → (process_at g p).release ≤ b
       → ((e : ℕ) → Contains (inputs g p) e → live g s.values e ≡ true → input_there g t e ≤ b)
       → ((q : ℕ) → Contains (before_on_node g order p) q → active g s.values q ≡ true → end_in t q ≤ b)
@@ -46,8 +46,8 @@ module _ (g : Graph) (order : List ℕ) (s : Scenario) (t : Times) where
             ]
       ])
 
-  -- a send has to wait for nothing after b if b is no earlier than the next slot after its producer's end and a round
-  -- after each active item before it in the queue
+  -- no bound of a send is after b, if neither the next slot after its producer's end is, nor a round after any active item before
+  -- it in the queue
   pub send_bounds_le : (x b : ℕ) → next_slot g (home g x) (end_in t (producer g x)) ≤ b
       → ((y : ℕ) → Contains (queued_before g order x) y → item_active g s.values (item_at g y) ≡ true →
       time_in t y + round g ≤ b)

@@ -1,4 +1,4 @@
--- Tables with the rows that are found, and the peaks of the runs, are what a builder answers.
+-- Tables of found rows, with the greatest finish and excess of the runs, have all that a builder promises.
 use Rattle.std.proofs.Common.{◌≡◌, ℕ, List, arith}
 use Rattle.cpg_base.specs.Graph.{Graph}
 use Rattle.cpg_base.specs.Limits.{IsWithinLimits}
@@ -23,7 +23,8 @@ pub admitted_under : (g : Graph) (urgency order : List ℕ) (guards : Guards) �
 admitted_under g urgency order guards a topological =
     record { formed = a.well_formed; joins = a.joins; urgent = a.urgency; topological = topological }
 
--- such tables have the shape, the rows and the rules that a builder's answer has to have
+-- such an answer has each field of `IsBuiltFor`: what is exact and which rules are kept follows from the rows by `lawful`, the
+-- rest is what was found
 built : (g : Graph) (urgency order : List ℕ) (rows : List Row) (b : Built) → IsWithinLimits g →
     (a : Admitted g urgency order) → AreTablesFound g urgency order rows b →
     IsBuiltFor g urgency order b
@@ -47,6 +48,7 @@ built g urgency order rows b within a are =
       hears = are.written.hears;
     }
   where
+    -- if the greatest excess is 0, no run has an end past its due
     late : b.excess ≡ 0 → NothingIsLate g order b.frozen
     late none s t legal run = omega (arith, are.excess.greatest s t legal run, none)
 

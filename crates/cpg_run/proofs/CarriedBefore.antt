@@ -36,7 +36,7 @@ pub producer_of_broadcast : (g : Graph) (c : ℕ) → producer g (broadcast_item
 producer_of_broadcast g c = ap (producer_of_item g) (item_at-broadcast g c)
 
 module _ (g : Graph) (order : List ℕ) (topological : IsTopological g order) where
-  -- what is heard of conditions that decide a process comes from earlier processes
+  -- for each condition that decides p, its broadcast is an item, and the broadcast's producer is before p in the order
   pub hears_earlier : (s : Scenario) (p c : ℕ) → Contains (deciding g s.values p) c →
       (broadcast_item g c < item_count g) × (place order (producer g (broadcast_item g c)) < place order p)
   hears_earlier s p c j =
@@ -50,7 +50,7 @@ module _ (g : Graph) (order : List ℕ) (topological : IsTopological g order) wh
         ),
       )
 
-  -- the messages to a process come from earlier processes
+  -- for each input of p, the message of the edge is an item, and its producer is before p in the order
   pub receives_earlier : (p e : ℕ) → Contains (inputs g p) e →
       (message_item g e < item_count g) × (place order (producer g (message_item g e)) < place order p)
   receives_earlier p e j =
@@ -62,7 +62,7 @@ module _ (g : Graph) (order : List ℕ) (topological : IsTopological g order) wh
   -- given two lists of rows that have the same rows of the items from processes before a place
   module _ (rows others : List (List Column)) (bound : ℕ) (same : SameRowsBefore g order bound rows others)
       (s : Scenario) where
-    -- what the row of an earlier item told is the same by both
+    -- the columns of an earlier item that match s carry the same literals in both lists
     told_same : (y : ℕ) → y < item_count g → place order (producer g y) < bound →
         carried_by_row rows s y ≡ carried_by_row others s y
     told_same y l h =
@@ -87,40 +87,41 @@ module _ (g : Graph) (order : List ℕ) (topological : IsTopological g order) wh
         (λ e j. let r = receives_earlier p e j in
         ap (λ ls. if is_message g e then ls else []) (told_same (message_item g e) r.0 (omega (arith, r.1, h))))
 
-    -- what an execution carries is found in the rows of earlier processes
+    -- what an execution of p carries is the same by both: the messages that it receives, and its count of faults
     executed_same : (p : ℕ) → place order p ≤ bound → executed g rows s p ≡ executed g others s p
     executed_same p h =
         ap (λ ls. (if (process_at g p).frozen then [] else ls) ++ number_known s p ∷ []) (received_same p h)
 
-    -- what a node carries on from a process up to that place is the same by both
+    -- what a node carries on from a process before the bound, or at it, is the same by both
     pub passed_same : (p : ℕ) → place order p ≤ bound → passed g rows s p ≡ passed g others s p
     passed_same p h = ap₂ (λ hs es. decided g s p ++ hs ++ (if active g s.values p then es else [])) (heard_same p h)
         (executed_same p h)
 
-    -- what the processes before one on its node carry on is the same by both
+    -- what the node carries on from all processes before p on it is the same by both
     before_same : (p : ℕ) → place order p ≤ bound →
         flat_map (passed g rows s) (before_on_node g order p) ≡ flat_map (passed g others s) (before_on_node g order p)
     before_same p h = same_flat_map (passed g rows s) (passed g others s) (before_on_node g order p)
         (λ q j. passed_same q (omega (arith, (on_node_before g order p q j).1, h)))
 
-    -- what is carried beside the start of a process up to the place is the same by both
+    -- what is carried beside the start of a process before the bound, or at it, is the same by both
     pub start_same : (p : ℕ) → place order p ≤ bound →
         carried_at_start g order rows s p ≡ carried_at_start g order others s p
     start_same p h = ap₂ (λ ps (hr : List Literal × List Literal). if (process_at g p).frozen then decided g s p
         else ps ++ decided g s p ++ hr.0 ++ hr.1) (before_same p h)
         (ap₂ (λ hs rs. (hs, rs)) (heard_same p h) (received_same p h))
 
-    -- what is carried beside the end of a process up to the place is the same by both
+    -- what is carried beside the end of a process is the same by both: what is carried beside its start, and the fault count
     pub end_same : (p : ℕ) → place order p ≤ bound → carried_at_end g order rows s p ≡ carried_at_end g order others s p
     end_same p h = ap (λ ls. ls ++ number_known s p ∷ []) (start_same p h)
 
-    -- what an item of a process up to that place leaves to those behind it is the same by both
+    -- what a sent item of such a process leaves to the items behind it in the queue is the same by both
     pub queued_same : (y : ℕ) → place order (producer g y) ≤ bound → queued g order rows s y ≡ queued g order others s y
     queued_same y h =
         ap (λ ls. decided g s (producer g y) ++ (if active g s.values (producer g y) then sent_by_value g s y else [])
         ++ (if item_active g s.values (item_at g y) && not (is_frozen g y) then ls else [])) (end_same (producer g y) h)
 
-    -- what is carried beside a send of a process up to the place is the same by both
+    -- what is carried beside a send of such a process is the same by both: the items before it in the queue come from no later
+    -- process
     send_same : (x : ℕ) → place order (producer g x) ≤ bound →
         carried_at_send g order rows s x ≡ carried_at_send g order others s x
     send_same x h =
@@ -129,7 +130,7 @@ module _ (g : Graph) (order : List ℕ) (topological : IsTopological g order) wh
         (λ y j. queued_same y (omega (arith, producer_no_later g order x y j, h))))
         (end_same (producer g x) h)
 
-    -- what is carried beside an item of a process up to that place is the same by both
+    -- what is carried beside any item of such a process is the same by both: the item is a start, a message or a broadcast
     pub carried_same : (x : ℕ) → x < item_count g → place order (producer g x) ≤ bound →
         carried g order rows s x ≡ carried g order others s x
     carried_same x l h = elim (item_cases g x l) [
@@ -138,6 +139,7 @@ module _ (g : Graph) (order : List ℕ) (topological : IsTopological g order) wh
       | inr (inr c) ↦ of_item c.3 (send_same x h)
     ]
       where
+        -- it suffices to look at the kind i of the item
         of_item : {i : Item} → item_at g x ≡ i →
             carried_by_item g order rows s x i ≡ carried_by_item g order others s x i →
             carried g order rows s x ≡ carried g order others s x

@@ -1,5 +1,5 @@
--- Where a literal that is carried beside a time comes from; so all that is carried in a scenario holds in it, and is on
--- variables of the graph.
+-- Each literal that is carried beside a time is of one of few kinds, by where it comes from. So all that is carried in a scenario
+-- holds in it, and is on variables of the graph.
 use Rattle.std.proofs.Common.{ℕ, ◌<◌, ◌≤◌, ◌≡◌, ◌==◌, ◌&&◌, Bool, true, false, not, if◌then◌else◌, List, [], ◌∷◌, ◌++◌}
 use Rattle.std.proofs.Common.{map, filter, flat_map, Contains, is_some, option_to_list, arith, refl, sym, ap}
 use Rattle.std.proofs.Common.{◌∙◌, subst, inl, inr, All}
@@ -41,22 +41,22 @@ use Rattle.cpg_run.proofs.CubesOf.{number_holds}
 use Rattle.cpg_run.proofs.Queued.{producer_no_later}
 use Rattle.cpg_run.proofs.SameSends.{producer_active}
 
--- a member of a list that is there only if a test passes
+-- what is in `if b then xs else []` is in xs, and b is true
 in_if : {X : Type 0} (b : Bool) (xs : List X) (x : X) → Contains (if b then xs else []) x → (b ≡ true) × Contains xs x
 in_if true xs x j = (refl, j)
 in_if false xs x j = absurd (Contains-nil x j)
 
--- what is in a list that a test may empty is in the list, and the test fails
+-- what is in `if b then [] else xs` is in xs, and b is false
 in_unless : {X : Type 0} (b : Bool) (xs : List X) (x : X) → Contains (if b then [] else xs) x →
     (b ≡ false) × Contains xs x
 in_unless true xs x j = absurd (Contains-nil x j)
 in_unless false xs x j = (refl, j)
 
--- what is in a list of one is that one
+-- what is in a list of one element is that element
 in_one : {X : Type 0} (x y : X) → Contains (x ∷ []) y → y ≡ x
 in_one x y j = elim (Contains-cases x [] y j) [ inl e ↦ sym e | inr none ↦ absurd (Contains-nil y none) ]
 
--- the value by which an item is sent is that of its producer's condition
+-- a variable by which an item is sent is that of its producer's condition
 pub sent_variable : (g : Graph) (x v : ℕ) → Contains (sent_value g (item_at g x)) v →
     (c : ℕ) × (c < condition_count g) × (v ≡ value_variable c) × (process_of g c ≡ producer g x)
 sent_variable g x v j = of_item (item_at g x) refl j
@@ -80,11 +80,14 @@ sent_variable g x v j = of_item (item_at g x) refl j
 module _ (g : Graph) (order : List ℕ) (rows : List (List Column)) (s : Scenario) where
   -- ---- the kinds
 
-  -- a literal of a column that matches in an item's row
+  -- m is a literal of a column in the row of y that matches s
   pub record FromRow (y : ℕ) (m : Literal) : Type 0 where
     pub column : Column
+    -- the column is one of the row
     pub stands : Contains (row_at rows y) column
+    -- it matches s
     pub matched : matches column.cube s ≡ true
+    -- m is one of its literals
     pub literal : Contains column.cube m
 
   -- a literal that a row carries comes from a column of the row
@@ -95,27 +98,29 @@ module _ (g : Graph) (order : List ℕ) (rows : List (List Column)) (s : Scenari
       let q = Contains-filter_parts (λ (c : Column). matches c.cube s) (row_at rows y) r.0 r.1 in
       record { column = r.0; stands = q.0; matched = q.1; literal = r.2 }
 
-  -- the value of a condition that decides a process
+  -- m is the value in s of a condition that decides q
   pub record FromValue (q : ℕ) (m : Literal) : Type 0 where
     pub condition : ℕ
     pub decides : Contains (deciding g s.values q) condition
     pub is : m ≡ number_known s (value_variable condition)
 
-  -- what the broadcast of such a condition told, from another node
+  -- m is from the row of the broadcast of a condition that decides q and is of another node
   pub record FromBroadcast (q : ℕ) (m : Literal) : Type 0 where
     pub condition : ℕ
     pub decides : Contains (deciding g s.values q) condition
     pub other : (node_of g (process_of g condition) == node_of g q) ≡ false
     pub row : FromRow (broadcast_item g condition) m
 
-  -- what a message to the process told
+  -- m is from the row of a message to q
   pub record FromMessage (q : ℕ) (m : Literal) : Type 0 where
+    -- the edge of the message
     pub edge : ℕ
     pub input : Contains (inputs g q) edge
     pub message : is_message g edge ≡ true
     pub row : FromRow (message_item g edge) m
 
-  -- what a process q up to p on its node gives to the start of p
+  -- m is what a process q up to p on its node gives to the start of p: a value that decides q, what a broadcast of that or a
+  -- message to q told, or, of a process before p, the count of its faults
   pub data FromProcess (p q : ℕ) (m : Literal) : Type 0 where
     by_value : FromValue q m → FromProcess p q m
     by_broadcast : FromBroadcast q m → FromProcess p q m
@@ -123,11 +128,14 @@ module _ (g : Graph) (order : List ℕ) (rows : List (List Column)) (s : Scenari
     by_count : Contains (before_on_node g order p) q → active g s.values q ≡ true → m ≡ number_known s q →
         FromProcess p q m
 
-  -- what a process on the node gives to a start that is not frozen
+  -- the start of p is not frozen, and m is what a process up to p on its node gives to it
   pub record FromFree (p : ℕ) (m : Literal) : Type 0 where
     pub free : (process_at g p).frozen ≡ false
+    -- the process that gives it
     pub process : ℕ
+    -- is p or before it on the node
     pub stands : Contains (up_to g order p) process
+    -- m is one of what it gives
     pub told : FromProcess p process m
 
   -- beside a start: what decides its process or, if it is not frozen, more
@@ -135,40 +143,45 @@ module _ (g : Graph) (order : List ℕ) (rows : List (List Column)) (s : Scenari
     own : FromValue p m → FromStart p m
     more : FromFree p m → FromStart p m
 
-  -- beside an end
+  -- beside an end: what is carried beside the start, and the count of the process's faults
   pub data FromEnd (p : ℕ) (m : Literal) : Type 0 where
     from_start : FromStart p m → FromEnd p m
     its_count : m ≡ number_known s p → FromEnd p m
 
-  -- the value by which an item is sent
+  -- m is the value in s by which the item x is sent
   pub record FromSent (x : ℕ) (m : Literal) : Type 0 where
+    -- the variable of the value
     pub variable : ℕ
+    -- the value decides whether x is sent
     pub stands : Contains (sent_value g (item_at g x)) variable
+    -- m says the value in s
     pub is : m ≡ number_known s variable
 
-  -- what an item leaves to those behind it
+  -- what an item leaves to those behind it in the queue: what decides its producer; if that is active, the value by which it is
+  -- sent; and, if the item is active and isn't frozen, what is carried beside its producer's end
   pub data FromQueued (y : ℕ) (m : Literal) : Type 0 where
     left_value : FromValue (producer g y) m → FromQueued y m
     left_sent : active g s.values (producer g y) ≡ true → FromSent y m → FromQueued y m
     left_end : item_active g s.values (item_at g y) ≡ true → is_frozen g y ≡ false → FromEnd (producer g y) m →
         FromQueued y m
 
-  -- beside a send
+  -- beside a send: the value by which it is sent; for a frozen item what decides its producer; for any other what the items before
+  -- it in the queue leave, and what is carried beside its producer's end
   pub data FromSend (x : ℕ) (m : Literal) : Type 0 where
     of_producer : is_frozen g x ≡ true → FromValue (producer g x) m → FromSend x m
     of_queue : is_frozen g x ≡ false → (y : ℕ) → Contains (queued_before g order x) y → FromQueued y m → FromSend x m
     of_end : is_frozen g x ≡ false → FromEnd (producer g x) m → FromSend x m
     of_value : FromSent x m → FromSend x m
 
-  -- ---- each literal is of one
+  -- ---- each literal is of one of the kinds
 
-  -- a literal on what decides a process comes from a value
+  -- a literal of `decided` is the value of a condition that decides the process
   in_decided : (q : ℕ) (m : Literal) → Contains (decided g s q) m → FromValue q m
   in_decided q m j =
       let r = Contains-map_parts (λ (c : ℕ). number_known s (value_variable c)) (deciding g s.values q) m j in
       record { condition = r.0; decides = r.1; is = sym r.2 }
 
-  -- a literal that is heard stands in the row of the broadcast of a condition of another node
+  -- a literal of `heard` is from the row of the broadcast of a condition of another node
   in_heard : (q : ℕ) (m : Literal) → Contains (heard g rows s q) m → FromBroadcast q m
   in_heard q m j =
       let r = Contains-flat_map_parts (λ c. if node_of g (process_of g c) == node_of g q then []
@@ -177,7 +190,7 @@ module _ (g : Graph) (order : List ℕ) (rows : List (List Column)) (s : Scenari
       (carried_by_row rows s (broadcast_item g r.0)) m r.2 in
       record { condition = r.0; decides = r.1; other = t.0; row = from_told (broadcast_item g r.0) m t.1 }
 
-  -- one that is received comes from a message
+  -- a literal of `received` is from the row of a message
   in_received : (q : ℕ) (m : Literal) → Contains (received g rows s q) m → FromMessage q m
   in_received q m j =
       let r = Contains-flat_map_parts (λ e. if is_message g e then carried_by_row rows s (message_item g e) else [])
@@ -185,7 +198,8 @@ module _ (g : Graph) (order : List ℕ) (rows : List (List Column)) (s : Scenari
       let t = in_if (is_message g r.0) (carried_by_row rows s (message_item g r.0)) m r.2 in
       record { edge = r.0; input = r.1; message = t.0; row = from_told (message_item g r.0) m t.1 }
 
-  -- what a process before p on its node carries on is of one of the kinds of a process
+  -- A literal that a process q before p on its node carries on is of one of the kinds of a process. It is a value that decides q
+  -- or what a broadcast told of that; if q is active, it may be what a message told, unless q is frozen, or the count of q.
   in_passed : (p q : ℕ) (m : Literal) → Contains (before_on_node g order p) q → Contains (passed g rows s q) m →
       FromProcess p q m
   in_passed p q m before j = elim (Contains-append_cases (decided g s q ++ heard g rows s q)
@@ -204,7 +218,8 @@ module _ (g : Graph) (order : List ℕ) (rows : List (List Column)) (s : Scenari
       ]
 
   module _ (topological : IsTopological g order) where
-    -- what is carried beside a start that is not frozen is what a process up to it gives
+    -- A literal carried beside a start that isn't frozen is given by a process up to it: what p itself receives, hears or is
+    -- decided by, or what a process before it passes on.
     in_free : (p : ℕ) (m : Literal) → active g s.values p ≡ true → (process_at g p).frozen ≡ false →
         Contains (flat_map (passed g rows s) (before_on_node g order p) ++ decided g s p ++ heard g rows s p
         ++ received g rows s p) m → FromFree p m
@@ -229,6 +244,7 @@ module _ (g : Graph) (order : List ℕ) (rows : List (List Column)) (s : Scenari
               ]
         ]
       where
+        -- what p itself gives
         here : FromProcess p p m → FromFree p m
         here f = record { free = free; process = p; stands = up_to_itself g order topological p; told = f }
 
@@ -249,12 +265,13 @@ module _ (g : Graph) (order : List ℕ) (rows : List (List Column)) (s : Scenari
           | inr a ↦ its_count (in_one (number_known s p) m a)
         ]
 
-    -- one that a send adds comes from the value that it sends
+    -- a literal of `sent_by_value` is the value by which the item is sent
     in_sent : (x : ℕ) (m : Literal) → Contains (sent_by_value g s x) m → FromSent x m
     in_sent x m j = let r = Contains-map_parts (number_known s) (sent_value g (item_at g x)) m j in
         record { variable = r.0; stands = r.1; is = sym r.2 }
 
-    -- an item in the queue leaves what decides its producer, the value it sends, and what its producer's end carries
+    -- a literal that an item in the queue leaves is what decides its producer, the value by which it is sent, or, if it is sent and
+    -- isn't frozen, what is carried at its producer's end
     in_queued : (y : ℕ) (m : Literal) → Contains (queued g order rows s y) m → FromQueued y m
     in_queued y m j = elim (Contains-append_cases (decided g s (producer g y)
         ++ (if active g s.values (producer g y) then sent_by_value g s y else []))
@@ -274,7 +291,8 @@ module _ (g : Graph) (order : List ℕ) (rows : List (List Column)) (s : Scenari
               (from_end_of (producer g y) m (producer_active g s.values (item_at g y) q.0) r.1)
         ]
 
-    -- each that is carried beside an active send is of one of the kinds of a send
+    -- A literal carried beside an active send is of one of the kinds of a send: the value by which it is sent; for a frozen item
+    -- what decides its producer; for any other what an item before it leaves, or what is carried at its producer's end.
     pub from_send_of : (x : ℕ) (m : Literal) → item_active g s.values (item_at g x) ≡ true →
         Contains (carried_at_send g order rows s x) m → FromSend x m
     from_send_of x m on j = elim (Contains-append_cases
@@ -301,7 +319,7 @@ module _ (g : Graph) (order : List ℕ) (rows : List (List Column)) (s : Scenari
       of_row : (y : ℕ) → IsEarlier g order bound y → FromRow y m → IsOf bound m
 
     module _ (few : process_count g ≤ 128) (bound : ℕ) (m : Literal) where
-      -- a literal that comes from a value is a number of the scenario
+      -- the value of a condition is a number of the scenario
       value_is : (q : ℕ) → FromValue q m → IsOf bound m
       value_is q f =
           let r =
@@ -309,7 +327,8 @@ module _ (g : Graph) (order : List ℕ) (rows : List (List Column)) (s : Scenari
           of_number (value_variable f.condition)
           (inr (omega arith, omega (arith, numbers-Contains (condition_count g) f.condition r.0))) f.is
 
-      -- by where the literal comes from: the value of a condition, a broadcast, a message, or a count of faults
+      -- a literal that a process gives is a number of the scenario, if it is a value or a count of faults; it is from an earlier
+      -- row, if a broadcast or a message told it
       process_is : (p q : ℕ) → q < process_count g → place order q ≤ bound → FromProcess p q m → IsOf bound m
       process_is p q l at (by_value f) = value_is q f
       process_is p q l at (by_broadcast f) = let e = hears_earlier g order topological s q f.condition f.decides in
@@ -329,19 +348,20 @@ module _ (g : Graph) (order : List ℕ) (rows : List (List Column)) (s : Scenari
       end_is p l at (from_start f) = start_is p l at f
       end_is p l at (its_count is) = of_number p (inl l) is
 
-      -- a literal that a send adds is a number of the scenario
+      -- the value by which an item is sent is a number of the scenario
       sent_is : (x : ℕ) → FromSent x m → IsOf bound m
       sent_is x f = let c = sent_variable g x f.variable f.stands in
           of_number f.variable (inr (omega (arith, c.2), omega (arith, c.1, c.2))) f.is
 
-      -- a literal that is carried by an item before in the queue is a number of the scenario or from an earlier row
+      -- a literal that an item leaves in the queue is a number of the scenario or from an earlier row
       queued_is : (y : ℕ) → producer g y < process_count g → place order (producer g y) ≤ bound → FromQueued y m →
           IsOf bound m
       queued_is y l at (left_value f) = value_is (producer g y) f
       queued_is y l at (left_sent on f) = sent_is y f
       queued_is y l at (left_end on free f) = end_is (producer g y) l at f
 
-      -- by where the literal comes from: what decides the producer, the queue before x, or the producer's end
+      -- a literal that is carried beside a send is a number of the scenario or from an earlier row: the items before it in the
+      -- queue are of no later process
       send_is : (x : ℕ) → producer g x < process_count g → place order (producer g x) ≤ bound → FromSend x m →
           IsOf bound m
       send_is x l at (of_producer f v) = value_is (producer g x) v
@@ -352,7 +372,7 @@ module _ (g : Graph) (order : List ℕ) (rows : List (List Column)) (s : Scenari
       send_is x l at (of_end free f) = end_is (producer g x) l at f
       send_is x l at (of_value f) = sent_is x f
 
-      -- each literal carried by an active item of a process up to a place is a number of the scenario, or stands in
+      -- each literal carried by an active item of a process up to a place is a number of the scenario, or is in
       -- an earlier row
       pub carried_is : (x : ℕ) → x < item_count g → place order (producer g x) ≤ bound →
           item_active g s.values (item_at g x) ≡ true → Contains (carried g order rows s x) m → IsOf bound m
@@ -373,6 +393,7 @@ module _ (g : Graph) (order : List ℕ) (rows : List (List Column)) (s : Scenari
     carried_holds few x l on = all_from (holds s) (carried g order rows s x)
         (λ m j. holds_is m (carried_is few (place order (producer g x)) m x l (omega arith) on j))
       where
+        -- a number of s holds in s, and a literal of a column that matches s does
         holds_is : (m : Literal) → IsOf (place order (producer g x)) m → holds s m ≡ true
         holds_is m (of_number v known is) = ap (holds s) is ∙ number_holds s v
         holds_is m (of_row y at row) = from_all (holds s) row.column.cube m row.matched row.literal
@@ -384,6 +405,7 @@ module _ (g : Graph) (order : List ℕ) (rows : List (List Column)) (s : Scenari
         IsVariable g m.variable
     carried_known few x l cubes on m j = known_is (carried_is few (place order (producer g x)) m x l (omega arith) on j)
       where
+        -- a number is of a variable of the graph by `IsOf`, and a literal of a column by its cube
         known_is : IsOf (place order (producer g x)) m → IsVariable g m.variable
         known_is (of_number v known is) = subst (IsVariable g) (sym (ap (λ (l : Literal). l.variable) is)) known
         known_is (of_row y at row) = All-contains (λ (l : Literal). IsVariable g l.variable) row.column.cube m

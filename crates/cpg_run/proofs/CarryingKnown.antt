@@ -66,14 +66,15 @@ module _ (g : Graph) (urgency order : List ℕ) (frozen : List (Option ℕ)) (ro
     row_column y m f = Contains-filter (λ (c : Column). matches c.cube s) (columns_of tables y) f.column f.matched
         (subst (λ cs. Contains cs f.column) (sym (z.columns y)) f.stands)
 
-    -- the value of what decides a process up to another on its node
+    -- the value of a condition that decides a process up to p on its node is known at the start of p
     value_known : (p q : ℕ) (m : Literal) → p < process_count g → Contains (up_to g order p) q →
         FromValue g order rows s q m →
         Contains (known_at_start g order tables s p) m
     value_known p q m l j f = subst (Contains (known_at_start g order tables s p)) (sym f.is)
         (known_value g order frozen tables given s law urgency z.timed.admitted.urgent p q f.condition l j f.decides)
 
-    -- what a process up to p on its node gives to the start of p is known at that start
+    -- What a process q up to p on its node gives to the start of p is known at that start, by its kind: a value, as it decides q;
+    -- what a broadcast or a message told, as the start waits for that frame; the count of q, as q has ended.
     process_known : (p q : ℕ) (m : Literal) → p < process_count g → Contains (up_to g order p) q →
         FromProcess g order rows s p q m →
         Contains (known_at_start g order tables s p) m
@@ -85,6 +86,7 @@ module _ (g : Graph) (urgency order : List ℕ) (frozen : List (Option ℕ)) (ro
         (Contains-filter_parts (decides g s.values q) (numbers_below (condition_count g)) c f.decides).0 in
         let far : (node_of g (process_of g c) == node_of g p) ≡ false =
         subst (λ k. (node_of g (process_of g c) == k) ≡ false) up.node f.other in
+        -- two nodes differ, so the broadcast goes over the bus, and the node of p hears it
         let two : 1 < length g.nodes = omega (
           arith,
           eqb-false (node_of g (process_of g c)) (node_of g p) far,
@@ -132,7 +134,7 @@ module _ (g : Graph) (urgency order : List ℕ) (frozen : List (Option ℕ)) (ro
         (subst (λ p. Contains (known_at_end g order tables s p)
         (exactly (value_variable c.0) (number_of s (value_variable c.0)))) c.3 own)
 
-    -- what is known at an end is known at a later one on the node
+    -- what is known at the end of a process up to p on its node is known at the end of p
     end_grows : (p q : ℕ) (m : Literal) → Contains (up_to g order p) q → Contains (known_at_end g order tables s q) m →
         Contains (known_at_end g order tables s p) m
     unfolding given
@@ -171,7 +173,7 @@ module _ (g : Graph) (urgency order : List ℕ) (frozen : List (Option ℕ)) (ro
         (producer_active g s.values (item_at g x) on) f
     send_known x m l e on (of_value f) = sent_known x m (producer_active g s.values (item_at g x) on) f
 
-    -- all that is carried beside a time is known by then
+    -- all that is carried beside the time of an active item is known by then: by whether it is a start, a message or a broadcast
     pub carried_is_known : (x : ℕ) (m : Literal) → x < item_count g → item_active g s.values (item_at g x) ≡ true →
         Contains (carried g order rows s x) m →
         Contains (known g order tables s x) m
@@ -194,7 +196,8 @@ module _ (g : Graph) (urgency order : List ℕ) (frozen : List (Option ℕ)) (ro
           (subst (λ i. Contains (carried_by_item g order rows s x i) m) c.3 j)))
     ]
 
-  -- in each scenario the literals of a column that matches are supported by what its node knows
+  -- In each scenario the literals of a column that matches are supported by what its node knows. The column's ranges contain those
+  -- that the carried literals leave, and as all these are known, those that the known ones leave.
   pub supported : Supported g order tables
   supported s law x l c j =
       let r = Contains-filter_parts (λ (c : Column). matches c.cube s) (columns_of tables x) c j in

@@ -47,8 +47,8 @@ use Rattle.cpg_run.proofs.CarriedFrom.{left_value, left_sent, left_end, FromSend
 use Rattle.cpg_run.proofs.CarriedFrom.{of_value, from_start_of, from_send_of}
 use Rattle.cpg_run.proofs.Queued.{producer_no_later}
 
--- a literal that isn't whole, in a cube that contains what literals leave, is on a variable of which one of these
--- speaks
+-- If a cube contains the ranges that some literals leave, each literal of it that isn't whole is on the variable of one of those:
+-- on a variable of none they leave the whole range, which the literal's doesn't contain.
 narrower_spoken : (k : ℕ) (cube : List Literal) (m : Literal) → IsRising cube → Contains cube m → is_whole k m ≡ false →
     m.high ≤ top k m.variable →
     (literals : List Literal) →
@@ -58,6 +58,7 @@ narrower_spoken k cube m rising i part within literals kept =
     elim (cases_Bool (list_any (λ (l : Literal). l.variable == m.variable) literals)) [
       | inl t ↦ let f = list_any_parts (λ (l : Literal). l.variable == m.variable) literals t in
           (f.0, f.1, eqb-true _ _ f.2)
+      -- none is on the variable, so they leave its whole range, from 0 to the greatest number
       | inr f ↦
           let other : (l : Literal) → Contains literals l → l.variable ≡ m.variable → ⊥ =
           λ l j e. both_ways (l.variable == m.variable)
@@ -79,7 +80,7 @@ narrower_spoken k cube m rising i part within literals kept =
 module _ (g : Graph) (urgency order : List ℕ) (frozen : List (Option ℕ)) (timed : IsTimed g urgency order frozen)
     (rows : List (List Column)) (all : AreCarrying g urgency order frozen rows)
     (r : Reach) (is : IsReach g order r) where
-  -- what the rules say is in a reach
+  -- a variable that the rule gives for an item is in the item's reach
   by_rule : (x v : ℕ) → x < item_count g → Contains (reach_by_item g order r x (item_at g x)) v →
       Contains (reach_of r x) v
   by_rule x v l j =
@@ -88,12 +89,12 @@ module _ (g : Graph) (urgency order : List ℕ) (frozen : List (Option ℕ)) (ti
       let f = list_any_parts (λ w. w == v) (reach_of r x) t in
       subst (Contains (reach_of r x)) (eqb-true _ _ f.2) f.1
 
-  -- the reach that the rule gives a start is the start's reach
+  -- what the rule of reaches gives to a start, its `start_reach`, is in its reach
   start_by_rule : (p v : ℕ) → p < process_count g → Contains (start_reach g order r p) v → Contains (reach_of r p) v
   start_by_rule p v l j = by_rule p v (omega (arith, l))
       (subst (λ i. Contains (reach_by_item g order r p i) v) (sym (item_at-start g p l)) j)
 
-  -- the reach of a message or a broadcast is that of its send
+  -- of an item that is sent, a message or a broadcast, the rule gives `send_reach`
   sent_reach : (x v : ℕ) (i : Item) → is_sent_item g i ≡ true → Contains (send_reach g order r x) v →
       Contains (reach_by_item g order r x i) v
   sent_reach x v (Start p) e j = absurd (true≢false (sym e))
@@ -107,7 +108,7 @@ module _ (g : Graph) (urgency order : List ℕ) (frozen : List (Option ℕ)) (ti
   conditions_part p = flat_map (λ c. value_variable c ∷ hearing_reach g r (node_of g p) c)
       (flat_map (conditions_of g) (before_on_node g order p ++ p ∷ []))
 
-  -- by the ends of the processes before on the node
+  -- what a start depends on by the ends of the processes before it on the node
   ends_part : ℕ → List ℕ
   ends_part p = flat_map (end_reach r) (before_on_node g order p)
 
@@ -122,7 +123,8 @@ module _ (g : Graph) (urgency order : List ℕ) (frozen : List (Option ℕ)) (ti
   unfolding conditions_part ends_part inputs_part
   free_reach p v free j = subst (λ vs. Contains vs v) (sym (cond-false _ _ _ free)) j
 
-  -- it has the conditions of each process up to it on its node, and the reach of their hearing
+  -- the reach of a start that isn't frozen has the variable of each condition of a process up to p on its node, and the reach of
+  -- the hearing of it
   of_conditions : (p q c v : ℕ) → (process_at g p).frozen ≡ false → Contains (up_to g order p) q →
       Contains (conditions_of g q) c →
       Contains (value_variable c ∷ hearing_reach g r (node_of g p) c) v →
@@ -134,7 +136,7 @@ module _ (g : Graph) (urgency order : List ℕ) (frozen : List (Option ℕ)) (ti
       (flat_map (conditions_of g) (before_on_node g order p ++ p ∷ [])) c v
       (Contains-flat_map (conditions_of g) (before_on_node g order p ++ p ∷ []) q c j d) i)))
 
-  -- it has the reach of each end before it on its node
+  -- the reach of a start that isn't frozen has that of the end of each process before p on its node
   of_ends : (p q v : ℕ) → (process_at g p).frozen ≡ false → Contains (before_on_node g order p) q →
       Contains (end_reach r q) v →
       Contains (start_reach g order r p) v
@@ -144,7 +146,7 @@ module _ (g : Graph) (urgency order : List ℕ) (frozen : List (Option ℕ)) (ti
       (Contains-append_right (conditions_part p) (ends_part p) v
       (Contains-flat_map (end_reach r) (before_on_node g order p) q v j i)))
 
-  -- it has the reach of each message to its process
+  -- the reach of a start that isn't frozen has that of each message to p
   of_message : (p e v : ℕ) → (process_at g p).frozen ≡ false → Contains (inputs g p) e → is_message g e ≡ true →
       Contains (reach_of r (message_item g e)) v →
       Contains (start_reach g order r p) v
@@ -156,7 +158,7 @@ module _ (g : Graph) (urgency order : List ℕ) (frozen : List (Option ℕ)) (ti
 
   -- ---- what is carried in a scenario
 
-  -- the columns of earlier rows speak of their items' reach
+  -- in the rows of the items of processes before the bound, each literal is on a variable of the item's reach
   SpeakOfReach : ℕ → Type 0
   SpeakOfReach bound = (y : ℕ) → IsEarlier g order bound y → (c : Column) → Contains (row_at rows y) c → (m : Literal) →
       Contains c.cube m → Contains (reach_of r y) m.variable
@@ -174,16 +176,18 @@ module _ (g : Graph) (urgency order : List ℕ) (frozen : List (Option ℕ)) (ti
         in_conditions_of g urgency timed.admitted.urgent q s.values c law.values
         (numbers-Contains (condition_count g) c d.0) d.1
 
-    -- a literal on a variable of a list is on one of it
+    -- if m is the number of v in s, and v is one of vs, so is the variable of m
     variable_of : (v : ℕ) (vs : List ℕ) → m ≡ number_known s v → Contains vs v → Contains vs m.variable
     variable_of v vs e j = subst (Contains vs) (sym (ap (λ (l : Literal). l.variable) e)) j
 
-    -- a literal from a value is on a variable of the process's conditions
+    -- if m is the value of a condition that decides q, its variable is that of a condition of q
     value_in : (q : ℕ) → FromValue g order rows s q m → Contains (map value_variable (conditions_of g q)) m.variable
     value_in q f = variable_of (value_variable f.condition) (map value_variable (conditions_of g q)) f.is
         (Contains-map value_variable (conditions_of g q) f.condition (condition_in q f.condition f.decides))
 
-    -- what a process up to p on its node gives to the start of p is on the reach of that start
+    -- What a process q up to p on its node gives to the start of p, which isn't frozen, is on the reach of that start, by its
+    -- kind: a value and what broadcasts told by the hearing of conditions, what messages told by the inputs of q, the count by
+    -- the end of q.
     process_in : (p q : ℕ) → p < process_count g → place order p ≤ bound → (process_at g p).frozen ≡ false →
         Contains (up_to g order p) q →
         FromProcess g order rows s p q m →
@@ -215,7 +219,8 @@ module _ (g : Graph) (urgency order : List ℕ) (frozen : List (Option ℕ)) (ti
         of_ends p q m.variable free before
         (variable_of q (end_reach r q) e (Contains-append_right (reach_of r q) (q ∷ []) q (Contains-first q [])))
 
-    -- a frozen process has its conditions on its reach by one rule, any other by the rule for all that decides it
+    -- The value of a condition that decides p is on the reach of p's start: that of a frozen process is made of its conditions, and
+    -- that of any other has the conditions of all processes up to it on its node.
     own_in : (p : ℕ) → FromValue g order rows s p m → Contains (start_reach g order r p) m.variable
     own_in p f = elim (cases_Bool (process_at g p).frozen) [
       | inl b ↦ subst (λ vs. Contains vs m.variable) (sym (cond-true _ _ _ b)) (value_in p f)
@@ -240,12 +245,13 @@ module _ (g : Graph) (urgency order : List ℕ) (frozen : List (Option ℕ)) (ti
     end_in_reach p l at (its_count e) =
         variable_of p (end_reach r p) e (Contains-append_right (reach_of r p) (p ∷ []) p (Contains-first p []))
 
-    -- the parts of a send's reach
+    -- the first part of a send's reach, all but the value by which the item is sent: the conditions of a frozen item's producer,
+    -- and otherwise the reach of the producer's end and of the items before it in the queue
     front : ℕ → List ℕ
     front x = if is_frozen g x then map value_variable (conditions_of g (producer g x))
         else (end_reach r (producer g x) ++ flat_map (reach_of r) (queued_before g order x))
 
-    -- what is in the first part of a send's reach is in the reach
+    -- what is in this part is in the reach
     of_front : (x v : ℕ) → Contains (front x) v → Contains (send_reach g order r x) v
     unfolding front
     of_front x v j =
@@ -261,7 +267,7 @@ module _ (g : Graph) (urgency order : List ℕ) (frozen : List (Option ℕ)) (ti
         (subst (λ vs. Contains vs v) (sym (cond-false _ _ _ free))
         (Contains-append_left (end_reach r (producer g x)) (flat_map (reach_of r) (queued_before g order x)) v j))
 
-    -- it has the reach of each item before it in the queue
+    -- the reach of a send that isn't frozen has that of each item before it in the queue
     of_queue_before : (x y v : ℕ) → is_frozen g x ≡ false → Contains (queued_before g order x) y →
         Contains (reach_of r y) v →
         Contains (send_reach g order r x) v
@@ -271,14 +277,14 @@ module _ (g : Graph) (urgency order : List ℕ) (frozen : List (Option ℕ)) (ti
         (Contains-append_right (end_reach r (producer g x)) (flat_map (reach_of r) (queued_before g order x)) v
         (Contains-flat_map (reach_of r) (queued_before g order x) y v k j)))
 
-    -- a literal that a send adds is in the reach of the send
+    -- the value by which an item is sent is on the reach of its send
     sent_in : (x : ℕ) → FromSent g order rows s x m → Contains (send_reach g order r x) m.variable
     sent_in x f = variable_of f.variable (send_reach g order r x) f.is
         (Contains-append_right (if is_frozen g x then map value_variable (conditions_of g (producer g x))
         else (end_reach r (producer g x) ++ flat_map (reach_of r) (queued_before g order x)))
         (sent_value g (item_at g x)) f.variable f.stands)
 
-    -- what decides its producer
+    -- the value of a condition that decides the producer is on the reach of the send, whether the item is frozen or not
     producer_in : (x : ℕ) → producer g x < process_count g → FromValue g order rows s (producer g x) m →
         Contains (send_reach g order r x) m.variable
     unfolding front
@@ -312,7 +318,7 @@ module _ (g : Graph) (urgency order : List ℕ) (frozen : List (Option ℕ)) (ti
         (end_in_reach (producer g x) (producer_in_range g order timed.admitted.topological x l) at f)
     send_in x l e at (of_value f) = sent_in x f
 
-    -- what is carried beside an item is on its reach
+    -- what is carried beside the time of an active item is on the item's reach: by whether it is a start, a message or a broadcast
     carried_in : (x : ℕ) → x < item_count g → place order (producer g x) ≤ bound →
         item_active g s.values (item_at g x) ≡ true →
         Contains (carried g order rows s x) m →
@@ -338,7 +344,8 @@ module _ (g : Graph) (urgency order : List ℕ) (frozen : List (Option ℕ)) (ti
 
   -- ---- rows, process after process
 
-  -- if the rows of earlier items speak of their reach, so does the row of the item
+  -- If the rows of items from earlier processes have literals on their reach alone, so has the row of x. A column of it matches
+  -- some scenario, and its literal is on the variable of one that is carried there, which is on the reach.
   row_speaks : (bound x : ℕ) → SpeakOfReach bound → x < item_count g → place order (producer g x) ≤ bound →
       (c : Column) → Contains (row_at rows x) c → (m : Literal) →
       Contains c.cube m →
@@ -360,7 +367,8 @@ module _ (g : Graph) (urgency order : List ℕ) (frozen : List (Option ℕ)) (ti
       (row.carries s c least.1.lawful j least.1.holds) in
       subst (Contains (reach_of r x)) told.2 (carried_in s least.1.lawful bound speak told.0 x l at on told.1)
 
-  -- the rows of all items of earlier processes speak of their reach
+  -- The rows of all items of processes before the bound have literals on their reach alone: by induction on n, which is at least
+  -- the bound.
   speak_below : (n bound : ℕ) → bound ≤ n → SpeakOfReach bound
   unfolding SpeakOfReach
   speak_below zero bound h y e c j m i = absurd (omega (arith, e.1, h))

@@ -37,7 +37,7 @@ module _ (g : Graph) (urgency order : List ℕ) (frozen : List (Option ℕ)) (ro
     ordered = (z.found.each x l).ordered;
   }
 
-  -- the tables are exact
+  -- the tables are exact: they have the times of the runs, and since their columns are the rows, these are formed and merged
   exact : IsExact g urgency order frozen r tables
   exact = record {
     times = run_times g urgency order frozen rows tables z;
@@ -50,7 +50,7 @@ module _ (g : Graph) (urgency order : List ℕ) (frozen : List (Option ℕ)) (ro
   rules = all_rules g order frozen tables (given g urgency order frozen rows tables z)
       (supported g urgency order frozen rows tables z)
 
-  -- an item has no more columns than its reach has views
+  -- an item has no more columns than its reach has views, as its row is formed and keeps V1 and V2
   within_views : process_count g ≤ 128 → (x : ℕ) → x < item_count g →
       length (columns_of tables x) ≤ views g (reach_of r x)
   within_views few x l = columns_within_views g few (reach_of r x) urgency (columns_of tables x) (exact.formed x l)

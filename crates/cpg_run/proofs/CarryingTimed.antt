@@ -25,11 +25,11 @@ use Rattle.cpg_run.specs.Carrying.{AreCarrying}
 -- `timed`: the graph is admitted, and `frozen` has its frozen times. `all`: each row carries no more than it may.
 module _ (g : Graph) (urgency order : List ℕ) (frozen : List (Option ℕ)) (timed : IsTimed g urgency order frozen)
     (rows : List (List Column)) (all : AreCarrying g urgency order frozen rows) where
-  -- beyond the items there is nothing
+  -- a number beyond the items has no columns
   row_past : (x : ℕ) → item_count g ≤ x → row_at rows x ≡ []
   row_past x l = get_or_past rows x [] (omega (arith, all.count, l))
 
-  -- behind the items there is no time
+  -- a number beyond the items has no time in a run
   time_past : (s : Scenario) (t : Times) → IsRun g order frozen s t → (x : ℕ) → item_count g ≤ x →
       get_or t.times x None ≡ None
   time_past s t run x l = get_or_past t.times x None
@@ -42,7 +42,8 @@ module _ (g : Graph) (urgency order : List ℕ) (frozen : List (Option ℕ)) (ti
     | inr past ↦ ap (λ cs. times_in cs s) (row_past x past) ∙ sym (ap option_to_list (time_past s t run x past))
   ]
 
-  -- a column matches only in scenarios in which its item is active
+  -- A column matches only in scenarios in which its item is active: the column's time is then the time that the run has for the
+  -- item.
   pub carrying_active : (x : ℕ) (c : Column) → Contains (row_at rows x) c → (s : Scenario) → IsScenario g s →
       matches c.cube s ≡ true →
       (x < item_count g) ×
@@ -55,7 +56,7 @@ module _ (g : Graph) (urgency order : List ℕ) (frozen : List (Option ℕ)) (ti
       (subst (λ ns. Contains ns c.time) (carrying_times x s r.0 law r.1) there)) in
       (parts.0, parts.1)
 
-  -- an item that is active in no scenario has no column
+  -- an item that is active in no scenario has no column, as each column matches some scenario
   pub never_columns : (x : ℕ) → ((s : Scenario) → IsScenario g s → item_active g s.values (item_at g x) ≡ false) →
       row_at rows x ≡ []
   never_columns x never = elim (cases_lt x (item_count g)) [
@@ -66,6 +67,7 @@ module _ (g : Graph) (urgency order : List ℕ) (frozen : List (Option ℕ)) (ti
         both_ways _ (never least.0 least.1.lawful) (carrying_active x c j least.0 least.1.lawful least.1.holds).1)
   ]
     where
+      -- a list that contains no column is empty
       empty : (cs : List Column) → ((c : Column) → Contains cs c → ⊥) → cs ≡ []
       empty [] h = refl
       empty (c ∷ cs) h = absurd (h c (Contains-first c cs))

@@ -1,5 +1,5 @@
--- Cubes of literals: which scenarios they match, that there is one, and that two of the same literals have the same
--- ranges.
+-- Cubes of lists of literals: each list has one, which matches exactly the scenarios in which the literals hold; and two cubes of
+-- one list have the same least scenario.
 use Rattle.std.proofs.Common.{ℕ, suc, ltb, ◌<◌, ◌≤◌, ◌≡◌, ◌≢◌, ◌==◌, Bool, true, false, List, [], ◌∷◌, ◌++◌, map}
 use Rattle.std.proofs.Common.{filter, flat_map, Contains, arith, refl, sym, ap, ◌∙◌, subst, inl, inr, eq-eqb}
 use Rattle.std.proofs.Common.{eqb-true, ne_eqb}
@@ -62,22 +62,22 @@ module _ (u : Scenario) where
   holds_all f xs h = all_from (holds u) (flat_map f xs)
       (λ m j. let r = Contains-flat_map_parts f xs m j in from_all (holds u) (f r.0) m (h r.0 r.1) r.2)
 
-  -- a number that is known of another scenario, and holds here, is the same here
+  -- if the literal that v has its number of s holds in u, v has the same number in u
   pub same_number : (s : Scenario) (v : ℕ) → holds u (number_known s v) ≡ true → number_of u v ≡ number_of s v
   same_number s v h = omega (arith, holds-low u (number_known s v) h, holds-high u (number_known s v) h)
 
-  -- numbers that are known of another scenario, and hold here, are the same here
+  -- if such literals on all variables of a list hold in u, each of these has the same number in u and s
   pub same_numbers : (s : Scenario) (vs : List ℕ) → matches (map (number_known s) vs) u ≡ true → (v : ℕ) →
       Contains vs v →
       number_of u v ≡ number_of s v
   same_numbers s vs h v j = same_number s v
       (from_all (holds u) (map (number_known s) vs) (number_known s v) h (Contains-map (number_known s) vs v j))
 
-  -- what is known of a scenario holds in it
+  -- the literal that v has its number of u holds in u
   pub number_holds : (v : ℕ) → holds u (number_known u v) ≡ true
   number_holds v = holds-from u (number_known u v) (omega arith) (omega arith)
 
--- no number of a scenario is above the top of its variable
+-- no number of a scenario is above the top of its variable; what is no variable of the graph has the number 0
 pub number_at_most : (g : Graph) → process_count g ≤ 128 → (s : Scenario) → IsScenario g s → (v : ℕ) →
     number_of s v ≤ top g.faults v
 number_at_most g few s law v = elim (variable_or_not g v) [
@@ -90,7 +90,8 @@ number_at_most g few s law v = elim (variable_or_not g v) [
 -- given a cube of literals and a scenario
 module _ (g : Graph) (few : process_count g ≤ 128) (literals cube : List Literal) (is : IsCubeOf g.faults literals cube)
     (s : Scenario) (law : IsScenario g s) where
-  -- the cube matches each scenario in which the literals hold
+  -- The cube matches each scenario in which the literals hold: the number of a variable is at least each low on it, so at least the
+  -- greatest, and likewise at most the least high.
   pub cube_matches : matches literals s ≡ true → matches cube s ≡ true
   cube_matches h = all_from (holds s) cube (λ l j.
       let v : ℕ = l.variable in
@@ -102,7 +103,7 @@ module _ (g : Graph) (few : process_count g ≤ 128) (literals cube : List Liter
       (λ m i e. omega (arith, holds-high s m (from_all (holds s) literals m h i), ap (number_of s) e)) in
       holds-from s l (omega (arith, r.0, is.low v, low)) (omega (arith, r.1, is.high v, high)))
 
-  -- the literals hold in each scenario that their cube matches
+  -- the literals hold in each scenario that their cube matches, as its range of a variable lies within each literal on it
   pub literals_hold : matches cube s ≡ true → matches literals s ≡ true
   literals_hold h = all_from (holds s) literals (λ m j.
       let v : ℕ = m.variable in
@@ -121,7 +122,7 @@ pub cube_within : (k : ℕ) (literals cube : List Literal) → IsCubeOf k litera
 cube_within k literals cube is l j =
     omega (arith, (range_of_literal k cube l is.rising j).1, is.high l.variable, high_kept_top literals l.variable k)
 
--- cubes with the same low ranges have the same least scenario
+-- cubes with the same lows of all variables have the same least scenario
 pub same_lows : (g : Graph) (a b : List Literal) → ((v : ℕ) → low_in a v ≡ low_in b v) → lows g a ≡ lows g b
 same_lows g a b same =
     let values = same_map (λ c. ltb 0 (low_in a (value_variable c))) (λ c. ltb 0 (low_in b (value_variable c)))
@@ -137,11 +138,11 @@ same_least g xs a b is other = same_lows g a b (λ v. is.low v ∙ sym (other.lo
 -- ---- there is one
 
 module _ (k : ℕ) (literals : List Literal) where
-  -- what is kept of a variable
+  -- the range that all literals on the variable leave it, as one literal: from the greatest low to the least high
   kept : ℕ → Literal
   kept v = record { variable = v; low = kept_low literals v; high = kept_high k literals v }
 
-  -- whether a literal is on the variable
+  -- whether some literal of the list is on the variable
   is_spoken : ℕ → Bool
   is_spoken v = list_any (λ (m : Literal). m.variable == v) literals
 
@@ -153,7 +154,7 @@ module _ (k : ℕ) (literals : List Literal) where
   pub cube_of : List Literal
   cube_of = map kept spoken_below
 
-  -- the cube that is made is by rising variables
+  -- the literals of the cube are in rising order of their variables
   rising : IsRising cube_of
   unfolding cube_of kept spoken_below
   rising = AllPairs-map (λ v w. v < w) (λ (l m : Literal). l.variable < m.variable) kept spoken_below (λ v w h. h)
@@ -172,7 +173,7 @@ module _ (k : ℕ) (literals : List Literal) where
         subst (λ w. kept w ≡ l) v r.2,
       )
 
-  -- it has a literal on each variable that one is on
+  -- for each variable that a literal of the list is on, the cube has the literal that is kept of it
   in_cube : (v : ℕ) → is_spoken v ≡ true → Contains cube_of (kept v)
   unfolding cube_of spoken_below is_spoken
   in_cube v e =
@@ -184,17 +185,17 @@ module _ (k : ℕ) (literals : List Literal) where
       (Contains-filter is_spoken (numbers_below (suc (greatest (map (λ (m : Literal). m.variable) literals)))) v e
       (Contains-numbers (suc (greatest (map (λ (m : Literal). m.variable) literals))) v (omega (arith, same, most))))
 
-  -- the cube has no literal on a variable that none is on
+  -- the cube has no literal on a variable that no literal of the list is on
   not_in_cube : (v : ℕ) → is_spoken v ≡ false → (l : Literal) → Contains cube_of l → l.variable ≢ v
   not_in_cube v e l j same = both_ways (is_spoken v) e (subst (λ w. is_spoken w ≡ true) same (from_cube l j).0)
 
-  -- on which no literal is
+  -- if `is_spoken` is false for a variable, no literal of the list is on it
   unspoken : (v : ℕ) → is_spoken v ≡ false → (m : Literal) → Contains literals m → m.variable ≡ v → ⊥
   unfolding is_spoken
   unspoken v e m j same = both_ways (list_any (λ (m : Literal). m.variable == v) literals) e
       (list_any_true (λ (m : Literal). m.variable == v) literals m j (eq-eqb m.variable v same))
 
-  -- the low of the cube is the one kept of the literals
+  -- the cube's low of a variable is the greatest low of the literals on it, and 0 if there is none
   low_is : (v : ℕ) → low_in cube_of v ≡ kept_low literals v
   unfolding kept
   low_is v = elim (cases_Bool (is_spoken v)) [
@@ -206,7 +207,7 @@ module _ (k : ℕ) (literals : List Literal) where
     )
   ]
 
-  -- the high of the cube is the one kept of the literals
+  -- the cube's high of a variable is the least high of the literals on it, and the variable's top if there is none
   high_is : (v : ℕ) → high_in k cube_of v ≡ kept_high k literals v
   unfolding kept
   high_is v = elim (cases_Bool (is_spoken v)) [
@@ -219,7 +220,7 @@ module _ (k : ℕ) (literals : List Literal) where
     )
   ]
 
-  -- literals have a cube
+  -- `cube_of` is a cube of the literals
   pub cube_there : IsCubeOf k literals cube_of
   unfolding is_spoken
   cube_there = record {

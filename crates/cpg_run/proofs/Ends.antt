@@ -1,4 +1,4 @@
--- If a graph has processes, some process ends when a run finishes.
+-- A run finishes at the last end of a process: no end is later, and if the graph has a process, one ends then.
 use Rattle.std.proofs.Common.{◌≡◌, ◌∙◌, ℕ, zero, suc, ◌<◌, ◌≤◌, Bool, true, List, [], ◌∷◌, flat_map, map, length}
 use Rattle.std.proofs.Common.{get_or, Contains, Option, Some, None, option_to_list, arith, refl, sym, ap, subst}
 use Rattle.std.proofs.Common.{inl, inr}
@@ -18,10 +18,11 @@ use Rattle.cpg_order.proofs.Acyclic.{activation_is, input_goes_up, source_in_ord
 use Rattle.cpg_run.specs.Run.{Times, IsRun, end_by}
 use Rattle.cpg_run.proofs.Runs.{has_end}
 
--- the number of an option in a list of options
+-- a number that the list of options has at some place is in the list of their numbers
 in_list : (os : List (Option ℕ)) (p n : ℕ) → get_or os p None ≡ Some n → Contains (flat_map option_to_list os) n
 in_list os p n e = Contains-flat_map option_to_list os (Some n) n (there os p e) (Contains-first n [])
   where
+    -- the list of options contains the option at that place
     there : (os : List (Option ℕ)) (p : ℕ) → get_or os p None ≡ Some n → Contains os (Some n)
     there [] p e = absurd (none-some n e)
     there (o ∷ os) zero e = subst (λ z. Contains (o ∷ os) z) e (Contains-first o os)
@@ -32,7 +33,7 @@ greatest_there : (xs : List ℕ) (x : ℕ) → Contains xs x → Contains xs (gr
 greatest_there [] x c = absurd (Contains-nil x c)
 greatest_there (y ∷ ys) x c = greatest_in y ys
 
--- what is in the list of an option is its value
+-- if a number is in the list of an option, the option has that number
 option_of : (o : Option ℕ) (n : ℕ) → Contains (option_to_list o) n → o ≡ Some n
 option_of None n c = absurd (Contains-nil n c)
 option_of (Some m) n c = elim (Contains-cases m [] n c) [
@@ -47,7 +48,7 @@ end_below g order frozen s t run p n e =
     omega (arith, run.finish, greatest_above (flat_map option_to_list t.ends) n (in_list t.ends p n e))
 
 module _ (g : Graph) (order : List ℕ) (top : IsTopological g order) where
-  -- if the graph has a process, one of its processes is active
+  -- if p is a process of the graph, some process is active: by induction on n, which is above the place of p
   some_active : (o : List Bool) (n p : ℕ) → place order p < n → p < process_count g →
       (q : ℕ) × (q < process_count g) × (active g o q ≡ true)
   some_active o zero p m l = absurd (omega arith)
@@ -68,7 +69,8 @@ module _ (g : Graph) (order : List ℕ) (top : IsTopological g order) where
           (source_in_order g order top f (inputs_parts g p f k).0)
 
   module _ (frozen : List (Option ℕ)) (s : Scenario) (t : Times) (run : IsRun g order frozen s t) where
-    -- if a graph has processes, one of them ends at the finish
+    -- If a graph has processes, one of them ends at the finish. Some process is active and so has an end; the greatest end is
+    -- then one of the list of ends, and so the end of the process at its place.
     pub finish_is_end : 0 < process_count g → (p : ℕ) × (p < process_count g) × (get_or t.ends p None ≡ Some t.finish)
     finish_is_end pos =
         let a = some_active s.values (suc (place order 0)) 0 (omega arith) pos in
@@ -81,6 +83,7 @@ module _ (g : Graph) (order : List ℕ) (top : IsTopological g order) where
         let is : r.0 ≡ Some t.finish = option_of r.0 t.finish r.2 in
         (r.1.0, omega (arith, count, r.1.1), there_is t.ends r.1.0 r.0 t.finish r.1.1 r.1.2 is)
       where
+        -- the element at a place of a list doesn't depend on the default
         there_is : (os : List (Option ℕ)) (i : ℕ) (o : Option ℕ) (n : ℕ) → i < length os → get_or os i o ≡ o →
             o ≡ Some n →
             get_or os i None ≡ Some n

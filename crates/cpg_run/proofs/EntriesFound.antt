@@ -1,4 +1,5 @@
--- How the entries of an item are found: scenario after scenario, each passed over or taken.
+-- The entries of an item are found scenario by scenario: one that is the least of the cube carried in it gets an entry, and any
+-- other is passed over.
 use Rattle.std.proofs.Common.{ℕ, ◌<◌, ◌≡◌, ◌≢◌, false, List, [], ◌∷◌, ◌++◌, length, map, take, get_or, Contains}
 use Rattle.std.proofs.Common.{AllPairs, Option, arith, sym, ap, ◌∙◌, subst, inl, inr, length-take}
 use Rattle.std.proofs.lemmas.Bool.{both_ways}
@@ -17,7 +18,7 @@ use Rattle.cpg_run.specs.Rows.{IsCubeOf, IsEntryIn, AreEntriesOf}
 use Rattle.cpg_run.proofs.CubesOf.{same_least}
 use Rattle.cpg_run.proofs.SameInRows.{only_one}
 
--- no element of a list without repeats stands before its place
+-- in a list without repeats, the element at place i is not among those before it
 pub not_before_place : {X : Type 0} (xs : List X) (i : ℕ) (d : X) → AllPairs (λ x y. x ≢ y) xs → i < length xs →
     Contains (take i xs) (get_or xs i d) → ⊥
 not_before_place {X} xs i d apart l j =
@@ -29,11 +30,16 @@ not_before_place {X} xs i d apart l j =
 
 -- given the rows and an item x, whose entries are found scenario by scenario
 module _ (g : Graph) (order : List ℕ) (frozen : List (Option ℕ)) (rows : List (List Column)) (x : ℕ) where
-  -- the entries of the scenarios so far
+  -- `entries` are the entries whose least scenarios are among those done: each is an entry, no two have the same least scenario,
+  -- and every such entry's is there
   pub record AreEntriesAmong (done : List Scenario) (entries : List Column) : Type 0 where
+    -- each is the entry for the least scenario of its cube
     pub each : (e : Column) → Contains entries e → IsEntryIn g order frozen rows x (lows g e.cube) e
+    -- that scenario is among those done
     pub among : (e : Column) → Contains entries e → Contains done (lows g e.cube)
+    -- no two have the same least scenario
     pub apart : AllPairs (λ d e. lows g d.cube ≢ lows g e.cube) entries
+    -- each scenario done that is the least of its entry has it in the list
     pub all : (s : Scenario) (e : Column) → Contains done s → IsEntryIn g order frozen rows x s e → lows g e.cube ≡ s →
         Contains (map (λ d. lows g d.cube) entries) s
 
@@ -47,7 +53,7 @@ module _ (g : Graph) (order : List ℕ) (frozen : List (Option ℕ)) (rows : Lis
   }
 
   module _ (done : List Scenario) (entries : List Column) (so_far : AreEntriesAmong done entries) (s : Scenario) where
-    -- a scenario that is the least of no cube of its own is passed over
+    -- a scenario that isn't the least of any entry in it adds none
     pass_over : ((e : Column) → IsEntryIn g order frozen rows x s e → lows g e.cube ≡ s → ⊥) →
         AreEntriesAmong (done ++ s ∷ []) entries
     pass_over never = record {
@@ -71,10 +77,12 @@ module _ (g : Graph) (order : List ℕ) (frozen : List (Option ℕ)) (rows : Lis
     passed_other cube is other =
         pass_over (λ e entry least. other (same_least g (carried g order rows s x) cube e.cube is entry.cube ∙ least))
 
-    -- a scenario that is the least of its cube has this entry
+    -- If the scenario s isn't done yet and is the least of the cube of its entry e, e is added: the entries so far stay, and no two
+    -- have the same least scenario, since those so far are among the scenarios done.
     pub taken : (e : Column) → IsEntryIn g order frozen rows x s e → lows g e.cube ≡ s → (Contains done s → ⊥) →
         AreEntriesAmong (done ++ s ∷ []) (entries ++ e ∷ [])
     taken e is least new = record {
+      -- an entry was there before, or is e
       each = λ d j. elim (Contains-append_cases entries (e ∷ []) d j) [
         | inl i ↦ so_far.each d i
         | inr i ↦ subst (λ d. IsEntryIn g order frozen rows x (lows g d.cube) d) (only_one e d i)
@@ -86,11 +94,13 @@ module _ (g : Graph) (order : List ℕ) (frozen : List (Option ℕ)) (rows : Lis
             subst (λ d. Contains (done ++ s ∷ []) (lows g d.cube)) (only_one e d i) (subst (Contains (done ++ s ∷ []))
             (sym least) (Contains-append_right done (s ∷ []) s (Contains-first s [])))
       ];
+      -- an entry with the least scenario s would be among those done, but s is new
       apart = AllPairs-append (λ (d e : Column). lows g d.cube ≢ lows g e.cube) entries (e ∷ []) so_far.apart
           (AllPairs-cons_by (λ (d e : Column). lows g d.cube ≢ lows g e.cube) e [] (λ y j. absurd (Contains-nil y j))
           (AllPairs-nil (λ (d e : Column). lows g d.cube ≢ lows g e.cube)))
           (λ d f i j same. new (subst (Contains done)
           (same ∙ ap (λ (c : Column). lows g c.cube) (sym (only_one e f j)) ∙ least) (so_far.among d i)));
+      -- a scenario done before has its entry among those so far, and s has e
       all = λ u d j entry lowest. elim (Contains-append_cases done (s ∷ []) u j) [
         | inl i ↦
             let r = Contains-map_parts (λ (c : Column). lows g c.cube) entries u (so_far.all u d i entry lowest) in
@@ -104,7 +114,7 @@ module _ (g : Graph) (order : List ℕ) (frozen : List (Option ℕ)) (rows : Lis
       ];
     }
 
-  -- once every scenario is done these are the entries
+  -- once every scenario of the graph is done, these are the entries of the item
   pub all_found : (done : List Scenario) (entries : List Column) → AreEntriesAmong done entries →
       ((s : Scenario) → IsScenario g s → Contains done s) →
       AreEntriesOf g order frozen rows x entries

@@ -36,9 +36,9 @@ use Rattle.cpg_run.proofs.SameSends.{carried_decides}
 pub every : {X : Type 0} (P : X → Type 0) (xs : List X) → ((x : X) → Contains xs x → P x) → All P xs
 every P xs h k d l = h (get_or xs k d) (Contains-get_or xs k d l)
 
--- at most one element passes of a list of which no two pass
+-- given a relation R between the elements of a list, and a test p
 module _ {X : Type 0} (R : X → X → Type 0) (p : X → Bool) where
-  -- no two elements of `ys` pass together, so there is at most one
+  -- ys has at most one element, if all of them are of xs and pass, any two are related, and no two of xs that pass are
   two_at_most : (xs ys : List X) → ((y : X) → Contains ys y → Contains xs y × (p y ≡ true)) → AllPairs R ys →
       ((x y : X) → Contains xs x → Contains xs y → p x ≡ true → p y ≡ true → R x y → ⊥) →
       length ys ≤ 1
@@ -49,14 +49,14 @@ module _ {X : Type 0} (R : X → X → Type 0) (p : X → Bool) where
       let b = from z (Contains-rest y (z ∷ ys) z (Contains-first z ys)) in
       absurd (never y z a.0 b.0 a.1 b.1 (pairs 0 1 y (omega arith) (omega arith)))
 
-  -- if no two elements pass, at most one does
+  -- if any two elements of a list are related, but no two that pass are, at most one passes
   pub one_passes : (xs : List X) → AllPairs R xs →
       ((x y : X) → Contains xs x → Contains xs y → p x ≡ true → p y ≡ true → R x y → ⊥) →
       length (filter p xs) ≤ 1
   one_passes xs pairs never =
       two_at_most xs (filter p xs) (λ y j. Contains-filter_parts p xs y j) (AllPairs-filter R p xs pairs) never
 
--- a list of at most one element has no other than the one that is known to be in it
+-- a list of at most one element that contains x has x alone
 pub the_one : {X : Type 0} (xs : List X) (x : X) → length xs ≤ 1 → Contains xs x → xs ≡ x ∷ []
 the_one [] x l j = absurd (Contains-nil x j)
 the_one (y ∷ []) x l j =
@@ -75,7 +75,7 @@ module _ (g : Graph) (urgency order : List ℕ) (frozen : List (Option ℕ)) (ro
   few : process_count g ≤ 128
   few = timed.admitted.formed.few_processes
 
-  -- what is carried in a scenario holds in it
+  -- the literals that are carried beside x in a scenario hold in it
   holds_here : (s : Scenario) → item_active g s.values (item_at g x) ≡ true →
       matches (carried g order rows s x) s ≡ true
   holds_here s on = carried_holds g order rows s timed.admitted.topological few x l on
@@ -85,7 +85,7 @@ module _ (g : Graph) (urgency order : List ℕ) (frozen : List (Option ℕ)) (ro
   -- others.
   module _ (s : Scenario) (law : IsScenario g s) (on : item_active g s.values (item_at g x) ≡ true)
       (cube : List Literal) (is : IsCubeOf g.faults (carried g order rows s x) cube) where
-    -- it is a cube of the graph, which matches the scenario
+    -- the cube is one of the graph: its variables rise, and each is a variable of the graph
     pub cube_known : IsCube g cube
     cube_known = record {
       rising = is.rising;
@@ -102,17 +102,17 @@ module _ (g : Graph) (urgency order : List ℕ) (frozen : List (Option ℕ)) (ro
     pub cube_met : is_met g.faults cube ≡ true
     cube_met = met_by g few cube cube_known s law cube_own
 
-    -- in each scenario that it matches the item is the same
+    -- in each scenario that the cube matches, x is active, has the same time and carries the same
     pub cube_same : (u : Scenario) → IsScenario g u → matches cube u ≡ true → IsSameIn g order frozen rows x s u
     cube_same u lu h = carried_decides g urgency order frozen rows s u x timed l earlier law lu on
         (literals_hold g few (carried g order rows s x) cube is u lu h)
 
-    -- a cube is that of what is carried in each scenario that it matches
+    -- in each scenario that the cube matches, it is a cube of what is carried there
     pub cube_there_too : (u : Scenario) → IsScenario g u → matches cube u ≡ true →
         IsCubeOf g.faults (carried g order rows u x) cube
     cube_there_too u lu h = subst (λ ls. IsCubeOf g.faults ls cube) (sym (cube_same u lu h).carried) is
 
-    -- the entry of a cube is that of its least scenario
+    -- with the time of x in s, the cube is an entry of its own least scenario
     pub entry_of_least : (time : ℕ) → ((t : Times) → IsRun g order frozen s t → get_or t.times x None ≡ Some time) →
         IsEntryIn g order frozen rows x (lows g cube) (record { time = time; cube = cube })
     entry_of_least time here =
@@ -139,7 +139,7 @@ module _ (g : Graph) (urgency order : List ℕ) (frozen : List (Option ℕ)) (ro
       entry_own : matches e.cube (lows g e.cube) ≡ true
       entry_own = let a = are.each e j in cube_own (lows g e.cube) a.lawful a.active e.cube a.cube
 
-      -- a scenario that it matches has the same item at the same time
+      -- in each scenario that an entry matches, x is active, and has the same time and carries the same as in the entry's least one
       entry_same : (u : Scenario) → IsScenario g u → matches e.cube u ≡ true →
           IsSameIn g order frozen rows x (lows g e.cube) u
       entry_same = let a = are.each e j in cube_same (lows g e.cube) a.lawful a.active e.cube a.cube
@@ -157,14 +157,15 @@ module _ (g : Graph) (urgency order : List ℕ) (frozen : List (Option ℕ)) (ro
           IsCubeOf g.faults (carried g order rows u x) e.cube
       entry_cube = let a = are.each e j in cube_there_too (lows g e.cube) a.lawful a.active e.cube a.cube
 
-    -- no two match
+    -- at most one entry matches a scenario: two would be cubes of what is carried there, so have the same least scenario
     matches_once : (u : Scenario) → IsScenario g u → length (filter (λ (c : Column). matches c.cube u) entries) ≤ 1
     matches_once u lu = one_passes (λ (d e : Column). lows g d.cube ≢ lows g e.cube)
         (λ (c : Column). matches c.cube u) entries are.apart
         (λ d e i j h k ne.
         ne (same_least g (carried g order rows u x) d.cube e.cube (entry_cube d i u lu h) (entry_cube e j u lu k)))
 
-    -- if the item is active, one of the entries matches
+    -- If the item is active in a scenario, one of the entries matches it. The least scenario of the cube of what is carried there
+    -- carries the same, so it has an entry of that cube, and the cube matches the scenario.
     a_match : (u : Scenario) (w : Times) → IsScenario g u → IsRun g order frozen u w →
         item_active g u.values (item_at g x) ≡ true →
         (e : Column) × Contains entries e × (matches e.cube u ≡ true)
@@ -177,6 +178,7 @@ module _ (g : Graph) (urgency order : List ℕ) (frozen : List (Option ℕ)) (ro
         let same =
         cube_same u lu on cube is least (lows-lawful g few cube known met) (lows-match g few cube known met) in
         let entry = entry_of_least u lu on cube is (time_in w x) (λ t run. one_time t run) in
+        -- the entry whose least scenario this is
         let r = Contains-map_parts (λ (d : Column). lows g d.cube) entries least
         (are.all least (record { time = time_in w x; cube = cube }) entry refl) in
         let there = subst (λ v. IsCubeOf g.faults (carried g order rows v x) r.0.cube) r.2 (are.each r.0 r.1).cube in (
@@ -186,12 +188,14 @@ module _ (g : Graph) (urgency order : List ℕ) (frozen : List (Option ℕ)) (ro
               (subst (λ ls. IsCubeOf g.faults ls r.0.cube) same.carried there) u lu (holds_here u on),
         )
       where
+        -- the item has the time of the run w in each run of u, as there is just one run
         one_time : (t : Times) → IsRun g order frozen u t → get_or t.times x None ≡ Some (time_in w x)
         one_time t run = subst (λ v. get_or v.times x None ≡ Some (time_in w x))
             (run_unique g order timed.admitted.topological frozen u w t other run)
             (has_time g order frozen u w other x l on)
 
-    -- entries have the times of the runs
+    -- entries have the times of the runs: of an active item one matches, no other does, and it has the item's time; of an inactive
+    -- item none matches
     pub entries_times : HaveTimesOf g order frozen x entries
     entries_times u w lu other = elim (cases_Bool (item_active g u.values (item_at g x))) [
       | inl on ↦
@@ -211,7 +215,8 @@ module _ (g : Graph) (urgency order : List ℕ) (frozen : List (Option ℕ)) (ro
           ∙ sym (ap option_to_list (time_is g order frozen u w other x l ∙ cond-false _ _ _ off))
     ]
 
-    -- entries can be merged
+    -- the entries can be merged: their cubes are of the graph, within the tops, each matches some scenario, and at most one matches
+    -- each
     pub entries_mergeable : AreMergeable g entries
     entries_mergeable = record {
       cubes = every (λ (c : Column). IsCube g c.cube) entries entry_known;

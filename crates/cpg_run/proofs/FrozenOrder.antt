@@ -28,7 +28,7 @@ within_order g order processes i is o count l =
     subst (λ n. p < n) count
     (from_order (length order) order o.all p (subst (λ ps. Contains ps p) is (Contains-get_or processes i 0 l)))
 
--- what rises does so at any two places
+-- if each element of a list is related to all later ones, the elements at any two places are related
 rises_at : {X : Type 0} (R : X → X → Type 0) (xs : List X) → Rises R xs → (i j : ℕ) (d : X) → i < j → j < length xs →
     R (get_or xs i d) (get_or xs j d)
 rises_at R [] h i j d l m = absurd (omega arith)
@@ -38,16 +38,16 @@ rises_at R (x ∷ xs) h (suc i) zero d l m = absurd (omega arith)
 rises_at R (x ∷ xs) h (suc i) (suc j) d l m = rises_at R xs h.1 i j d (omega arith) (omega arith)
 
 module _ (g : Graph) (order : List ℕ) (topological : IsTopological g order) where
-  -- an item is of an earlier moment than another
+  -- x has an earlier moment than y
   abbrev Sooner : ℕ → ℕ → Type 0
   Sooner x y = moment g order x < moment g order y
 
-  -- an item that a process makes
+  -- x is an item of the graph with the producer p
   record IsMadeBy (p x : ℕ) : Type 0 where
     within : x < item_count g
     by : producer g x ≡ p
 
-  -- a process and the items that it sends are made by it
+  -- the start of a process and the items of its queue are made by it
   made_by : (p x : ℕ) → p < process_count g → Contains (p ∷ queue_of g p) x → IsMadeBy p x
   made_by p x h c = elim (Contains-cases p (queue_of g p) x c) [
     | inl e ↦
@@ -55,7 +55,7 @@ module _ (g : Graph) (order : List ℕ) (topological : IsTopological g order) wh
     | inr k ↦ let q = in_queue g p x k in record { within = q.within; by = q.by }
   ]
 
-  -- what a process sends goes by rank
+  -- the moment of an item that a process sends is the sum of the process's first moment, the item's rank, and 2
   moment_of_sent : (p x : ℕ) → Contains (queue_of g p) x →
       moment g order x ≡ place order p * phases g + (rank_at g x + 2)
   moment_of_sent p x c =
@@ -76,7 +76,7 @@ module _ (g : Graph) (order : List ℕ) (topological : IsTopological g order) wh
   listed p x k c = made_by p x (from_order (process_count g) order topological.all p k)
       (Contains-filter_parts (is_frozen g) (p ∷ queue_of g p) x c).0
 
-  -- the items of one process rise by `items_rise`, and those of different processes by the places in the order
+  -- the frozen items along the order rise in moment: those of one process by `items_rise`, those of different ones by their places
   all_rise : Rises Sooner (frozen_along g order)
   all_rise = Rises-flat_map Sooner (frozen_items_of g) order
       (λ p c. items_rise p (from_order (process_count g) order topological.all p c))
@@ -95,18 +95,18 @@ module _ (g : Graph) (order : List ℕ) (topological : IsTopological g order) wh
       (Rises-all_pairs (λ p q. place order p < place order q) order
       (places_rise order (order_apart (process_count g) order topological.all))))
 
-  -- a later one has a later moment
+  -- of two listed items the later one has the later moment
   pub later_moment : (items : List ℕ) → items ≡ frozen_along g order → (i j : ℕ) → i < j → j < length items →
       moment g order (get_or items i 0) < moment g order (get_or items j 0)
   later_moment items is i j l m = rises_at Sooner items (subst (Rises Sooner) (sym is) all_rise) i j 0 l m
 
-  -- the items along the order are frozen items of the graph
+  -- each listed item is a frozen item of the graph
   pub frozen_listed : (x : ℕ) → Contains (frozen_along g order) x → (x < item_count g) × (is_frozen g x ≡ true)
   frozen_listed x c =
       let r = Contains-flat_map_parts (frozen_items_of g) order x c in
       ((listed r.0 x r.1 r.2).within, (Contains-filter_parts (is_frozen g) (r.0 ∷ queue_of g r.0) x r.2).1)
 
-  -- a frozen item is the start or a message of its process
+  -- a frozen item is its producer's start or in its queue: no broadcast is frozen
   among : (x : ℕ) → x < item_count g → is_frozen g x ≡ true → ItemCases g x →
       Contains (producer g x ∷ queue_of g (producer g x)) x
   among x h f (inl c) = subst (λ p. Contains (p ∷ queue_of g (producer g x)) x) (sym (ap (producer_of_item g) c.1))
@@ -117,7 +117,7 @@ module _ (g : Graph) (order : List ℕ) (topological : IsTopological g order) wh
       Contains-rest (producer g x) (queue_of g (producer g x)) x (queue-Contains g (producer g x) x h sent refl)
   among x h f (inr (inr c)) = absurd (true≢false (sym f ∙ ap (is_frozen_item g) c.3))
 
-  -- every frozen item of the graph is among them
+  -- every frozen item of the graph is listed along the order
   pub lists_frozen : (x : ℕ) → x < item_count g → is_frozen g x ≡ true → Contains (frozen_along g order) x
   lists_frozen x h f =
       Contains-flat_map (frozen_items_of g) order (producer g x) x (Contains-order (process_count g) order

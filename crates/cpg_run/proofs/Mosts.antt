@@ -1,4 +1,4 @@
--- The least number that no number of a kind is above.
+-- The greatest value over the numbers of a kind, when the kind is said in another way.
 use Rattle.std.proofs.Common.{◌≡◌, ℕ, ◌<◌, Bool, true, List, map, Contains, subst, sym}
 use Rattle.cpg_base.specs.Numbers.{greatest}
 use Rattle.cpg_base.specs.Graph.{Graph, condition_count}
@@ -12,20 +12,20 @@ use Rattle.cpg_run.specs.Most.{IsMost}
 use Rattle.cpg_run.proofs.Bounded.{passing_le}
 
 module _ (f : ℕ → ℕ) where
-  -- two kinds of the same numbers have the same least bound
+  -- if the same numbers are of the kinds P and Q, the greatest value over P is that over Q
   pub most_same : (P Q : ℕ → Type 0) (v : ℕ) → ((y : ℕ) → P y → Q y) → ((y : ℕ) → Q y → P y) → IsMost P f v →
       IsMost Q f v
   most_same P Q v to from m =
       record { above = λ y q. m.above y (from y q); least = λ b h. m.least b (λ y p. h y (to y p)) }
 
-  -- for the elements of a list it is the greatest of their values
+  -- the greatest value over the elements of a list is the greatest of the list of their values
   pub most_of_list : (xs : List ℕ) → IsMost (Contains xs) f (greatest (map f xs))
   most_of_list xs = record {
     above = λ y c. greatest_above (map f xs) (f y) (Contains-map f xs y c);
     least = λ b h. greatest-le (map f xs) b (λ v c. passing_le f xs v b h c);
   }
 
-  -- the conditions that decide a process, in whatever order
+  -- the greatest value over the conditions that decide a process, listed along the order, is that over all that decide it
   pub most_deciding : (g : Graph) (order : List ℕ) → IsTopological g order → (values : List Bool) (p v : ℕ) →
       v ≡ greatest (map f (deciding_along g order values p))
       → IsMost (λ c. (c < condition_count g) × (decides g values p c ≡ true)) f v

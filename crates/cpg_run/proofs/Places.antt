@@ -1,4 +1,5 @@
--- From all that holds before a place to all that holds before the next one.
+-- From all that holds before a place, times, ends, ready nodes and free slots, and what is found of the process there, follows
+-- the same before the next place.
 use Rattle.std.proofs.Common.{◌≡◌, ◌∙◌, ℕ, ◌+◌, ◌<◌, max, true, false, List, length, get_or, set, Option, Some, None}
 use Rattle.std.proofs.Common.{unwrap_or, arith, sym, ap, inl, inr, subst, get_or-set_same, get_or-set_other}
 use Rattle.std.proofs.lemmas.Bool.{cases_eq}
@@ -21,8 +22,8 @@ use Rattle.cpg_run.proofs.Starts.{decided_in_run, start_is}
 use Rattle.cpg_run.proofs.Steps.{ready_other, ready_idle, ready_active, free_other, free_idle, free_here, knows_idle}
 use Rattle.cpg_run.proofs.Steps.{knows_active}
 
--- given all that holds before a place, and when the node there has heard what decides its process
--- `at`: process p stands at place i. `on`, `long`, `far`: its node is one of the graph, and the two lists have an
+-- given all that is known before a place, and when the node there has heard what decides its process
+-- `at`: process p is at place i. `on`, `long`, `far`: its node is one of the graph, and the two lists have an
 -- entry for each node. `a`: times, ends, ready times and free slots are those of the run before place i. `heard`: the
 -- greatest time at which the node hears a condition that decides p, by what is known.
 module _ (g : Graph) (order : List ℕ) (topological : IsTopological g order) (frozen : List (Option ℕ)) (s : Scenario)
@@ -36,12 +37,12 @@ module _ (g : Graph) (order : List ℕ) (topological : IsTopological g order) (f
   abbrev node : ℕ
   node = node_of g p
 
-  -- what is known of when the node has heard what decides the process is so in the run
+  -- `heard` is also the greatest such time in the run
   heard_in_run : IsMost (λ c. (c < condition_count g) × (decides g s.values p c ≡ true))
       (heard_there g t (node_of g p)) heard
   heard_in_run = decided_in_run g order t i known a.knows topological s p l at heard is_heard
 
-  -- with the new time of the process's node, every node is ready as the next place asks
+  -- if v is when p's node is ready at the next place, the list with v for it says when each node is; the others stay
   readies_next : (v : ℕ) → IsReady g order s t (i + 1) (node_of g p) v → (n : ℕ) → n < length g.nodes →
       IsReady g order s t (i + 1) n (get_or (set readies (node_of g p) v) n 0)
   readies_next v ready n k = elim (cases_eq n (node_of g p)) [
@@ -90,7 +91,7 @@ module _ (g : Graph) (order : List ℕ) (topological : IsTopological g order) (f
           (ends_long : length known.ends ≡ process_count g)
           (started : begun.times ≡ set known.times p (Some start))
           (ended : begun.ends ≡ set known.ends p (Some end)) where
-        -- with the start and the end set, the process can send
+        -- with its start and its end set, the process can send: none of what it sends has a time yet, and the slots are free
         pub can_send : (free : ℕ) → free ≡ get_or frees (node_of g p) 0 → CanSend g order s t p begun free
         can_send free is = record {
           ends = ap (λ es. unwrap_or (get_or es p None) 0) ended
@@ -104,7 +105,8 @@ module _ (g : Graph) (order : List ℕ) (topological : IsTopological g order) (f
               (a.slots_free (node_of g p) on));
         }
 
-        -- once all that it sends has its times, all holds before the next place
+        -- once all that p sends has its times, all is known before the next place: its node is ready at the end of p, and the
+        -- node's slots are free after what p sent; other nodes stay as they are
         pub at_active : (new : Times) (free : ℕ) → HasSent g order s t p (length (queue_of g p)) begun new free →
             KeepsEnds begun new
             → IsAt g order s t (i + 1) new (set readies (node_of g p) end) (set frees (node_of g p) free)
@@ -114,6 +116,7 @@ module _ (g : Graph) (order : List ℕ) (topological : IsTopological g order) (f
           nodes_ready = readies_next end (ready_active g order topological frozen s t run i p l at
               (get_or readies (node_of g p) 0) heard end acts end_right
               (omega (arith, ready_at, found, ends)) (a.nodes_ready (node_of g p) on) heard_in_run);
+          -- the slots of p's node are free after what p sent, and those of other nodes as before
           slots_free = λ n k. elim (cases_eq n (node_of g p)) [
             | inl e ↦ subst (λ z. IsFree g order s t (i + 1) z (get_or (set frees (node_of g p) free) z 0)) (sym e)
                 (subst (IsFree g order s t (i + 1) (node_of g p))

@@ -1,4 +1,4 @@
--- A node's queue: what stands before what stands before an item stands before it.
+-- The order of a node's queue is transitive, and along it the places of the producers do not fall.
 use Rattle.std.proofs.Common.{ℕ, ◌<◌, ◌≤◌, ◌≡◌, true, ◌&&◌, ◌==◌, ◌⊎◌, inl, inr, List, Contains, arith, sym, ap, ◌∙◌}
 use Rattle.std.proofs.Common.{subst, eqb-true, eq-eqb, ltb-true, lt-ltb}
 use Rattle.std.proofs.lemmas.Bool.{and_parts, and_from, or_cases, or_left, or_right}
@@ -10,14 +10,14 @@ use Rattle.cpg_order.specs.Queue.{rank_of_item, is_queued_before, queued_before}
 use Rattle.cpg_base.proofs.Places.{places_from_comes_before, before_contains, comes_before_from_places}
 
 module _ (g : Graph) (order : List ℕ) where
-  -- y is sent by the node that sends x, and from an earlier producer or by a lower rank
+  -- y is sent by the node of x, and its producer is earlier in the order, or is that of x and gives y a lower rank
   record GoesBefore (y x : ℕ) : Type 0 where
     sent : is_sent g y ≡ true
     home : home g y ≡ home g x
     first : (comes_before order (producer g y) (producer g x) ≡ true) ⊎
         ((producer g y ≡ producer g x) × (rank_of_item (item_at g y) < rank_of_item (item_at g x)))
 
-  -- the parts of the test are taken apart: y is sent, it has the same home as x, and its rank is lower
+  -- an item that is queued before x goes before it
   goes_before : (y x : ℕ) → is_queued_before g order y x ≡ true → GoesBefore y x
   goes_before y x e =
       let a = and_parts (is_sent g y && (home g y == home g x)) _ e in
@@ -31,21 +31,21 @@ module _ (g : Graph) (order : List ℕ) where
         ];
       }
 
-  -- an item that goes before is queued before
+  -- an item of the graph that goes before x is queued before it
   queued_by : (y x : ℕ) → GoesBefore y x → is_queued_before g order y x ≡ true
   queued_by y x b = and_from _ _ (and_from _ _ b.sent (eq-eqb _ _ b.home)) (elim b.first [
     | inl c ↦ or_left _ _ c
     | inr c ↦ or_right _ _ (and_from _ _ (eq-eqb _ _ c.0) (lt-ltb _ _ c.1))
   ])
 
-  -- the producer of an item that goes before stands no later
+  -- its producer is not later in the order
   place_of : (y x : ℕ) → GoesBefore y x → place order (producer g y) ≤ place order (producer g x)
   place_of y x b = elim b.first [
     | inl c ↦ omega (arith, places_from_comes_before order (producer g y) (producer g x) c)
     | inr c ↦ omega (arith, ap (place order) c.0)
   ]
 
-  -- what goes before an item that goes before another goes before that one too
+  -- if z goes before y, and y before x, z goes before x: by whether the producers differ
   chain : (z y x : ℕ) → GoesBefore z y → GoesBefore y x → GoesBefore z x
   chain z y x a b = record {
     sent = a.sent;
@@ -61,17 +61,17 @@ module _ (g : Graph) (order : List ℕ) where
     ];
   }
 
-  -- what stands before an item in its queue is an item of the graph that goes before it
+  -- an item that the list before x in the queue contains is one of the graph, and is queued before x
   in_queue : (x y : ℕ) → Contains (queued_before g order x) y →
       Contains (numbers_below (item_count g)) y × (is_queued_before g order y x ≡ true)
   in_queue x y j = Contains-filter_parts (λ y. is_queued_before g order y x) (numbers_below (item_count g)) y j
 
-  -- what stands before an item in its queue comes from no later a process
+  -- the producer of an item before x in the queue is not later in the order than that of x
   pub producer_no_later : (x y : ℕ) → Contains (queued_before g order x) y →
       place order (producer g y) ≤ place order (producer g x)
   producer_no_later x y j = place_of y x (goes_before y x (in_queue x y j).1)
 
-  -- what stands before an item's predecessor in the queue stands before the item
+  -- an item before one that is before x in the queue is before x
   pub queue_chain : (x y z : ℕ) → Contains (queued_before g order x) y → Contains (queued_before g order y) z →
       Contains (queued_before g order x) z
   queue_chain x y z j i =

@@ -1,5 +1,5 @@
--- With each moment the times of a run rise by an execution and two rounds at most, above a base that the frozen times
--- keep to.
+-- From one moment to the next the times of a run rise by at most an execution or two rounds, above a base that the frozen times
+-- keep to. So they are bounded by the number of moments.
 use Rattle.std.proofs.Common.{◌≡◌, ◌∙◌, ℕ, zero, suc, ◌+◌, ◌-◌, ◌*◌, ◌<◌, ◌≤◌, ◌==◌, List, [], ◌∷◌, ◌++◌, length}
 use Rattle.std.proofs.Common.{get_or, flat_map, Contains, Option, Some, None, option_to_list, option_map, unwrap_or}
 use Rattle.std.proofs.Common.{arith, refl, sym, ap, inl, inr, subst}
@@ -35,7 +35,7 @@ use Rattle.cpg_run.specs.Run.{unfrozen_time, start_bounds, send_bounds, end_by}
 use Rattle.cpg_run.proofs.Runs.{time_is, time_in_active, end_is}
 use Rattle.cpg_run.proofs.Bounded.{start_bounds_le, send_bounds_le}
 
--- over plain numbers
+-- over plain numbers: rounding `away` up to whole turns adds at most a turn
 times_le : (away turn : ℕ) → div_ceil away turn * turn ≤ away + turn
 times_le away turn = elim (cases_lt 0 turn) [
   | inl l ↦ let r = (div_ceil_times away turn l).1 in omega arith
@@ -43,13 +43,13 @@ times_le away turn = elim (cases_lt 0 turn) [
       subst (λ n. div_ceil away n * n ≤ away + n) (sym e) (let z : div_ceil away 0 * 0 ≡ 0 = omega arith in omega arith)
 ]
 
--- the next slot is no more than two rounds away
+-- the next slot begins at most two rounds after the time
 pub next_slot-le : (g : Graph) (node time : ℕ) → next_slot g node time ≤ time + 2 * round g
 next_slot-le g node time =
     let inside : offset g node ≤ round g = sum_by-take-le (λ (s : Slot). s.length) g.slots (slot_place g node) in
     omega (arith, times_le (time - offset g node) (round g))
 
--- a bound of a frozen time, if there is one, bounds the greatest of none or it
+-- if b bounds an optional time, it bounds the greatest of its list, which is 0 if there is no time
 frozen_le : (o : Option ℕ) (b : ℕ) → ((time : ℕ) → o ≡ Some time → time ≤ b) → greatest (option_to_list o) ≤ b
 frozen_le None b h = omega arith
 frozen_le (Some time) b h = let l = h time refl in omega (arith, greatest-cons time [])
@@ -66,7 +66,7 @@ pub record AreLow (base : ℕ) (g : Graph) (order : List ℕ) (frozen : List (Op
 
 -- `base`: the number of time units that the bounds of all moments start from
 module _ (base : ℕ) (g : Graph) (order : List ℕ) (frozen : List (Option ℕ)) (s : Scenario) (t : Times) where
-  -- what is settled before a moment is small
+  -- the times and ends before a moment are at most the bound of the moment
   pub record SmallBefore (m : ℕ) : Type 0 where
     pub items : (x : ℕ) → x < item_count g → moment g order x < m → time_in t x ≤ bound base m
     pub ends : (p : ℕ) → p < process_count g → moment_of_end g order p < m → end_in t p ≤ bound base m
@@ -74,13 +74,14 @@ module _ (base : ℕ) (g : Graph) (order : List ℕ) (frozen : List (Option ℕ)
   -- given a run under frozen times that are low
   module _ (within : IsWithinLimits g) (topological : IsTopological g order) (lawful : IsScenario g s)
       (low : AreLow base g order frozen) (run : IsRun g order frozen s t) where
-    -- a frame of an earlier moment arrives no later than a round after the bound
+    -- a frame of an earlier moment arrives no later than a round (at most 16000000000) after the bound
     frame_le : (m x : ℕ) → SmallBefore m → x < item_count g → moment g order x < m →
         frame_there g t x ≤ bound base m + 16000000000
     frame_le m x a l h = omega (arith, a.items x l h, slot_length-le g (home g x), round-le g within)
 
     module _ (m p : ℕ) (a : SmallBefore m) (at : place order p * phases g ≤ m) where
-      -- a message has been sent at an earlier moment, and for any other input its source has ended by one
+      -- an input of p is there by a round after the bound: a message is sent at an earlier moment, and any other input's source
+      -- ends at one
       input_le : (e : ℕ) → Contains (inputs g p) e → input_there g t e ≤ bound base m + 16000000000
       input_le e c =
           let h = (inputs_parts g p e c).0 in
@@ -97,7 +98,7 @@ module _ (base : ℕ) (g : Graph) (order : List ℕ) (frozen : List (Option ℕ)
                 ))
           ]
 
-      -- a process before p on its node has an earlier moment
+      -- a process before p on its node has ended by then, as it ends at an earlier moment
       ended_le : (q : ℕ) → Contains (before_on_node g order p) q → end_in t q ≤ bound base m + 16000000000
       ended_le q c =
           let b = on_node_before g order p q c in
@@ -107,7 +108,8 @@ module _ (base : ℕ) (g : Graph) (order : List ℕ) (frozen : List (Option ℕ)
                 (omega (arith, end_sooner g order topological p q b.1)),
           )
 
-      -- a condition of the node itself is heard at an earlier end, any other by an earlier broadcast
+      -- a condition that the start waits for is heard by the bound of the moment and a slot: one of the node itself at an earlier
+      -- end, any other by an earlier broadcast
       heard_le : (c : ℕ) → Contains (flat_map (deciding g s.values) (before_on_node g order p ++ p ∷ [])) c →
           heard_there g t (node_of g p) c ≤ bound base m + 16000000000
       heard_le c d =
@@ -118,25 +120,27 @@ module _ (base : ℕ) (g : Graph) (order : List ℕ) (frozen : List (Option ℕ)
           let up : place order (process_of g c) < place order p =
           omega (arith, decides_earlier g order topological s.values q.0 c h r.1) in
           elim (cases_Bool (node_of g (process_of g c) == node_of g p)) [
+            -- the process is on the node, and ends at an earlier moment
             | inl is ↦ subst (λ n. n ≤ bound base m + 16000000000) (sym (cond-true _ _ _ is))
                 (omega (
                   arith,
                   a.ends (process_of g c) (process_of_below g c h)
                       (omega (arith, end_sooner g order topological p (process_of g c) up)),
                 ))
+            -- the broadcast has an earlier moment, and arrives a slot later
             | inr is ↦ subst (λ n. n ≤ bound base m + 16000000000) (sym (cond-false _ _ _ is))
                 (frame_le m (broadcast_item g c) a (omega arith)
                 (omega (arith, broadcast_sooner g order topological p c up)))
           ]
 
-      -- no start is later than the bound by more than a release and what it waits for
+      -- no bound of the start of p is later than a round after the bound of the moment
       start_le : p < process_count g → greatest (start_bounds g order s t p) ≤ bound base m + 16000000000
       start_le l =
           let release : (process_at g p).release ≤ 1000000000 = (within.processes p _ l).release in
           start_bounds_le g order s t p (bound base m + 16000000000) (omega arith) (λ e c k. input_le e c)
           (λ q c k. ended_le q c) heard_le
 
-    -- a send has to wait for nothing after the bound of its moment and two rounds
+    -- no bound of a send is later than two rounds (32000000000) after the bound of its moment
     send_le : (m x : ℕ) → SmallBefore m → moment g order x ≤ m → x < item_count g →
         phase (item_at g x) ≡ rank_of_item (item_at g x) + 2 →
         greatest (send_bounds g order s t x) ≤ bound base m + 32000000000
@@ -153,7 +157,7 @@ module _ (base : ℕ) (g : Graph) (order : List ℕ) (frozen : List (Option ℕ)
         omega
         (arith, round-le g within, a.items y k (omega (arith, queued_sooner g order topological y x k sends q.1))))
 
-    -- no item has to wait for anything after the bound of its moment and two rounds
+    -- no bound of any item is later than two rounds after the bound of its moment
     unfrozen_le : (m x : ℕ) → SmallBefore m → moment g order x ≤ m → x < item_count g → ItemCases g x →
         unfrozen_time g order s t x ≤ bound base m + 32000000000
     unfrozen_le m x a before l (inl c) =
@@ -183,7 +187,7 @@ module _ (base : ℕ) (g : Graph) (order : List ℕ) (frozen : List (Option ℕ)
           omega arith
     ]
 
-    -- an end is a duration after the start, if there is one
+    -- an end, or 0 if there is none, is at most the duration after a bound of the start
     end_from : (o : Option ℕ) (d b : ℕ) → unwrap_or o 0 ≤ b → unwrap_or (option_map (λ start. start + d) o) 0 ≤ b + d
     end_from None d b h = omega arith
     end_from (Some n) d b h = omega arith
@@ -197,7 +201,7 @@ module _ (base : ℕ) (g : Graph) (order : List ℕ) (frozen : List (Option ℕ)
       within.faults,
     )
 
-    -- an end is at most the longest duration behind its start
+    -- an end is at most the longest duration (600000000000) after a bound of the start
     end_le : (p b : ℕ) → p < process_count g → time_in t p ≤ b → end_in t p ≤ b + 600000000000
     end_le p b l h =
         let e : end_in t p ≡ unwrap_or (end_by g s t p) 0 =
@@ -208,7 +212,7 @@ module _ (base : ℕ) (g : Graph) (order : List ℕ) (frozen : List (Option ℕ)
           duration-le g p (fault_of s p) within l (fault_le p l),
         )
 
-    -- before each moment, times and ends are no later than the bound of the moment
+    -- by induction on m: no time or end before the moment m is later than the bound of m
     pub small_before : (m : ℕ) → SmallBefore m
     small_before zero = record { items = λ x l h. absurd (omega arith); ends = λ p l h. absurd (omega arith) }
     small_before (suc m) =
@@ -232,9 +236,10 @@ module _ (base : ℕ) (g : Graph) (order : List ℕ) (frozen : List (Option ℕ)
     unfrozen_low x l =
         unfrozen_le (moment g order x) x (small_before (moment g order x)) (omega arith) l (item_cases g x l)
 
--- the last moment is at most 128 * 259
+-- the number of moments is at most 128 * 259: there are at most 128 processes, with at most 259 phases each
 pub last_le : (g : Graph) → IsWithinLimits g → last g ≤ 128 * 259
 last_le g within = product (process_count g) (phases g) within.few_processes (omega (arith, within.few_edges))
   where
+    -- a product is at most that of greater factors
     product : (a b : ℕ) → a ≤ 128 → b ≤ 259 → a * b ≤ 128 * 259
     product a b h k = mul-le-mul h k

@@ -1,5 +1,5 @@
--- Rows have the times of the runs, process after process; and what is said of a row rests on the rows of earlier
--- processes.
+-- Found rows have the times of the runs, by induction along the order; and whether a row is found depends only on the rows of
+-- earlier processes.
 use Rattle.std.proofs.Common.{ℕ, zero, suc, ◌<◌, ◌≤◌, ◌≡◌, List, Contains, Option, arith, sym, ◌∙◌, subst}
 use Rattle.cpg_base.specs.Graph.{Graph, item_count, producer}
 use Rattle.cpg_base.specs.Order.{place}
@@ -15,11 +15,11 @@ use Rattle.cpg_run.proofs.EntriesMerge.{entries_times}
 -- ---- the rows of later processes may change
 
 -- given two lists that have the same rows before an item's
--- `same`: both lists have the same rows of all items whose producers stand before that of x in the order.
+-- `same`: both lists have the same rows of all items whose producers are before that of x in the order.
 module _ (g : Graph) (urgency order : List ℕ) (frozen : List (Option ℕ)) (timed : IsTimed g urgency order frozen)
     (rows others : List (List Column)) (x : ℕ) (l : x < item_count g)
     (same : SameRowsBefore g order (place order (producer g x)) rows others) where
-  -- beside the item the same is carried by both lists of rows
+  -- the literals that are carried beside x are the same by both lists of rows
   carried_alike : (s : Scenario) → carried g order rows s x ≡ carried g order others s x
   carried_alike s =
       carried_same g order timed.admitted.topological rows others (place order (producer g x)) same s x l (omega arith)
@@ -52,7 +52,7 @@ module _ (g : Graph) (urgency order : List ℕ) (frozen : List (Option ℕ)) (ti
     all = λ s e is least. are.all s e (entry_back s e is) least;
   }
 
-  -- a row that is the same in both lists is found from both
+  -- if x has the same row in both lists, and the one list has it as found from its rows, so has the other
   pub row_alike : row_at rows x ≡ row_at others x → IsRowOf g urgency order frozen rows x →
       IsRowOf g urgency order frozen others x
   row_alike own is = record {
@@ -67,7 +67,8 @@ module _ (g : Graph) (urgency order : List ℕ) (frozen : List (Option ℕ)) (ti
 -- `timed`: the graph is admitted, and `frozen` has its frozen times.
 module _ (g : Graph) (urgency order : List ℕ) (frozen : List (Option ℕ)) (timed : IsTimed g urgency order frozen)
     (rows : List (List Column)) where
-  -- rows that are found from earlier ones, up to a place, have the times of the runs
+  -- The rows of the items before a bound have the times of the runs, if each is found from those before it. By induction on n,
+  -- which is at least the bound: the entries of a row rest on rows with a smaller bound, the place of its own producer.
   rows_below : (n bound : ℕ) → bound ≤ n →
       ((y : ℕ) → IsEarlier g order bound y → IsRowOf g urgency order frozen rows y) →
       AreRowsBefore g order frozen bound rows
@@ -82,7 +83,7 @@ module _ (g : Graph) (urgency order : List ℕ) (frozen : List (Option ℕ)) (ti
         (found y e).entries (found y e).are s t law run;
   }
 
-  -- the rows of earlier processes, each found from those before it
+  -- the rows of all items from processes before the bound have the times of the runs
   pub rows_before : (bound : ℕ) → ((y : ℕ) → IsEarlier g order bound y → IsRowOf g urgency order frozen rows y) →
       AreRowsBefore g order frozen bound rows
   rows_before bound found = rows_below bound bound (omega arith) found

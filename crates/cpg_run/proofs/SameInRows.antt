@@ -1,5 +1,5 @@
--- Two scenarios, the second of which has literals that were told in the first: what a row of an earlier process tells
--- there.
+-- If what the row of an item carries in one scenario holds in another, the item is active there too, at the same time, and its row
+-- carries the same.
 use Rattle.std.proofs.Common.{ℕ, ◌<◌, ◌≡◌, true, false, List, [], ◌∷◌, length, map, filter, flat_map, get_or, Contains}
 use Rattle.std.proofs.Common.{Option, Some, None, option_to_list, append-nil, arith, refl, sym, ap, ◌∙◌}
 use Rattle.std.proofs.Common.{subst, inl, inr}
@@ -16,7 +16,7 @@ use Rattle.cpg_run.proofs.Runs.{time_is, has_time, time_parts}
 use Rattle.cpg_run.specs.Carried.{row_at, carried_by_row}
 use Rattle.cpg_run.specs.RowLaws.{HaveTimesOf}
 
--- if a map has one result, its list has one element; if it has none, its list is empty
+-- a list that is mapped to one number has one element, which is mapped to that number
 pub one_of_map : {X : Type 0} (f : X → ℕ) (xs : List X) (z : ℕ) → map f xs ≡ z ∷ [] →
     (x : X) × (xs ≡ x ∷ []) × (f x ≡ z)
 one_of_map f [] z e = absurd (omega (arith, ap length e))
@@ -28,11 +28,11 @@ none_of_map : {X : Type 0} (f : X → ℕ) (xs : List X) → map f xs ≡ [] →
 none_of_map f [] e = refl
 none_of_map f (x ∷ xs) e = absurd (omega (arith, ap length e))
 
--- a list of one element has no other
+-- what is in a list of one element is that element
 pub only_one : {X : Type 0} (x y : X) → Contains (x ∷ []) y → x ≡ y
 only_one x y j = elim (Contains-cases x [] y j) [ inl e ↦ e | inr none ↦ absurd (Contains-nil y none) ]
 
--- the columns that match
+-- the columns in the row of item y that match the scenario
 matching_in : List (List Column) → Scenario → ℕ → List Column
 matching_in rows s y = filter (λ (c : Column). matches c.cube s) (row_at rows y)
 
@@ -41,7 +41,7 @@ matching_in rows s y = filter (λ (c : Column). matches c.cube s) (row_at rows y
 -- none.
 module _ (g : Graph) (order : List ℕ) (frozen : List (Option ℕ)) (rows : List (List Column)) (y : ℕ)
     (l : y < item_count g) (times : HaveTimesOf g order frozen y (row_at rows y)) where
-  -- an inactive item's row tells nothing
+  -- the row of an inactive item carries nothing, as no column of it matches
   pub tells_nothing : (s : Scenario) → IsScenario g s → (t : Times) → IsRun g order frozen s t →
       item_active g s.values (item_at g y) ≡ false →
       carried_by_row rows s y ≡ []
@@ -50,16 +50,19 @@ module _ (g : Graph) (order : List ℕ) (frozen : List (Option ℕ)) (rows : Lis
       ap (flat_map (λ (c : Column). c.cube)) (none_of_map (λ (c : Column). c.time) (matching_in rows s y)
       (times s t law run ∙ ap option_to_list (time_is g order frozen s t run y l ∙ cond-false _ _ _ off)))
 
-  -- one column of an active item's row matches, with the time of the run
+  -- exactly one column in the row of y matches s; it has the time of the run, and its literals are what the row carries
   pub record Match (s : Scenario) (t : Times) : Type 0 where
     pub column : Column
+    -- no other column of the row matches s
     pub only : filter (λ (c : Column). matches c.cube s) (row_at rows y) ≡ column ∷ []
+    -- it has the time of the run
     pub time : column.time ≡ time_in t y
     pub stands : Contains (row_at rows y) column
     pub matched : matches column.cube s ≡ true
+    -- the row carries its literals
     pub tells : carried_by_row rows s y ≡ column.cube
 
-  -- an active item has such a column
+  -- the row of an active item has such a column
   pub the_match : (s : Scenario) → IsScenario g s → (t : Times) → IsRun g order frozen s t →
       item_active g s.values (item_at g y) ≡ true → Match s t
   unfolding matching_in
@@ -86,7 +89,8 @@ module _ (g : Graph) (order : List ℕ) (frozen : List (Option ℕ)) (rows : Lis
       pub time : get_or t.times y None ≡ get_or w.times y None
       pub tells : carried_by_row rows u y ≡ carried_by_row rows s y
 
-    -- this is so if what the row tells in the first scenario holds in the second
+    -- This is so if what the row tells in the first scenario holds in the second. The column that matches in the first then matches
+    -- in the second too, and as only one does, it is the one there, with the same time and literals.
     pub told_alike : item_active g s.values (item_at g y) ≡ true → matches (carried_by_row rows s y) u ≡ true → SameTold
     told_alike on h =
         let m = the_match s ls t run on in

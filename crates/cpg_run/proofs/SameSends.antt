@@ -1,4 +1,5 @@
--- Two scenarios, the second of which has what is carried beside an item in the first: the item is the same in it.
+-- If what is carried beside an item in one scenario holds in another, the item is active there too, at the same time, and the same
+-- is carried beside it. Starts are in SameStarts; here are sends, and then all items.
 use Rattle.std.proofs.Common.{ℕ, zero, suc, ◌+◌, ◌<◌, ◌≤◌, ◌≡◌, ◌&&◌, Bool, true, false, not, if◌then◌else◌, List, []}
 use Rattle.std.proofs.Common.{◌∷◌, ◌++◌, map, filter, flat_map, get_or, Contains, Option, Some, None, is_some}
 use Rattle.std.proofs.Common.{option_to_list, unwrap_or, arith, refl, sym, ap, ap₂, ◌∙◌, subst, inl, inr}
@@ -44,7 +45,7 @@ producer_active g values (Message e) a =
     (and_parts _ _ (and_parts (is_sent_item g (Message e)) (live g values e) a).1).0
 producer_active g values (Broadcast c) a = (and_parts (is_sent_item g (Broadcast c)) _ a).1
 
--- the value of the source of a conditional edge is one of those by which the edge is sent
+-- a conditional edge has the variable of its source's condition as its `source_value`
 pub value_in_source : (g : Graph) (e c : ℕ) (wanted : Bool) → c < condition_count g → process_of g c ≡ source g e →
     (edge_at g e).when ≡ Some wanted →
     Contains (source_value g e) (value_variable c)
@@ -63,7 +64,8 @@ module _ (g : Graph) (urgency order : List ℕ) (frozen : List (Option ℕ)) (ro
     (z : Two g urgency order frozen rows bound s u t w) where
   -- ---- whether an item is sent
 
-  -- an edge takes the value of its source in both or in neither, if that value holds in the second
+  -- the value of its source lets an edge through in both scenarios or in neither, if the value in s holds in u; an edge without a
+  -- condition is always let through
   takes_is_same : (e : ℕ) → e < edge_count g → matches (map (number_known s) (source_value g e)) u ≡ true →
       (o : Option Bool) →
       (edge_at g e).when ≡ o →
@@ -75,8 +77,8 @@ module _ (g : Graph) (urgency order : List ℕ) (frozen : List (Option ℕ)) (ro
       ∙ number_of-value u c))
       (Some wanted) is
 
-  -- an item is active in both or in neither if its producer is, and if the value by which it is sent holds in the
-  -- second
+  -- an item is active in both scenarios or in neither, if its producer is and, when that is active, the value by which the item is
+  -- sent in the first holds in the second: by its kind
   item_is_same : (x : ℕ) → x < item_count g → active g s.values (producer g x) ≡ active g u.values (producer g x) →
       (active g s.values (producer g x) ≡ true → matches (sent_by_value g s x) u ≡ true) →
       item_active g s.values (item_at g x) ≡ item_active g u.values (item_at g x)
@@ -93,11 +95,13 @@ module _ (g : Graph) (urgency order : List ℕ) (frozen : List (Option ℕ)) (ro
         ∙ ap (λ i. active g u.values (producer_of_item g i)) c.3))
   ]
     where
+      -- it suffices to look at the kind i of the item
       at : {i : Item} → item_at g x ≡ i → item_active g s.values i ≡ item_active g u.values i →
           item_active g s.values (item_at g x) ≡ item_active g u.values (item_at g x)
       at {i} e same = ap (item_active g s.values) e ∙ same ∙ sym (ap (item_active g u.values) e)
 
-      -- an edge is live if its source is active and its value is the one that is asked for; both agree
+      -- an edge is live in both scenarios or in neither: its source is active in both or in neither, and so is its value let
+      -- through
       edge : (e : ℕ) → e < edge_count g → active g s.values (source g e) ≡ active g u.values (source g e) →
           (active g s.values (source g e) ≡ true → matches (map (number_known s) (source_value g e)) u ≡ true) →
           live g s.values e ≡ live g u.values e
@@ -107,21 +111,25 @@ module _ (g : Graph) (urgency order : List ℕ) (frozen : List (Option ℕ)) (ro
             ∙ sym (ap (λ b. b && takes (edge_at g e).when (value_of g u.values (source g e))) (sym same ∙ off))
       ]
 
-  -- the value by which an item is sent is the same in the second scenario if it holds there
+  -- if the value in s by which an item is sent holds in u, it is the same there
   value_told_same : (x : ℕ) → matches (sent_by_value g s x) u ≡ true → sent_by_value g u x ≡ sent_by_value g s x
   value_told_same x h = same_map (number_known u) (number_known s) (sent_value g (item_at g x))
       (λ v j. ap (exactly v) (same_numbers u s (sent_value g (item_at g x)) h v j))
 
   -- ---- what an item leaves to those behind it
 
-  -- what an item leaves carried holds in the second scenario
+  -- each part of what the item y leaves in the queue in s holds in u
   record Leaves (y : ℕ) : Type 0 where
+    -- what decides its producer
     decided : matches (decided g s (producer g y)) u ≡ true
+    -- the value by which it is sent, if the producer is active
     value : active g s.values (producer g y) ≡ true → matches (sent_by_value g s y) u ≡ true
+    -- what is carried at the end of the producer, if the item is sent and not frozen
     sent : item_active g s.values (item_at g y) ≡ true → is_frozen g y ≡ false →
         matches (carried_at_end g order rows s (producer g y)) u ≡ true
 
-  -- what an item before x in the queue carries has three parts, and each of them holds in u
+  -- if what the item y leaves in the queue holds in u, each of its three parts does: what decides its producer, the value by which
+  -- it is sent, and what is carried at its producer's end
   leaves_parts : (y : ℕ) → matches (queued g order rows s y) u ≡ true → Leaves y
   leaves_parts y h =
       let front = holds_left u
@@ -148,7 +156,7 @@ module _ (g : Graph) (urgency order : List ℕ) (frozen : List (Option ℕ)) (ro
 
   -- ---- what is carried beside an end
 
-  -- the number of faults of a process whose end is carried is the same in the second scenario
+  -- if what is carried beside the end of p holds in u, so does the count of its faults
   end_count : (p : ℕ) → matches (carried_at_end g order rows s p) u ≡ true → holds u (number_known s p) ≡ true
   end_count p h = from_all (holds u) (number_known s p ∷ []) (number_known s p) (holds_right u
       (carried_at_start g order rows s p) (number_known s p ∷ []) h) (Contains-first (number_known s p) [])
@@ -167,7 +175,7 @@ module _ (g : Graph) (urgency order : List ℕ) (frozen : List (Option ℕ)) (ro
   end_told p l at on h =
       end_told_same g urgency order frozen rows bound s u t w z p (end_start p l at on h) (end_count p h)
 
-  -- what an item leaves to those behind it is the same in both if it holds in the second
+  -- what an item leaves to those behind it is the same in both, if its parts hold in the second: part by part
   leaves_same : (y : ℕ) → y < item_count g → place order (producer g y) ≤ bound → Leaves y →
       queued g order rows u y ≡ queued g order rows s y
   leaves_same y l at h =
@@ -194,15 +202,16 @@ module _ (g : Graph) (urgency order : List ℕ) (frozen : List (Option ℕ)) (ro
   pub record SameSend (x : ℕ) : Type 0 where
     pub acts : item_active g u.values (item_at g x) ≡ true
     pub time : get_or t.times x None ≡ get_or w.times x None
+    -- the same is carried beside it
     pub told : carried_at_send g order rows u x ≡ carried_at_send g order rows s x
 
-  -- the sends at moments before n
+  -- each sent item with a moment before n is the same if it is active in s and what is carried beside it there holds in u
   Sooner : ℕ → Type 0
   Sooner n = (y : ℕ) → moment g order y < n → y < item_count g → is_sent g y ≡ true →
       place order (producer g y) ≤ bound → item_active g s.values (item_at g y) ≡ true →
       matches (carried_at_send g order rows s y) u ≡ true → SameSend y
 
-  -- the parts of what is carried beside it
+  -- if what is carried beside a send holds in u, so does its first part: what it carries but the value by which it is sent
   front_of : (x : ℕ) → matches (carried_at_send g order rows s x) u ≡ true →
       matches (if is_frozen g x then decided g s (producer g x) else flat_map (queued g order rows s)
       (queued_before g order x) ++ carried_at_end g order rows s (producer g x)) u ≡ true
@@ -210,7 +219,7 @@ module _ (g : Graph) (urgency order : List ℕ) (frozen : List (Option ℕ)) (ro
       else flat_map (queued g order rows s) (queued_before g order x) ++ carried_at_end g order rows s (producer g x))
       (sent_by_value g s x) h
 
-  -- the value that is sent holds in the second scenario
+  -- the value by which a send is decided holds in u, if what is carried beside the send does
   value_of_send : (x : ℕ) → matches (carried_at_send g order rows s x) u ≡ true → matches (sent_by_value g s x) u ≡ true
   value_of_send x h = holds_right u (if is_frozen g x then decided g s (producer g x)
       else flat_map (queued g order rows s) (queued_before g order x) ++ carried_at_end g order rows s (producer g x))
@@ -223,7 +232,7 @@ module _ (g : Graph) (urgency order : List ℕ) (frozen : List (Option ℕ)) (ro
       ++ carried_at_end g order rows s (producer g x)) u ≡ true
   free_front x free h = subst (λ ls. matches ls u ≡ true) (cond-false _ _ _ free) (front_of x h)
 
-  -- what an item before it in the queue left holds in the second scenario
+  -- so what each item before it in the queue leaves holds in u
   queued_holds : (x : ℕ) → is_frozen g x ≡ false → matches (carried_at_send g order rows s x) u ≡ true → (y : ℕ) →
       Contains (queued_before g order x) y →
       matches (queued g order rows s y) u ≡ true
@@ -231,7 +240,7 @@ module _ (g : Graph) (urgency order : List ℕ) (frozen : List (Option ℕ)) (ro
       (holds_left u (flat_map (queued g order rows s) (queued_before g order x))
       (carried_at_end g order rows s (producer g x)) (free_front x free h)) j
 
-  -- what is carried beside the end of its producer holds in the second scenario
+  -- what is carried beside the end of the producer of an unfrozen send holds in u, if what is carried beside the send does
   end_holds : (x : ℕ) → is_frozen g x ≡ false → matches (carried_at_send g order rows s x) u ≡ true →
       matches (carried_at_end g order rows s (producer g x)) u ≡ true
   end_holds x free h = holds_right u (flat_map (queued g order rows s) (queued_before g order x))
@@ -253,17 +262,18 @@ module _ (g : Graph) (urgency order : List ℕ) (frozen : List (Option ℕ)) (ro
       }
 
   -- given a send that is not frozen, such that what is carried beside it holds in the second scenario
-  -- `sent`: x is an item that is sent. `at`: its producer stands up to the place `bound`. `free`: it isn't frozen.
+  -- `sent`: x is an item that is sent. `at`: its producer is at the place `bound` or before it. `free`: it isn't frozen.
   -- `on`: it is active in s. `h`: what is carried beside it in s holds in u. `sooner`: the theorem holds for earlier
   -- moments.
   module _ (x : ℕ) (within : x < item_count g) (sent : is_sent g x ≡ true) (at : place order (producer g x) ≤ bound)
       (free : is_frozen g x ≡ false) (on : item_active g s.values (item_at g x) ≡ true)
       (h : matches (carried_at_send g order rows s x) u ≡ true) (sooner : Sooner (moment g order x)) where
-    -- what each item before in the queue leaves holds in the second scenario
+    -- each part of what an item before x in the queue leaves holds in u
     leaves : (y : ℕ) → Contains (queued_before g order x) y → Leaves y
     leaves y j = leaves_parts y (queued_holds x free h y j)
 
-    -- what is carried beside an item before it in the queue
+    -- What is carried beside an active item y before x in the queue holds in u too. A frozen y carries what decides its producer
+    -- and its value; any other also what the items before it leave, which are before x as well.
     carried_before : (y : ℕ) → Contains (queued_before g order x) y → item_active g s.values (item_at g y) ≡ true →
         matches (carried_at_send g order rows s y) u ≡ true
     carried_before y j acts =
@@ -282,7 +292,7 @@ module _ (g : Graph) (urgency order : List ℕ) (frozen : List (Option ℕ)) (ro
               (mine.sent acts f))
         ]) value
 
-    -- an active item before it in the queue has the same time in both
+    -- an active item before x in the queue has the same time in both
     queued_same : (y : ℕ) → Contains (queued_before g order x) y → item_active g s.values (item_at g y) ≡ true →
         get_or t.times y None ≡ get_or w.times y None
     unfolding Sooner
@@ -302,7 +312,8 @@ module _ (g : Graph) (urgency order : List ℕ) (frozen : List (Option ℕ)) (ro
     start : SameStart g urgency order frozen rows bound s u t w z (producer g x)
     start = end_start (producer g x) producer_within at producer_on (end_holds x free h)
 
-    -- the producer's end agrees, and so do the times of the active items before x in the queue
+    -- the bounds of x are the same in both: the producer ends at the same time, and the same items before x in the queue are
+    -- active, at the same times
     bounds_same : send_bounds g order s t x ≡ send_bounds g order u w x
     bounds_same = ap₂ ◌∷◌
         (ap (next_slot g (home g x)) (end_is_same g urgency order frozen rows bound s u t w z
@@ -317,7 +328,8 @@ module _ (g : Graph) (urgency order : List ℕ) (frozen : List (Option ℕ)) (ro
         (λ y j.
         leaves_active y (queued_parts g order z.timed.admitted.topological x y within sent j).within (leaves y j))))
 
-    -- the item is active in u too, its bounds agree, and so does each part of what is carried
+    -- if x isn't frozen, it is the same in both: it is active in u too, its bounds are the same, and so is each part of what is
+    -- carried
     free_send : SameSend x
     free_send =
         let also = sym (item_is_same x within (producer_on ∙ sym start.acts) (λ a. value_of_send x h)) ∙ on in
@@ -337,7 +349,7 @@ module _ (g : Graph) (urgency order : List ℕ) (frozen : List (Option ℕ)) (ro
               (value_told_same x (value_of_send x h));
         }
 
-  -- before each moment: if what is carried beside a send holds in the second scenario, the send is the same in both
+  -- `Sooner n` for each n, by induction: a send that isn't frozen rests on those of earlier moments
   sends_below : (n : ℕ) → Sooner n
   unfolding Sooner
   sends_below zero y b l e at on h = absurd (omega (arith, b))
@@ -359,9 +371,10 @@ module _ (g : Graph) (urgency order : List ℕ) (frozen : List (Option ℕ)) (ro
   pub record SameItem (x : ℕ) : Type 0 where
     pub acts : item_active g u.values (item_at g x) ≡ true
     pub time : get_or t.times x None ≡ get_or w.times x None
+    -- the same is carried beside it
     pub told : carried g order rows u x ≡ carried g order rows s x
 
-  -- a send that is the same in both is an item that is the same in both
+  -- for a message or a broadcast, `SameSend` is `SameItem`: what is carried beside the item is what is carried beside a send
   from_send : (x : ℕ) (i : Item) → item_at g x ≡ i →
       carried_by_item g order rows u x i ≡ carried_at_send g order rows u x →
       carried_by_item g order rows s x i ≡ carried_at_send g order rows s x →
@@ -373,7 +386,8 @@ module _ (g : Graph) (urgency order : List ℕ) (frozen : List (Option ℕ)) (ro
         ∙ sym (ap (carried_by_item g order rows s x) item ∙ b);
   }
 
-  -- if what is carried beside an item holds in the second scenario, the item is the same in both
+  -- if what is carried beside an item in the first scenario holds in the second, the item is the same in both: by whether it is a
+  -- start, a message or a broadcast
   pub item_alike : (x : ℕ) → x < item_count g → place order (producer g x) ≤ bound →
       item_active g s.values (item_at g x) ≡ true → matches (carried g order rows s x) u ≡ true → SameItem x
   item_alike x l at on h = elim (item_cases g x l) [
@@ -398,8 +412,8 @@ module _ (g : Graph) (urgency order : List ℕ) (frozen : List (Option ℕ)) (ro
         (subst (λ i. matches (carried_by_item g order rows s x i) u ≡ true) c.3 h))
   ]
 
--- what is carried beside a time decides it: in each scenario in which it holds, the item has the same time, and the
--- same is carried
+-- what is carried beside a time decides it: in each scenario in which it holds the item is active, has the same time, and carries
+-- the same; `item_alike` says so of the runs of both scenarios
 pub carried_decides : CarriedDecides
 carried_decides g urgency order frozen rows s u x timed l earlier ls lu on h =
     let two : (t w : Times) → IsRun g order frozen s t → IsRun g order frozen u w →

@@ -1,5 +1,5 @@
--- Two scenarios, the second of which has what is carried beside a start in the first: it has the start too, at the same
--- time.
+-- If what is carried beside a start in one scenario holds in another, the process starts there too, at the same time, and the same
+-- is carried beside it.
 use Rattle.std.proofs.Common.{ℕ, zero, suc, ◌+◌, ◌<◌, ◌≤◌, ◌≡◌, ◌==◌, Bool, true, false, if◌then◌else◌, List, [], ◌∷◌}
 use Rattle.std.proofs.Common.{◌++◌, length, map, filter, flat_map, get_or, Contains, Option, Some, None}
 use Rattle.std.proofs.Common.{option_to_list, unwrap_or, arith, sym, ap, ap₂, ◌∙◌, subst, inl, inr, eqb-true, lt-ltb}
@@ -45,14 +45,14 @@ use Rattle.cpg_run.proofs.CarriedBefore.{hears_earlier, receives_earlier}
 use Rattle.cpg_run.proofs.CubesOf.{holds_left, holds_right, holds_each, holds_both, holds_all, same_number}
 use Rattle.cpg_run.proofs.SameInRows.{tells_nothing, SameTold, told_alike}
 
--- filters that are the same pass the same elements
+-- if two tests leave the same of a list, they have the same outcome for each of its elements
 pub same_filter_at : (p q : ℕ → Bool) (xs : List ℕ) → filter p xs ≡ filter q xs → (x : ℕ) → Contains xs x → p x ≡ q x
 same_filter_at p q xs e x j = same_truth (p x) (q x)
     (λ h. (Contains-filter_parts q xs x (subst (λ ys. Contains ys x) e (Contains-filter p xs x h j))).1)
     (λ h. (Contains-filter_parts p xs x (subst (λ ys. Contains ys x) (sym e) (Contains-filter q xs x h j))).1)
 
--- what the laws on two scenarios stand on: rows with the times of the runs, of the items from processes at earlier
--- places
+-- What the laws on two scenarios start from: the frozen times of an admitted graph (`timed`), rows that have the times of the runs
+-- for all items of processes before `bound` (`times`), and the runs of both scenarios.
 pub record Two (g : Graph) (urgency order : List ℕ) (frozen : List (Option ℕ)) (rows : List (List Column)) (bound : ℕ)
     (s u : Scenario) (t w : Times) : Type 0 where
   pub timed : IsTimed g urgency order frozen
@@ -91,12 +91,12 @@ module _ (g : Graph) (urgency order : List ℕ) (frozen : List (Option ℕ)) (ro
       ∙ ap (λ n. Some (greatest (n ∷ option_to_list (get_or frozen x None)))) e ∙
       sym (time_active g order frozen u w z.other x l also)
 
-  -- an item of an earlier process, and what its row tells
+  -- if y is an item of a process before the bound, it has the same time in both scenarios, and its row carries the same
   Told : ℕ → Type 0
   Told y = (e : IsEarlier g order bound y) →
       SameTold g order frozen rows y e.0 (z.times y e) s u z.first z.second t w z.run z.other
 
-  -- what a row tells in the first scenario it tells in the second
+  -- this holds if y is active in s and what its row carries there holds in u
   told : (y : ℕ) → item_active g s.values (item_at g y) ≡ true → matches (carried_by_row rows s y) u ≡ true → Told y
   unfolding Told
   told y on h e = told_alike g order frozen rows y e.0 (z.times y e) s u z.first z.second t w z.run z.other on h
@@ -104,7 +104,7 @@ module _ (g : Graph) (urgency order : List ℕ) (frozen : List (Option ℕ)) (ro
   -- ---- if what decides a process holds
 
   module _ (p : ℕ) (d : matches (decided g s p) u ≡ true) where
-    -- the condition of a value that decides the process has the same number in both
+    -- the variable of a condition that decides the process has the same number in both
     value_same : (c : ℕ) → Contains (deciding g s.values p) c →
         number_of u (value_variable c) ≡ number_of s (value_variable c)
     value_same c j = same_number u s (value_variable c)
@@ -132,7 +132,7 @@ module _ (g : Graph) (urgency order : List ℕ) (frozen : List (Option ℕ)) (ro
     unfolding k
     deciding_is_same = deciding_same g urgency k.urgent p s.values u.values agrees
 
-    -- the same conditions decide it, with the same values
+    -- what decides the process is the same in both: the same conditions, with the same values
     pub decided_is_same : decided g u p ≡ decided g s p
     decided_is_same = ap (map (λ (c : ℕ). number_known u (value_variable c))) (sym deciding_is_same)
         ∙ same_map (λ (c : ℕ). number_known u (value_variable c)) (λ (c : ℕ). number_known s (value_variable c))
@@ -152,9 +152,11 @@ module _ (g : Graph) (urgency order : List ℕ) (frozen : List (Option ℕ)) (ro
           )
 
       module _ (at : place order p ≤ bound) where
-        -- what is heard of the conditions that decide a process is the same, if it holds
+        -- if what p hears in s of the conditions that decide it holds in u, it hears the same there
         module _ (h : matches (heard g rows s p) u ≡ true) where
-          -- the broadcast of a deciding condition of another node tells in both scenarios
+          -- the broadcast of a deciding condition of another node tells the same in both scenarios: it is sent, as the graph has
+          -- two nodes and the condition's process is active, and what its row tells in s is carried beside the start and so holds
+          -- in u
           hears : (c : ℕ) → Contains (deciding g s.values p) c → (node_of g (process_of g c) == node_of g p) ≡ false →
               Told (broadcast_item g c)
           unfolding k
@@ -173,19 +175,19 @@ module _ (g : Graph) (urgency order : List ℕ) (frozen : List (Option ℕ)) (ro
               told (broadcast_item g c) (ap (item_active g s.values) (item_at-broadcast g c)
               ∙ and_from _ _ (lt-ltb 1 (length g.nodes) two) a.1) tells
 
-          -- the broadcast of such a condition is of an earlier row
+          -- the broadcast of such a condition is an item of a process before the bound
           hears_at : (c : ℕ) → Contains (deciding g s.values p) c → IsEarlier g order bound (broadcast_item g c)
           unfolding k
           hears_at c j = let r = hears_earlier g order k.topological s p c j in (r.0, omega (arith, r.1, at))
 
-          -- the broadcast of a condition that decides it, from another node, has the same time in both
+          -- the broadcast of a condition that decides p, from another node, has the same time in both
           pub hears_time : (c : ℕ) → Contains (deciding g s.values p) c →
               (node_of g (process_of g c) == node_of g p) ≡ false →
               get_or t.times (broadcast_item g c) None ≡ get_or w.times (broadcast_item g c) None
           unfolding Told
           hears_time c j far = (hears c j far (hears_at c j)).time
 
-          -- those broadcasts told the same
+          -- p hears the same in both: no row for a condition of its own node, and the same of each broadcast
           pub heard_is_same : heard g rows u p ≡ heard g rows s p
           unfolding Told
           heard_is_same = ap (flat_map (λ c. if node_of g (process_of g c) == node_of g p then []
@@ -217,16 +219,16 @@ module _ (g : Graph) (urgency order : List ℕ) (frozen : List (Option ℕ)) (ro
               (sym mine ∙ activation_is_same ∙ its)
               (ap is_active (sym mine) ∙ on)
 
-          -- the same inputs are live
+          -- each input is live in both scenarios or in neither
           live_at : (e : ℕ) → Contains (inputs g p) e → live g s.values e ≡ live g u.values e
           live_at e j = same_filter_at (live g s.values) (live g u.values) (inputs g p) live_is_same e j
 
-          -- a message is active exactly if its edge is live
+          -- the message of a message edge is active exactly if the edge is live
           message_acts : (v : List Bool) (e : ℕ) → e < edge_count g → is_message g e ≡ true →
               item_active g v (item_at g (message_item g e)) ≡ live g v e
           message_acts v e l m = ap (item_active g v) (item_at-message g e l) ∙ ap (λ b. b && live g v e) m
 
-          -- the message of an input is of an earlier row
+          -- the message of an input is an item of a process before the bound
           receives_at : (e : ℕ) → Contains (inputs g p) e → IsEarlier g order bound (message_item g e)
           unfolding k
           receives_at e j = let r = receives_earlier g order k.topological p e j in (r.0, omega (arith, r.1, at))
@@ -246,7 +248,8 @@ module _ (g : Graph) (urgency order : List ℕ) (frozen : List (Option ℕ)) (ro
             unfolding Told
             receives_time e j is v = (receives e j is v (receives_at e j)).time
 
-            -- a message that is not sent tells nothing in either
+            -- the row of an input's message carries the same in both: by `receives` if the edge is live, and nothing in either if
+            -- not
             message_same : (e : ℕ) → Contains (inputs g p) e → is_message g e ≡ true →
                 carried_by_row rows u (message_item g e) ≡ carried_by_row rows s (message_item g e)
             unfolding Told
@@ -261,7 +264,7 @@ module _ (g : Graph) (urgency order : List ℕ) (frozen : List (Option ℕ)) (ro
                       (z.times (message_item g e) at) s z.first t z.run (message_acts s.values e l is ∙ off))
                 ]
 
-            -- the messages to the process told the same
+            -- the process receives the same in both
             pub received_is_same : received g rows u p ≡ received g rows s p
             received_is_same = same_flat_map
                 (λ e. if is_message g e then carried_by_row rows u (message_item g e) else [])
@@ -274,19 +277,19 @@ module _ (g : Graph) (urgency order : List ℕ) (frozen : List (Option ℕ)) (ro
 
   -- ---- ends
 
-  -- a process has the same fault count in both if its number holds in the second
+  -- a process has the same count of faults in both if the literal of its count in s holds in u
   count_same : (p : ℕ) → p < process_count g → holds u (number_known s p) ≡ true → fault_of s p ≡ fault_of u p
   unfolding k
   count_same p l h = sym (number_of-fault s p (omega (arith, l, k.formed.few_processes))) ∙ sym (same_number u s p h)
       ∙ number_of-fault u p (omega (arith, l, k.formed.few_processes))
 
-  -- a start that is the same in the second scenario
+  -- p starts in u too, at the same time, and the same is carried beside its start
   pub record SameStart (p : ℕ) : Type 0 where
     pub acts : active g u.values p ≡ true
     pub time : get_or t.times p None ≡ get_or w.times p None
     pub told : carried_at_start g order rows u p ≡ carried_at_start g order rows s p
 
-  -- a start that is the same has the same end, if the count holds in the second
+  -- the process then ends at the same time in both, if its count of faults in s holds in u
   pub end_is_same : (p : ℕ) → p < process_count g → active g s.values p ≡ true → SameStart p →
       holds u (number_known s p) ≡ true →
       end_in t p ≡ end_in w p
@@ -294,20 +297,23 @@ module _ (g : Graph) (urgency order : List ℕ) (frozen : List (Option ℕ)) (ro
       ∙ ap₂ (λ o f. unwrap_or o 0 + duration g p f) same.time (count_same p l h)
       ∙ sym (end_active g order frozen u w z.other p l same.acts)
 
-  -- the same is carried beside the end of the process in both scenarios
+  -- the same is carried beside the end of p in both, if its fault count is the same too
   pub end_told_same : (p : ℕ) → SameStart p → holds u (number_known s p) ≡ true →
       carried_at_end g order rows u p ≡ carried_at_end g order rows s p
   end_told_same p same h = ap₂ (λ ls n. ls ++ exactly p n ∷ []) same.told (same_number u s p h)
 
   -- ---- what a node carries on from a process
 
-  -- the parts of it
+  -- each part of what a node carries on from q in s holds in u
   record Passes (q : ℕ) : Type 0 where
+    -- what decides q
     decided : matches (decided g s q) u ≡ true
+    -- what the broadcasts of that told
     heard : matches (heard g rows s q) u ≡ true
+    -- what its execution adds, if it is active
     executed : active g s.values q ≡ true → matches (executed g rows s q) u ≡ true
 
-  -- what a process before p on its node carries has three parts, and each of them holds in u
+  -- if all that a node carries on from q holds in u, each of its parts does; `executed` is a part only if q is active
   passes_parts : (q : ℕ) → matches (passed g rows s q) u ≡ true → Passes q
   passes_parts q h =
       let front = holds_left u (decided g s q ++ heard g rows s q)
@@ -320,7 +326,7 @@ module _ (g : Graph) (urgency order : List ℕ) (frozen : List (Option ℕ)) (ro
         executed = λ on. subst (λ b. matches (if b then executed g rows s q else []) u ≡ true) on last;
       }
 
-  -- the number of faults that an execution carries is the same
+  -- if what an execution adds holds in u, so does the count of faults in it
   executed_count : (q : ℕ) → matches (executed g rows s q) u ≡ true → holds u (number_known s q) ≡ true
   executed_count q h = from_all (holds u) (number_known s q ∷ []) (number_known s q)
       (holds_right u (if (process_at g q).frozen then [] else received g rows s q) (number_known s q ∷ []) h)
@@ -358,16 +364,20 @@ module _ (g : Graph) (urgency order : List ℕ) (frozen : List (Option ℕ)) (ro
 
   -- ---- a start that is not frozen
 
-  -- the starts at places before n
+  -- each process before the place n is the same at its start if it is active in s and what is carried there holds in u
   Before : ℕ → Type 0
   Before n = (q : ℕ) → place order q < n → q < process_count g → active g s.values q ≡ true →
       matches (carried_at_start g order rows s q) u ≡ true → SameStart q
 
-  -- the parts of what is carried beside it
+  -- each part of what is carried beside a start that isn't frozen holds in u
   record Starts (p : ℕ) : Type 0 where
+    -- what each earlier process of the node passes on
     before : (q : ℕ) → Contains (before_on_node g order p) q → Passes q
+    -- what decides p
     decided : matches (decided g s p) u ≡ true
+    -- what the broadcasts of that told
     heard : matches (heard g rows s p) u ≡ true
+    -- what the messages to p told
     received : matches (received g rows s p) u ≡ true
 
   -- if what is carried beside a start that is not frozen holds in the second scenario, its parts hold together
@@ -376,7 +386,7 @@ module _ (g : Graph) (urgency order : List ℕ) (frozen : List (Option ℕ)) (ro
       ++ received g rows s p) u ≡ true
   free_parts p free h = subst (λ ls. matches ls u ≡ true) (cond-false _ _ _ free) h
 
-  -- what is carried beside a start that is not frozen holds if its parts do
+  -- what is carried beside a start that is not frozen holds in u if its four parts do
   free_from : (p : ℕ) → (process_at g p).frozen ≡ false →
       matches (flat_map (passed g rows s) (before_on_node g order p)) u ≡ true →
       matches (decided g s p) u ≡ true →
@@ -398,7 +408,7 @@ module _ (g : Graph) (urgency order : List ℕ) (frozen : List (Option ℕ)) (ro
       (holds_left u (flat_map (passed g rows s) (before_on_node g order p) ++ decided g s p ++ heard g rows s p)
       (received g rows s p) (free_parts p free h)))) j
 
-  -- all parts of what is carried beside the start hold in the second scenario
+  -- if what is carried beside the start of p, which isn't frozen, holds in u, each of its parts does
   starts_parts : (p : ℕ) → (process_at g p).frozen ≡ false → matches (carried_at_start g order rows s p) u ≡ true →
       Starts p
   starts_parts p free h =
@@ -418,12 +428,12 @@ module _ (g : Graph) (urgency order : List ℕ) (frozen : List (Option ℕ)) (ro
       }
 
   -- given a start that is not frozen, such that what is carried beside it holds in the second scenario
-  -- `at`: p stands up to the place `bound`. `free`: its start isn't frozen. `on`: it is active in s. `h`: what is
-  -- carried beside its start in s holds in u. `earlier`: the theorem holds for the processes that stand before p.
+  -- `at`: p is at the place `bound` or before it. `free`: its start isn't frozen. `on`: it is active in s. `h`: what is
+  -- carried beside its start in s holds in u. `earlier`: the theorem holds for the processes before p.
   module _ (p : ℕ) (within : p < process_count g) (at : place order p ≤ bound) (free : (process_at g p).frozen ≡ false)
       (on : active g s.values p ≡ true)
       (h : matches (carried_at_start g order rows s p) u ≡ true) (earlier : Before (place order p)) where
-    -- what holds of a process whose start is carried
+    -- each part of what is carried beside the start holds in u
     parts : Starts p
     parts = starts_parts p free h
 
@@ -431,7 +441,8 @@ module _ (g : Graph) (urgency order : List ℕ) (frozen : List (Option ℕ)) (ro
     earlier_at : (q : ℕ) → Contains (before_on_node g order p) q → Earlier g order z.timed.admitted.topological p q
     earlier_at q j = earlier_parts g order z.timed.admitted.topological p q j
 
-    -- what is carried beside the start of a process before it on its node
+    -- What is carried beside the start of an active process q before p on its node holds in u as well. If q is frozen, it is what
+    -- decides q; otherwise all of its parts are among those of p, as the processes before q are before p.
     carried_before : (q : ℕ) → Contains (before_on_node g order p) q → active g s.values q ≡ true →
         matches (carried_at_start g order rows s q) u ≡ true
     carried_before q j acts =
@@ -456,21 +467,21 @@ module _ (g : Graph) (urgency order : List ℕ) (frozen : List (Option ℕ)) (ro
     end_before q j acts = end_is_same q (earlier_at q j).within acts (start_before q j acts)
         (executed_count q ((parts.before q j).executed acts))
 
-    -- what decides a process up to it, and what is heard of that
+    -- what decides a process up to p on its node holds in u
     decided_up_to : (q : ℕ) → Contains (up_to g order p) q → matches (decided g s q) u ≡ true
     decided_up_to q j = elim (up_to_cases g order z.timed.admitted.topological p q j) [
       | inl i ↦ (parts.before q i).decided
       | inr is ↦ subst (λ q. matches (decided g s q) u ≡ true) is parts.decided
     ]
 
-    -- what is heard for the processes up to this one holds in the second scenario
+    -- what such a process hears holds in u
     heard_up_to : (q : ℕ) → Contains (up_to g order p) q → matches (heard g rows s q) u ≡ true
     heard_up_to q j = elim (up_to_cases g order z.timed.admitted.topological p q j) [
       | inl i ↦ (parts.before q i).heard
       | inr is ↦ subst (λ q. matches (heard g rows s q) u ≡ true) is parts.heard
     ]
 
-    -- the processor is free at the same time
+    -- the ends that p waits for on its processor are the same in both
     processor_same : processor_bounds g order s t p ≡ processor_bounds g order u w p
     processor_same = same_map (end_in t) (end_in w) (filter (active g s.values) (before_on_node g order p))
         (λ q j. let r = Contains-filter_parts (active g s.values) (before_on_node g order p) q j in
@@ -478,7 +489,8 @@ module _ (g : Graph) (urgency order : List ℕ) (frozen : List (Option ℕ)) (ro
         ∙ ap (map (end_in w)) (same_filter (active g s.values) (active g u.values) (before_on_node g order p)
         (λ q j. active_is_same q (parts.before q j).decided))
 
-    -- each condition that the start waits for is heard at the same time in both
+    -- each condition that the start waits for is heard at the same time in both: one of the node itself at an earlier end on the
+    -- node, any other by a broadcast whose time is carried with it
     hearing_at : (c : ℕ) → Contains (flat_map (deciding g s.values) (up_to g order p)) c →
         heard_there g t (node_of g p) c ≡ heard_there g w (node_of g p) c
     hearing_at c j =
@@ -500,15 +512,15 @@ module _ (g : Graph) (urgency order : List ℕ) (frozen : List (Option ℕ)) (ro
               ∙ sym (cond-false _ _ _ far)
         ]
 
-    -- what decides is heard at the same time
+    -- the bounds of hearing are the same: the same conditions are waited for in both, and each is heard at the same time
     hearing_same : hearing_bounds g order s t p ≡ hearing_bounds g order u w p
     hearing_same = same_map (heard_there g t (node_of g p)) (heard_there g w (node_of g p))
         (flat_map (deciding g s.values) (up_to g order p)) hearing_at
         ∙ ap (map (heard_there g w (node_of g p))) (same_flat_map (deciding g s.values) (deciding g u.values)
         (up_to g order p) (λ q j. deciding_is_same q (decided_up_to q j)))
 
-    -- the time of a message is carried with it, and the end of any other source stands by the theorem for earlier
-    -- ones
+    -- each live input is there at the same time in both: a message, whose time is carried with it, or the end of an earlier process
+    -- on the node
     input_at : (e : ℕ) → Contains (inputs g p) e → live g s.values e ≡ true → input_there g t e ≡ input_there g w e
     input_at e j v =
         let r = inputs_parts g p e j in
@@ -535,7 +547,8 @@ module _ (g : Graph) (urgency order : List ℕ) (frozen : List (Option ℕ)) (ro
     bounds_same : start_bounds g order s t p ≡ start_bounds g order u w p
     bounds_same = ap₂ (λ xs ys. (process_at g p).release ∷ xs ++ ys) (ap₂ ◌++◌ inputs_same processor_same) hearing_same
 
-    -- the process is active in u too, its bounds agree, and so does each part of what is carried
+    -- if p isn't frozen, its start is the same in both: p is active in u too, its bounds are the same, and so is each part of
+    -- what is carried
     free_start : SameStart p
     free_start =
         let also = sym (active_is_same p parts.decided) ∙ on in
@@ -573,7 +586,7 @@ module _ (g : Graph) (urgency order : List ℕ) (frozen : List (Option ℕ)) (ro
         told = cond-true _ _ _ f ∙ decided_is_same p d ∙ sym (cond-true _ _ _ f);
       }
 
-  -- before each place: if what is carried beside a start holds in the second scenario, the start is the same in both
+  -- `Before n` for each n up to the bound, by induction: a start that isn't frozen rests on those at earlier places
   starts_below : (n : ℕ) → n ≤ suc bound → Before n
   unfolding Before
   starts_below zero m q b l on h = absurd (omega (arith, b))

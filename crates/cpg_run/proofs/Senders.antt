@@ -40,7 +40,7 @@ module _ (g : Graph) where
     queued_slot p x c = let q = in_queue g p x c in subst (λ r. HasSlot g (node_of g r)) q.by (slots x q.within q.sent)
 
   module _ (values : List Bool) (p x : ℕ) (queued : Contains (queue_of g p) x) where
-    -- each broadcast in the queue of an active process is active
+    -- a broadcast in the queue of an active process is active: the items from this number on are broadcasts
     pub broadcast_active : active g values p ≡ true → process_count g + edge_count g ≤ x →
         item_active g values (item_at g x) ≡ true
     broadcast_active acts late = let q = in_queue g p x queued in elim (item_cases g x q.within) [
@@ -51,7 +51,7 @@ module _ (g : Graph) where
           (ap (active g values) (sym (ap (producer_of_item g) c.3) ∙ q.by) ∙ acts)
     ]
 
-    -- a message in the queue is active if and only if its edge is live
+    -- a message in the queue is active if and only if its edge is live: the items below this number are starts and messages
     pub message_active : x < process_count g + edge_count g →
         item_active g values (item_at g x) ≡ live g values (x - process_count g)
     message_active early = let q = in_queue g p x queued in elim (item_cases g x q.within) [
@@ -66,7 +66,7 @@ module _ (g : Graph) where
     pub queued_above : process_count g ≤ x
     queued_above = (in_queue g p x queued).above
 
--- the greatest of those that pass is the greatest of all, with 0 for the others
+-- the greatest f of the elements that pass a test is the greatest over all elements, if those that don't pass count as 0
 pub greatest_passing : (f : ℕ → ℕ) (test : ℕ → Bool) (xs : List ℕ) →
     greatest (map (λ x. if test x then f x else 0) xs) ≡ greatest (map f (filter test xs))
 greatest_passing f test [] = refl

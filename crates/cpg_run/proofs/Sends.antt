@@ -1,4 +1,5 @@
--- What a process sends next follows from what its node has sent before.
+-- The time of the item that a process sends next is found from when its node's slots are free after all that the node has sent
+-- before.
 use Rattle.std.proofs.Common.{◌≡◌, ◌∙◌, ℕ, suc, ◌+◌, ◌<◌, ◌≤◌, max, true, false, ◌&&◌, ◌==◌, ltb, List, [], ◌∷◌, ◌++◌}
 use Rattle.std.proofs.Common.{length, get_or, set, take, drop, Contains, Option, Some, None, option_to_list}
 use Rattle.std.proofs.Common.{arith, refl, sym, ap, ap₂, inl, inr, ◌⊎◌, ⊎_elim, subst, eq-eqb, eqb-true, lt-ltb}
@@ -32,7 +33,7 @@ use Rattle.cpg_run.proofs.Mosts.{most_same}
 use Rattle.cpg_bus.proofs.Queued.{in_queue, queue-Contains, queue_rises, below_first, in_first, rank_at}
 use Rattle.cpg_run.proofs.Starts.{greatest_option, both_ways_equal}
 
--- an element of the first k + 1 is one of the first k, or the next
+-- an element of the first k + 1 is one of the first k, or that at place k
 pub take_next : (xs : List ℕ) (k y : ℕ) → k < length xs → Contains (take (k + 1) xs) y →
     Contains (take k xs) y ⊎ (y ≡ get_or xs k 0)
 take_next xs k y l c =
@@ -44,7 +45,7 @@ take_next xs k y l c =
           elim (Contains-cases (get_or xs k 0) [] y b) [ inl e ↦ inr (sym e) | inr none ↦ absurd (Contains-nil y none) ]
     ]
 
--- an element of the first k, or the next, is one of the first k + 1
+-- an element of the first k, or that at place k, is one of the first k + 1
 pub in_next : (xs : List ℕ) (k y : ℕ) → k < length xs → Contains (take k xs) y ⊎ (y ≡ get_or xs k 0) →
     Contains (take (k + 1) xs) y
 in_next xs k y l c =
@@ -68,7 +69,7 @@ module _ (g : Graph) (order : List ℕ) (topological : IsTopological g order) (s
   -- ---- what a node has sent before an item
 
   module _ (k : ℕ) (inside : k < length (queue_of g p)) where
-    -- the item at place k of what the process sends
+    -- the item at place k of the queue
     abbrev here : ℕ
     here = get_or (queue_of g p) k 0
 
@@ -76,7 +77,7 @@ module _ (g : Graph) (order : List ℕ) (topological : IsTopological g order) (s
     pub here_sent : Contains (queue_of g p) here
     here_sent = Contains-get_or (queue_of g p) k 0 inside
 
-    -- an active item before this one in the queue was sent before it
+    -- an active item queued before this one is sent for an earlier process, or is one of the first k of p
     queued_is_by : (y : ℕ) → Contains (queued_before g order here) y → item_active g s.values (item_at g y) ≡ true →
         IsSentBy g order s p k y
     queued_is_by y c acts =
@@ -97,7 +98,8 @@ module _ (g : Graph) (order : List ℕ) (topological : IsTopological g order) (s
               (or_cases _ _ b.1),
         )
 
-    -- the tests of `is_queued_before` hold: y is sent, has the same home, and stands before the item at place k
+    -- and conversely: an active item that the node sends for an earlier process, or that is one of the first k of p, is queued
+    -- before the item at place k, as it passes the tests of `is_queued_before`
     by_is_queued : (y : ℕ) → IsSentBy g order s p k y → Contains (queued_before g order here) y
     by_is_queued y h =
         let x = in_queue g p here here_sent in
@@ -113,7 +115,7 @@ module _ (g : Graph) (order : List ℕ) (topological : IsTopological g order) (s
               (lt-ltb _ _ (below_first (rank_at g) (queue_of g p) (queue_rises g p) k inside y first)))
         ]))
 
-    -- no item stands before itself
+    -- the item at place k is not among the first k
     pub not_among : Contains (take k (queue_of g p)) here → ⊥
     not_among c = let less = below_first (rank_at g) (queue_of g p) (queue_rises g p) k inside here c in omega arith
 
@@ -151,8 +153,7 @@ module _ (g : Graph) (order : List ℕ) (topological : IsTopological g order) (s
       bounds_found = send_bounds_le g order s t here found (omega (arith, at_producer))
           (λ y c a. omega (arith, is_free.above y (queued_is_by y c a)))
 
-      -- the first free slot after the producer's end, or the frozen time if that is later, is the item's time in the
-      -- run
+      -- the time found is the item's time in the run: each of its parts is at most this time, and no bound of the item is above it
       pub send_is : max (max (next_slot g (node_of g p) (end_in t p)) free) (frozen_in frozen here) ≡ time_in t here
       send_is = let x = in_queue g p here here_sent in
           both_ways_equal found (time_in t here)
@@ -196,7 +197,7 @@ module _ (g : Graph) (order : List ℕ) (topological : IsTopological g order) (s
 
   -- ---- one item more has its time
 
-  -- at first none of what a process sends has its time
+  -- before its first send, none of what a process sends has its time
   pub nothing_sent : (t known : Times) (free : ℕ) → CanSend g order s t p known free →
       HasSent g order s t p 0 known known free
   nothing_sent t known free can = record {
@@ -237,7 +238,8 @@ module _ (g : Graph) (order : List ℕ) (topological : IsTopological g order) (s
           slots_free = free_same k inside t free idle has.slots_free;
         }
 
-    -- after an active item whose time is set, one item more has its time, and the slots are free a round later
+    -- if the next item is active and its time is set to the one found, which is that of the run, one item more has its time; the
+    -- slots are free a round after it
     pub sent_active : (new : Times) (time : ℕ) → item < length known.times →
         new.times ≡ set known.times item (Some time) →
         item_active g s.values (item_at g item) ≡ true
@@ -247,6 +249,7 @@ module _ (g : Graph) (order : List ℕ) (topological : IsTopological g order) (s
         let x = in_queue g p item (here_sent k inside) in
         let right : time ≡ time_in t item = at ∙ send_is k inside frozen t run free has.slots_free acts in
         record {
+          -- the item's place of the list is set, and the first k keep their times
           sent = λ y c. elim (cases_eq y item) [
             | inl e ↦ subst (λ z. get_or new.times z None ≡ get_or t.times z None) (sym e)
                 (ap (λ ts. get_or ts item None) is ∙ get_or-set_same known.times item (Some time) None long
@@ -261,11 +264,12 @@ module _ (g : Graph) (order : List ℕ) (topological : IsTopological g order) (s
               ∙ get_or-set_other known.times item y (Some time) None
               (λ e. c (in_next (queue_of g p) k y inside (inr e)))
               ∙ has.others y (λ first. c (in_next (queue_of g p) k y inside (inl first)));
+          -- the item is the last that was sent, so the slots are free a round after it
           slots_free = subst (IsMost (IsSentBy g order s p (k + 1)) (free_after g t))
               (ap (λ n. n + round g) (sym right)) (free_next k inside frozen t run free has.slots_free acts);
         }
 
--- the time of a send, as code says it
+-- the time of a send, with equal values put for the node, the end and the item, as code that holds them by other names needs it
 pub found_is : (g : Graph) (frozen : List (Option ℕ)) (time free node sender end last item x : ℕ) →
     time ≡ max (max (next_slot g node end) free) (frozen_in frozen item)
     → node ≡ sender → end ≡ last → item ≡ x → time ≡ max (max (next_slot g sender last) free) (frozen_in frozen x)

@@ -28,19 +28,25 @@ none_frozen g x = elim (cases_lt x (item_count g)) [
 
 -- the first n of the frozen items along an order have their times, and no other item has one
 pub record AreSettled (g : Graph) (order items : List ℕ) (n : ℕ) (frozen : List (Option ℕ)) : Type 0 where
+  -- the items are the frozen ones along the order
   pub all : items ≡ frozen_along g order
+  -- the list has a place for each item of the graph
   pub count : length frozen ≡ item_count g
+  -- each of the first n has its frozen time
   pub each : (i : ℕ) → i < n → IsFrozenTime g order frozen (get_or items i 0)
+  -- no other item has one
   pub others : (x : ℕ) → ((i : ℕ) → i < n → get_or items i 0 ≢ x) → get_or frozen x None ≡ None
+  -- no frozen time is so late that sums of times overflow
   pub low : AreLow 0 g order frozen
 
 module _ (g : Graph) (order : List ℕ) (topological : IsTopological g order) where
-  -- two lists of frozen times agree before an item
+  -- two lists have the same frozen times of all items with an earlier moment than x
   abbrev pub SameBefore : List (Option ℕ) → List (Option ℕ) → ℕ → Type 0
   SameBefore frozen others x =
       (y : ℕ) → y < item_count g → moment g order y < moment g order x → get_or frozen y None ≡ get_or others y None
 
-  -- what an item would have rests on the frozen times before it
+  -- so a time that x would have under the one list it would have under the other: the runs of a scenario under both agree before
+  -- the moment of x
   would_have_same : (frozen others : List (Option ℕ)) (x time : ℕ) → x < item_count g → SameBefore frozen others x →
       WouldHave g order frozen x time →
       WouldHave g order others x time
@@ -57,7 +63,7 @@ module _ (g : Graph) (order : List ℕ) (topological : IsTopological g order) wh
             w.scenario w.times other frozen others w.run run (moment g order x) same) h) ∙ w.has;
       }
 
-  -- a frozen time stays one when what is set is not before it
+  -- if also x has the same time in both lists, and that is its frozen time under the one, it is so under the other
   pub frozen_time_kept : (frozen others : List (Option ℕ)) (x : ℕ) → x < item_count g → SameBefore frozen others x →
       get_or frozen x None ≡ get_or others x None →
       IsFrozenTime g order frozen x →
@@ -69,7 +75,7 @@ module _ (g : Graph) (order : List ℕ) (topological : IsTopological g order) wh
     none = λ e time w. f.none (here ∙ e) time (would_have_same others frozen x time h (λ y i l. sym (same y i l)) w);
   }
 
-  -- what an item would have is its frozen time once it is set
+  -- if x has in the second list the greatest time that it would have under the first, that is its frozen time under the second
   pub frozen_time_set : (frozen others : List (Option ℕ)) (x : ℕ) → x < item_count g → SameBefore frozen others x →
       IsUnfrozenTime g order frozen x (get_or others x None) →
       IsFrozenTime g order others x
@@ -93,21 +99,22 @@ module _ (g : Graph) (order : List ℕ) (topological : IsTopological g order) wh
       low = record { low = λ x time l e. absurd (none-some time (sym (none x) ∙ e)) };
     }
       where
+        -- in a list without frozen times no item has one
         none : (x : ℕ) → get_or frozen x None ≡ None
         none x = ap (λ f. get_or f x None) is ∙ none_frozen h x
 
     module _ (n : ℕ) (frozen : List (Option ℕ)) (a : AreSettled g order items n frozen) where
-      -- each item along the order is a frozen item of the graph
+      -- each listed item is a frozen item of the graph
       pub item_frozen : (i : ℕ) → i < length items →
           (get_or items i 0 < item_count g) × (is_frozen g (get_or items i 0) ≡ true)
       item_frozen i l = frozen_listed g order topological (get_or items i 0)
           (subst (λ xs. Contains xs (get_or items i 0)) a.all (Contains-get_or items i 0 l))
 
-      -- the next item along the order is an item of the graph
+      -- the next item to settle is an item of the graph
       pub next_within : n < length items → get_or items n 0 < item_count g
       next_within l = (item_frozen n l).0
 
-      -- the next item has no time yet
+      -- the next frozen item has no time yet, as the settled ones have earlier moments and so are others
       pub next_unset : n < length items → get_or frozen (get_or items n 0) None ≡ None
       next_unset l = a.others (get_or items n 0)
           (λ i k e. omega (arith, ap (moment g order) e, later_moment g order topological items a.all i n k l))
@@ -116,7 +123,8 @@ module _ (g : Graph) (order : List ℕ) (topological : IsTopological g order) wh
       pub settled_early : IsWithinLimits g → AreEarly frozen
       settled_early within = early_from_low g order frozen within topological a.count a.low
 
-      -- with the next item's unfrozen time set, one item more is settled
+      -- If the next item is set to the greatest time that it would have if it were not frozen, one item more is settled. Those
+      -- before keep their frozen times, as these rest on earlier moments.
       pub settled_more : IsWithinLimits g → n < length items → (more : List (Option ℕ)) →
           IsUnfrozenTime g order frozen (get_or items n 0) (get_or more (get_or items n 0) None)
           → ((y : ℕ) → y ≢ get_or items n 0 → get_or more y None ≡ get_or frozen y None) → length more ≡ length frozen →
@@ -127,6 +135,7 @@ module _ (g : Graph) (order : List ℕ) (topological : IsTopological g order) wh
           record {
             all = a.all;
             count = count ∙ a.count;
+            -- the item itself has the time that was found, and those before it keep theirs
             each = λ i k. elim (cases_eq i n) [
               | inl at ↦ subst (λ j. IsFrozenTime g order more (get_or items j 0)) (sym at)
                   (frozen_time_set frozen more x h
@@ -139,6 +148,7 @@ module _ (g : Graph) (order : List ℕ) (topological : IsTopological g order) wh
                   (a.each i (omega arith))
             ];
             others = λ y no. same y (λ e. no n (omega arith) (sym e)) ∙ a.others y (λ i k. no i (omega arith));
+            -- the new time is reached in a run, where it isn't late; the other times are as before
             low = record {
               low = λ y time w e. elim (cases_eq y x) [
                 | inl at ↦
@@ -154,7 +164,7 @@ module _ (g : Graph) (order : List ℕ) (topological : IsTopological g order) wh
             };
           }
 
-      -- once all items are settled, the times are the frozen times of the graph
+      -- once all listed items are settled, the list has the frozen times of the graph
       pub settled_all : n ≡ length items → AreFrozenTimes g order frozen
       settled_all e = record {
         count = a.count;

@@ -17,15 +17,16 @@ use Rattle.cpg_run.proofs.Rising.{AreLow, SmallBefore, small_before, last_le}
 module _ (g : Graph) (order : List ℕ) (frozen : List (Option ℕ)) (s : Scenario) (t : Times) (within : IsWithinLimits g)
     (topological : IsTopological g order) (lawful : IsScenario g s)
     (early : AreEarly frozen) (run : IsRun g order frozen s t) where
-  -- early frozen times are low above a base of 2 ^ 58
+  -- frozen times are early if they are below 2 ^ 58, so they are low above that base
   low : AreLow (2 ^ 58) g order frozen
   low = record { low = λ x time l e. omega (arith, early x time e) }
 
-  -- at the last moment all times are small
+  -- all times before the last moment are at most its bound above that base
   at_last : SmallBefore (2 ^ 58) g order frozen s t (last g)
   at_last = small_before (2 ^ 58) g order frozen s t within topological lawful low run (last g)
 
-  -- each time and each end of a run is small
+  -- each time and each end of a run is below 2 ^ 59: one of the graph comes before the last moment, whose bound is below that, and
+  -- any other is 0
   pub run_small : AreSmall t
   run_small = record {
     times = λ x. elim (cases_lt x (item_count g)) [

@@ -1,4 +1,4 @@
--- What is known before a place gives the start that is found is the start of the process in the run there.
+-- The start that is found for the process at a place, from what is known before the place, is its start in the run.
 use Rattle.std.proofs.Common.{◌≡◌, ◌∙◌, ℕ, ◌+◌, ◌<◌, ◌≤◌, max, true, ◌==◌, if◌then◌else◌, List, [], ◌∷◌, ◌++◌, length}
 use Rattle.std.proofs.Common.{get_or, filter, flat_map, Contains, Option, Some, None, option_to_list}
 use Rattle.std.proofs.Common.{unwrap_or, arith, refl, sym, ap, ap₂, inl, inr, subst, eq-eqb, eqb-true}
@@ -32,12 +32,12 @@ use Rattle.cpg_run.specs.Most.{IsMost}
 use Rattle.cpg_run.specs.Progress.{Knows, IsReady}
 use Rattle.cpg_run.proofs.Bounded.{start_bounds_le, passing_le}
 
--- an optional time as the greatest of its list
+-- the greatest of the list of an optional time is the time, or 0 if there is none
 pub greatest_option : (o : Option ℕ) → greatest (option_to_list o) ≡ unwrap_or o 0
 greatest_option None = refl
 greatest_option (Some n) = greatest-cons n [] ∙ omega arith
 
--- over plain numbers
+-- two numbers that are each at most the other are the same
 pub both_ways_equal : (a b : ℕ) → a ≤ b → b ≤ a → a ≡ b
 both_ways_equal a b h k = omega arith
 
@@ -51,11 +51,11 @@ module _ (g : Graph) (order : List ℕ) (t : Times) (i : ℕ) (known : Times) (k
   pub known_end : (q : ℕ) → q < process_count g → place order q < i → end_in known q ≡ end_in t q
   known_end q l h = ap (λ o. unwrap_or o 0) (knows.ends q l h)
 
-  -- the frame of an earlier process's item is known
+  -- what is known of the arrival of an earlier process's frame is its arrival in the run
   known_frame : (x : ℕ) → x < item_count g → place order (producer g x) < i → frame_there g known x ≡ frame_there g t x
   known_frame x l h = ap (λ n. n + slot_length g (home g x)) (known_item x l h)
 
-  -- an input whose source is before the place is available when it is so in the run
+  -- what is known of when an input is there, whose source is before the place, is so in the run
   pub known_input_of : (e : ℕ) → e < edge_count g → source g e < process_count g → place order (source g e) < i →
       input_there g known e ≡ input_there g t e
   known_input_of e h l less = ap₂ (λ v w. if is_message g e then v else w)
@@ -63,7 +63,7 @@ module _ (g : Graph) (order : List ℕ) (t : Times) (i : ℕ) (known : Times) (k
       (omega (arith, ap (λ j. place order (producer_of_item g j)) (item_at-message g e h))))
       (known_end (source g e) l less)
 
-  -- a condition of a process before the place is heard by a node when it is so in the run
+  -- what is known of when a node hears a condition of a process before the place is so in the run
   pub known_heard_of : (node c : ℕ) → c < condition_count g → place order (process_of g c) < i →
       heard_there g known node c ≡ heard_there g t node c
   known_heard_of node c h less = ap₂ (λ v w. if node_of g (process_of g c) == node then v else w)
@@ -71,10 +71,11 @@ module _ (g : Graph) (order : List ℕ) (t : Times) (i : ℕ) (known : Times) (k
       (known_frame (broadcast_item g c) (omega arith)
       (omega (arith, ap (λ j. place order (producer_of_item g j)) (item_at-broadcast g c))))
 
-  -- what is known of a run whose times are small is small
+  -- if the times of a run are below 2 ^ 59, so is what is known of it: it is a time of the run, or 0
   pub known_small : length known.times ≡ item_count g → length known.ends ≡ process_count g → AreSmall t →
       AreSmall known
   known_small items processes small = record {
+    -- of an item of an earlier process its time of the run is known, and of any other nothing
     times = λ x. elim (cases_lt x (item_count g)) [
       | inr past ↦ let e : time_in known x ≡ 0 =
           ap (λ o. unwrap_or o 0) (get_or_past known.times x None (omega arith)) in
@@ -84,6 +85,7 @@ module _ (g : Graph) (order : List ℕ) (t : Times) (i : ℕ) (known : Times) (k
         | inr h ↦ let e : time_in known x ≡ 0 = ap (λ o. unwrap_or o 0) (knows.later x l h) in omega arith
       ]
     ];
+    -- of an earlier process its end of the run is known, and of any other nothing
     ends = λ p. elim (cases_lt p (process_count g)) [
       | inr past ↦ let e : end_in known p ≡ 0 = ap (λ o. unwrap_or o 0) (get_or_past known.ends p None (omega arith)) in
           omega arith
@@ -97,7 +99,7 @@ module _ (g : Graph) (order : List ℕ) (t : Times) (i : ℕ) (known : Times) (k
   -- given the process at the place
   module _ (topological : IsTopological g order) (s : Scenario) (p : ℕ) (l : p < process_count g)
       (at : place order p ≡ i) where
-    -- each input of the process at the place is available when it is so in the run
+    -- what is known of when an input of p is there is so in the run
     pub known_input : (e : ℕ) → Contains (inputs g p) e → input_there g known e ≡ input_there g t e
     known_input e c =
         let h = (inputs_parts g p e c).0 in
@@ -124,7 +126,7 @@ module _ (g : Graph) (order : List ℕ) (t : Times) (i : ℕ) (known : Times) (k
         (Contains-filter (decides g s.values q) (numbers_below (condition_count g)) c d
         (Contains-numbers (condition_count g) c h))
 
-    -- what decides the process is heard then in the run as well
+    -- if v is the greatest time at which the node hears a condition that decides p, by what is known, it is so in the run
     pub decided_in_run : (v : ℕ) →
         IsMost (λ c. (c < condition_count g) × (decides g s.values p c ≡ true)) (heard_there g known (node_of g p)) v
         → IsMost (λ c. (c < condition_count g) × (decides g s.values p c ≡ true)) (heard_there g t (node_of g p)) v
@@ -142,7 +144,7 @@ module _ (g : Graph) (order : List ℕ) (t : Times) (i : ℕ) (known : Times) (k
         (ready heard : ℕ) (is_ready : IsReady g order s t i (node_of g p) ready)
         (is_heard : IsMost (λ c. (c < condition_count g) × (decides g s.values p c ≡ true))
         (heard_there g known (node_of g p)) heard) where
-      -- when the inputs are there
+      -- the time by which all live inputs are there, by what is known
       abbrev inputs_by : ℕ
       inputs_by = greatest (input_bounds g s known p)
 
@@ -150,7 +152,7 @@ module _ (g : Graph) (order : List ℕ) (t : Times) (i : ℕ) (known : Times) (k
       abbrev found : ℕ
       found = max (max (max (max ready heard) (process_at g p).release) inputs_by) (frozen_in frozen p)
 
-      -- the start is the greatest of its bounds and its frozen time
+      -- the start in the run is the greatest of its bounds and its frozen time
       time_is : time_in t p ≡ max (greatest (start_bounds g order s t p)) (frozen_in frozen p)
       time_is = time_in_active g order frozen s t run p (omega arith) (start_acts g order frozen s t run p l acts)
           ∙ greatest-cons (unfrozen_time g order s t p) (option_to_list (get_or frozen p None))
@@ -177,7 +179,8 @@ module _ (g : Graph) (order : List ℕ) (t : Times) (i : ℕ) (known : Times) (k
           (λ e k. let r = Contains-filter_parts (live g s.values) (inputs g p) e k in
           omega (arith, known_input e r.0, input_below g order frozen s t run p e l acts r.0 r.1)) c)
 
-      -- a condition that decides p is heard by `heard`, and one that decides a process before p by `ready`
+      -- each condition that the start waits for is heard by the time found: one that decides p by `heard`, one that decides a
+      -- process before p on its node by `ready`
       heard_found : (c : ℕ) → Contains (flat_map (deciding g s.values) (before_on_node g order p ++ p ∷ [])) c →
           heard_there g t (node_of g p) c ≤ found
       heard_found c k =
@@ -185,6 +188,7 @@ module _ (g : Graph) (order : List ℕ) (t : Times) (i : ℕ) (known : Times) (k
           let r = Contains-filter_parts (decides g s.values q.0) (numbers_below (condition_count g)) c q.2 in
           let h = numbers-Contains (condition_count g) c r.0 in
           elim (Contains-append_cases (before_on_node g order p) (p ∷ []) q.0 q.1) [
+            -- it decides an earlier process of the node, so it is heard by the time that the node is ready
             | inl b ↦
                 let o = on_node_before g order p q.0 b in
                 let same : node_of g q.0 ≡ node_of g p = eqb-true _ _
@@ -194,6 +198,7 @@ module _ (g : Graph) (order : List ℕ) (t : Times) (i : ℕ) (known : Times) (k
                   is_ready.heard q.0 c (from_order (process_count g) order topological.all q.0 o.0)
                       (omega (arith, o.1)) same h r.1,
                 )
+            -- it decides p itself
             | inr b ↦ elim (Contains-cases p [] q.0 b) [
               | inl e ↦ omega (
                 arith,
@@ -203,7 +208,8 @@ module _ (g : Graph) (order : List ℕ) (t : Times) (i : ℕ) (known : Times) (k
             ]
           ]
 
-      -- by the kind of the bound: the release, an input, an end before p on its node, or a condition heard
+      -- no bound of the start is later than the time found: by its kind, the release, an input, an end before p on its node, or a
+      -- condition heard
       bounds_found : greatest (start_bounds g order s t p) ≤ found
       bounds_found = start_bounds_le g order s t p found (omega arith)
           (λ e c a. omega (
@@ -223,7 +229,7 @@ module _ (g : Graph) (order : List ℕ) (t : Times) (i : ℕ) (known : Times) (k
           ))
           heard_found
 
-      -- the start of the process
+      -- the time found is the start of p in the run: each of its parts is at most the start, and no bound of the start is above it
       pub start_is : max (max (max (max ready heard) (process_at g p).release) (greatest (input_bounds g s known p)))
           (frozen_in frozen p) ≡ time_in t p
       start_is = both_ways_equal found (time_in t p)

@@ -1,4 +1,5 @@
--- What is known before a place, and the process there with what it sends, give what is known before the next place.
+-- One step of a run along the order: from when each node is ready, when its slots are free and which times are known before place
+-- i, and the process there with what it sends, follows the same before place i + 1.
 use Rattle.std.proofs.Common.{◌≡◌, ◌≢◌, ◌∙◌, ℕ, ◌+◌, ◌<◌, ◌≤◌, max, Bool, true, false, ◌&&◌, List, length, get_or, set}
 use Rattle.std.proofs.Common.{take, Contains, Option, Some, None, option_map, arith, refl, sym, ap, inl, inr}
 use Rattle.std.proofs.Common.{◌⊎◌, subst, true≢false, get_or-set_same, get_or-set_other}
@@ -26,12 +27,12 @@ use Rattle.cpg_run.proofs.Mosts.{most_same}
 use Rattle.cpg_bus.proofs.Queued.{in_queue, queue-Contains}
 use Rattle.cpg_run.proofs.Sends.{Contains-take}
 
--- nothing is true together with false
+-- b && false is false
 and_none : (b : Bool) → (b && false) ≡ false
 and_none true = refl
 and_none false = refl
 
--- what an inactive process makes is inactive
+-- an item of an inactive process is inactive
 idle_item : (g : Graph) (values : List Bool) (i : Item) → active g values (producer_of_item g i) ≡ false →
     item_active g values i ≡ false
 idle_item g values (Start p) h = h
@@ -41,7 +42,7 @@ idle_item g values (Message e) h =
 idle_item g values (Broadcast c) h =
     ap (λ b. is_sent_item g (Broadcast c) && b) h ∙ and_none (is_sent_item g (Broadcast c))
 
--- what does not go over the bus is a start or inactive
+-- an item that does not go over the bus is inactive, unless it is a start
 unsent_idle : (g : Graph) (values : List Bool) (i : Item) → is_sent_item g i ≡ false → ((p : ℕ) → i ≡ Start p → ⊥) →
     item_active g values i ≡ false
 unsent_idle g values (Start p) h other = absurd (other p refl)
@@ -64,7 +65,7 @@ broadcast_start c q h = true≢false (sym (ap starts_one h))
 
 -- given the run of a scenario and the process at a place
 -- `topological`: the order has each process once, behind the sources of its inputs. `run`: t is the run of s under
--- the frozen times. `at`: process p stands at place i.
+-- the frozen times. `at`: process p is at place i.
 module _ (g : Graph) (order : List ℕ) (topological : IsTopological g order) (frozen : List (Option ℕ)) (s : Scenario)
     (t : Times) (run : IsRun g order frozen s t)
     (i p : ℕ) (l : p < process_count g) (at : place order p ≡ i) where
@@ -78,7 +79,7 @@ module _ (g : Graph) (order : List ℕ) (topological : IsTopological g order) (f
 
   -- ---- when nodes are ready
 
-  -- another node is ready for the next place when it was for this one
+  -- another node than that of p is ready before the next place when it was before this one
   pub ready_other : (node v : ℕ) → node ≢ node_of g p → IsReady g order s t i node v →
       IsReady g order s t (i + 1) node v
   ready_other node v other r = record {
@@ -92,8 +93,8 @@ module _ (g : Graph) (order : List ℕ) (topological : IsTopological g order) (f
         (λ q c k less same m d. y q c k (omega arith) same m d);
   }
 
-  -- the node of the process is ready at the earliest time by which it was ready, has heard what decides the process
-  -- and, if that is active, has ended it
+  -- the node of p is ready at v, if v is the least time that isn't before r, when it was ready, h, when it has heard what decides
+  -- p, or the end of p, if p is active
   pub ready_here : (r h v : ℕ) → IsReady g order s t i (node_of g p) r →
       IsMost (λ c. (c < condition_count g) × (decides g s.values p c ≡ true)) (heard_there g t (node_of g p)) h
       → max r h ≤ v → (active g s.values p ≡ true → end_in t p ≤ v) →
@@ -132,7 +133,7 @@ module _ (g : Graph) (order : List ℕ) (topological : IsTopological g order) (f
 
   -- ---- when slots are free
 
-  -- the slots of another node are free as before
+  -- the slots of another node than that of p are free as before
   pub free_other : (node v : ℕ) → node ≢ node_of g p → IsFree g order s t i node v → IsFree g order s t (i + 1) node v
   free_other node v other m =
       most_same (free_after g t) (IsSentBefore g order s node i) (IsSentBefore g order s node (i + 1)) v
@@ -162,15 +163,17 @@ module _ (g : Graph) (order : List ℕ) (topological : IsTopological g order) (f
       ))
       m
 
-  -- the items up to the last place are all that the process sends
+  -- each item of the queue of p is among the first ones, as many as the queue has
   in_whole : (y : ℕ) → Contains (queue_of g p) y → Contains (take (length (queue_of g p)) (queue_of g p)) y
   in_whole y c = subst (λ ys. Contains ys y) (sym (take_all (length (queue_of g p)) (queue_of g p) (omega arith))) c
 
-  -- the slots of the process's node are free after all that it sends
+  -- the slots of p's node are free after all that p sends: what the node sends for processes before the next place is what it sends
+  -- for earlier ones and the queue of p
   pub free_here : (v : ℕ) → IsMost (IsSentBy g order s p (length (queue_of g p))) (free_after g t) v →
       IsFree g order s t (i + 1) (node_of g p) v
   free_here v m = most_same (free_after g t) (IsSentBy g order s p (length (queue_of g p)))
       (IsSentBefore g order s (node_of g p) (i + 1)) v
+      -- what is sent for an earlier process, or is in the queue of p, is sent before the next place
       (λ y h. (
         h.0,
         elim h.1 [
@@ -181,6 +184,7 @@ module _ (g : Graph) (order : List ℕ) (topological : IsTopological g order) (f
           )
         ],
       ))
+      -- what is sent before the next place is for an earlier process, or is in the queue of p
       (λ y h. (
         h.0,
         elim (up_to (producer g y) (producer_in_range g order topological y h.0.within) h.1) [
@@ -196,7 +200,7 @@ module _ (g : Graph) (order : List ℕ) (topological : IsTopological g order) (f
   no_time : (x : ℕ) → x < item_count g → item_active g s.values (item_at g x) ≡ false → get_or t.times x None ≡ None
   no_time x k idle = time_is g order frozen s t run x k ∙ cond-false _ _ _ idle
 
-  -- after an inactive process, what was known is all that has to be known
+  -- after an inactive process what was known is all that is known before the next place: its items and its end have no times
   pub knows_idle : (known : Times) → active g s.values p ≡ false → Knows g order t i known →
       Knows g order t (i + 1) known
   knows_idle known idle knows = record {
@@ -227,31 +231,32 @@ module _ (g : Graph) (order : List ℕ) (topological : IsTopological g order) (f
       (starts : begun.times ≡ set known.times p (Some start)) (stops : begun.ends ≡ set known.ends p (Some end))
       (start_is : start ≡ time_in t p) (end_is : end ≡ end_in t p)
       (sent : HasSent g order s t p (length (queue_of g p)) begun new free) (keeps : KeepsEnds begun new) where
-    -- one of the items sent so far is one that the process sends
+    -- an item among these is one of the queue
     queued : (x : ℕ) → Contains (take (length (queue_of g p)) (queue_of g p)) x → Contains (queue_of g p) x
     queued x c = Contains-take (length (queue_of g p)) (queue_of g p) x c
 
-    -- a start is by its own process
+    -- the producer of a start is the process of the same number
     start_by : (x : ℕ) → x < process_count g → producer g x ≡ x
     start_by x k = ap (producer_of_item g) (item_at-start g x k)
 
-    -- what is neither the start nor sent is as before
+    -- the time of what is neither the start of p nor in its queue is as before
     as_before : (x : ℕ) → x ≢ p → (Contains (queue_of g p) x → ⊥) → get_or new.times x None ≡ get_or known.times x None
     as_before x other unqueued = sent.others x (λ c. unqueued (queued x c)) ∙ ap (λ ts. get_or ts x None) starts
         ∙ get_or-set_other known.times p x (Some start) None other
 
-    -- items of other processes are as they were
+    -- the times of items of other processes are as before
     elsewhere : (x : ℕ) → (producer g x ≡ p → ⊥) → get_or new.times x None ≡ get_or known.times x None
     elsewhere x other = as_before x (λ e. other (ap (producer g) e ∙ start_by p l)) (λ c. other (in_queue g p x c).by)
 
-    -- the start of the process is known
+    -- the start of p has its time of the run
     its_start : get_or new.times p None ≡ get_or t.times p None
     its_start = sent.others p (λ c. let q = in_queue g p p (queued p c) in absurd (omega (arith, q.above)))
         ∙ ap (λ ts. get_or ts p None) starts ∙ get_or-set_same known.times p (Some start) None (omega arith)
         ∙ ap Some start_is
         ∙ sym (has_time g order frozen s t run p (omega arith) (start_acts g order frozen s t run p l acts))
 
-    -- the start of p has been set, an item that is sent has been set by the send, and a local one has no time
+    -- each item of p has its time of the run: its start is set, an item that is sent is set by the send, and one that stays on
+    -- the node has no time
     its_item : (x : ℕ) → x < item_count g → producer g x ≡ p → get_or new.times x None ≡ get_or t.times x None
     its_item x k by = elim (cases_eq x p) [
       | inl e ↦ subst (λ z. get_or new.times z None ≡ get_or t.times z None) (sym e) its_start
@@ -264,6 +269,7 @@ module _ (g : Graph) (order : List ℕ) (topological : IsTopological g order) (f
       ]
     ]
       where
+        -- the producer of an item that is a start is the process of the same number
         start_of : (x q : ℕ) → x < item_count g → item_at g x ≡ Start q → producer g x ≡ x
         start_of x q k e = elim (item_cases g x k) [
           | inl c ↦ ap (producer_of_item g) c.1
@@ -271,13 +277,13 @@ module _ (g : Graph) (order : List ℕ) (topological : IsTopological g order) (f
           | inr (inr c) ↦ absurd (broadcast_start c.0 q (sym c.3 ∙ e))
         ]
 
-    -- the end of the process is known
+    -- the end of p is that of the run
     its_end : get_or new.ends p None ≡ get_or t.ends p None
     its_end =
         ap (λ ts. get_or ts p None) (keeps.ends ∙ stops) ∙ get_or-set_same known.ends p (Some end) None (omega arith)
         ∙ ap Some (end_is ∙ end_active g order frozen s t run p l acts) ∙ sym (has_end g order frozen s t run p l acts)
 
-    -- the ends of other processes are as they were
+    -- the ends of other processes are as before
     other_end : (q : ℕ) → q ≢ p → get_or new.ends q None ≡ get_or known.ends q None
     other_end q other =
         ap (λ ts. get_or ts q None) (keeps.ends ∙ stops) ∙ get_or-set_other known.ends p q (Some end) None other

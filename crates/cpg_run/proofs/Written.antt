@@ -1,4 +1,5 @@
--- Rows that carry no more than they may can be written as tables, and these are lawful.
+-- Rows that carry no more than they may can be written as tables if they fit, and tables with these rows are lawful. They fit if no
+-- item is too wide.
 use Rattle.std.proofs.Common.{◌≡◌, ◌≢◌, ℕ, zero, suc, ◌+◌, ◌*◌, ◌^◌, ◌<◌, ◌≤◌, Bool, true, false, ◌&&◌, nat_lt, List}
 use Rattle.std.proofs.Common.{[], ◌∷◌, ◌++◌, Option, Some, None, length, get_or, filter, sum_by, unwrap_or, All}
 use Rattle.std.proofs.Common.{Contains, refl, sym, ap, ◌∙◌, subst, arith, inl, inr, append-nil, eq-eqb, ne_eqb, lt-ltb}
@@ -46,7 +47,7 @@ use Rattle.cpg_run.proofs.Small.{run_small}
 
 -- ---- rows as tables
 
--- rows by number from a on: each has the columns of its number
+-- if the rows are those of the numbers a, a + 1, .., the columns of number a + k are those of the row at place k
 columns_there : (rows : List Row) (a k : ℕ) → k < length rows →
     ((i : ℕ) → i < length rows → (get_or rows i no_row).item ≡ a + i) →
     columns_in rows (a + k) ≡ (get_or rows k no_row).columns
@@ -58,7 +59,7 @@ columns_there (row ∷ rows) a (suc k) l h =
     ∙ ap (columns_in rows) (let e : a + suc k ≡ a + 1 + k = omega arith in e)
     ∙ columns_there rows (a + 1) k (omega arith) (λ i m. h (suc i) (omega arith) ∙ omega arith)
 
--- an item that no row has
+-- an item that no row is of has no columns
 columns_nowhere : (rows : List Row) (x : ℕ) → ((i : ℕ) → i < length rows → (get_or rows i no_row).item ≢ x) →
     columns_in rows x ≡ []
 columns_nowhere [] x h = refl
@@ -69,7 +70,7 @@ columns_nowhere (row ∷ rows) x h =
 abbrev one_table : List Row → List NodeTable
 one_table rows = record { faults = 0; first_broadcast = 0; own = []; starts = rows; sends = []; hears = [] } ∷ []
 
--- the columns at the number of an item
+-- the columns at number x are those of the row at place x, and none beyond the rows
 columns_at : (rows : List Row) (x : ℕ) → row_at (columns_of_rows rows) x ≡ (row_for rows x).columns
 columns_at rows x = elim (cases_lt x (length rows)) [
   | inl l ↦ get_or-map (λ (row : Row). row.columns) rows x no_row [] l
@@ -79,7 +80,7 @@ columns_at rows x = elim (cases_lt x (length rows)) [
 ]
 
 -- given the rows that are found about a graph within the limits
--- `is`: one row stands for each item, each carries no more than it may, and all frozen times are early.
+-- `is`: there is one row for each item, each carries no more than it may, and all frozen times are early.
 module _ (g : Graph) (within : IsWithinLimits g) (urgency order : List ℕ) (admitted : Admitted g urgency order)
     (frozen : List (Option ℕ)) (rows : List Row)
     (is : AreRowsFound g urgency order frozen rows) where
@@ -91,11 +92,11 @@ module _ (g : Graph) (within : IsWithinLimits g) (urgency order : List ℕ) (adm
   timed : IsTimed g urgency order frozen
   timed = record { admitted = admitted; frozen_times = is.frozen_times }
 
-  -- there is a row for each item
+  -- there are as many rows as items
   long : length rows ≡ item_count g
   long = sym (length-map rows (λ (row : Row). row.item)) ∙ ap length is.items ∙ length-range_with_len 0 (item_count g)
 
-  -- the row of an item stands at the item's number
+  -- the row at place x is that of the item x
   item_is : (x : ℕ) → x < item_count g → (row_for rows x).item ≡ x
   item_is x l = sym (get_or-map (λ (row : Row). row.item) rows x no_row 0 (omega (arith, l, long)))
       ∙ ap (λ xs. get_or xs x 0) is.items ∙ get_or-range_with_len 0 (item_count g) x 0 l ∙ omega arith
@@ -103,7 +104,7 @@ module _ (g : Graph) (within : IsWithinLimits g) (urgency order : List ℕ) (adm
   -- ---- tables with these rows
 
   module _ (tables : List NodeTable) (have : (x : ℕ) → columns_of tables x ≡ (row_for rows x).columns) where
-    -- the tables carry what the rows do
+    -- the tables carry what the rows carry
     of_rows : AreTablesCarrying g urgency order frozen columns tables
     of_rows = record { timed = timed; found = is.found; columns = λ x. have x ∙ sym (columns_at rows x) }
 
@@ -133,7 +134,7 @@ module _ (g : Graph) (within : IsWithinLimits g) (urgency order : List ℕ) (adm
   row_views r reached x l = subst (λ cs. length cs ≤ views g (reach_of r x)) (one_has x)
       ((lawful (one_table rows) one_has r reached).views within.few_processes x l)
 
-  -- a column has the time of a run
+  -- the time of a column that matches a scenario is below 2 ^ 59, as it is a time of that scenario's run
   column_time : (x : ℕ) → x < item_count g → (c : Column) → Contains (row_at columns x) c → (s : Scenario) →
       IsScenario g s → matches c.cube s ≡ true → c.time < 2 ^ 59
   column_time x l c k s lawful m =
@@ -145,7 +146,8 @@ module _ (g : Graph) (within : IsWithinLimits g) (urgency order : List ℕ) (adm
       let small : AreSmall r.0 = run_small g order frozen s r.0 within admitted.topological lawful is.early r.1 in
       subst (λ o. unwrap_or o 0 < 2 ^ 59) is_time (small.times x)
 
-  -- each column of a row can be written
+  -- each column of a row can be written: it matches some scenario, so its time is small and no literal is empty; the rest the row
+  -- has
   column_writable : (x : ℕ) → x < item_count g → (c : Column) → Contains (row_at columns x) c → IsWritable g c
   column_writable x l c k =
       let row : IsCarryingRow g urgency order frozen columns x = is.found.each x l in
@@ -165,12 +167,12 @@ module _ (g : Graph) (within : IsWithinLimits g) (urgency order : List ℕ) (adm
             (row_at columns x) c row.not_whole k;
       }
 
-  -- each column of a row can be written
+  -- so all columns of a row can be written
   row_writable : (x : ℕ) → x < item_count g → All (IsWritable g) (row_at columns x)
   row_writable x l =
       λ i d h. column_writable x l (get_or (row_at columns x) i d) (Contains-get_or (row_at columns x) i d h)
 
-  -- what is neither started nor sent has no column
+  -- what is no start and isn't sent is active in no scenario: a message or broadcast that isn't sent is never active
   never_active : (x : ℕ) → is_sent g x ≡ false → process_count g ≤ x → ItemCases g x → (s : Scenario) →
       item_active g s.values (item_at g x) ≡ false
   never_active x unsent later (inl c) s = absurd (omega (arith, c.0))
@@ -179,12 +181,13 @@ module _ (g : Graph) (within : IsWithinLimits g) (urgency order : List ℕ) (adm
   never_active x unsent later (inr (inr c)) s = ap (item_active g s.values) c.3
       ∙ ap (λ b. b && active g s.values (process_of g c.0)) (sym (ap (is_sent_item g) c.3) ∙ unsent)
 
-  -- the row of an item that isn't sent is empty
+  -- so the row of a message or broadcast that isn't sent is empty
   unsent_row : (x : ℕ) → process_count g ≤ x → x < item_count g → is_sent g x ≡ false → (row_for rows x).columns ≡ []
   unsent_row x later l unsent = sym (columns_at rows x) ∙ never_columns g urgency order frozen timed columns is.found x
       (λ s lawful. never_active x unsent later (item_cases g x l) s)
 
-  -- an item that stands in no row is neither started nor sent
+  -- an item that has no row at any node is no start and isn't sent: by its kind, a start has a row, and a message or broadcast
+  -- that is sent has at least one
   rowless : (x : ℕ) → ItemCases g x → rows_of_item g (item_at g x) ≤ 0 → (process_count g ≤ x) × (is_sent g x ≡ false)
   rowless x (inl c) none = let one : rows_of_item g (item_at g x) ≡ 1 = ap (rows_of_item g) c.1 in
       absurd (omega (arith, one, none))
@@ -194,6 +197,7 @@ module _ (g : Graph) (within : IsWithinLimits g) (urgency order : List ℕ) (adm
         ∙ message_rowless (is_sent_item g (Message c.0)) (omega (arith, none, ap (rows_of_item g) c.3)),
   )
     where
+      -- a message that is sent has two rows, so one without a row isn't
       message_rowless : (b : Bool) → cond b 2 0 ≤ 0 → b ≡ false
       message_rowless true h = absurd (omega arith)
       message_rowless false h = refl
@@ -203,6 +207,7 @@ module _ (g : Graph) (within : IsWithinLimits g) (urgency order : List ℕ) (adm
         ∙ broadcast_rowless (cases_lt 1 (length g.nodes)) (omega (arith, none, ap (rows_of_item g) c.3)),
   )
     where
+      -- with two nodes a broadcast has a row at each, so if it has none, there are fewer
       broadcast_rowless : (1 < length g.nodes) ⊎ (length g.nodes ≤ 1) →
           cond (nat_lt 1 (length g.nodes)) (length g.nodes) 0 ≤ 0 →
           nat_lt 1 (length g.nodes) ≡ false
@@ -213,14 +218,15 @@ module _ (g : Graph) (within : IsWithinLimits g) (urgency order : List ℕ) (adm
   -- ---- how many columns there are
 
   module _ (narrow : NoneIsTooWide g order) where
+    -- some reach of the graph
     abbrev reach : Reach
     reach = (some_reach g order admitted.topological).0
 
-    -- the reaches of the graph
+    -- the reach that is computed is one of the graph
     reached : IsReach g order reach
     reached = (some_reach g order admitted.topological).1
 
-    -- an item with a row is too wide if it has too many views, or if the items up to it have too many columns
+    -- an item with a row is too wide if it has too many views
     wide_by_views : (x : ℕ) → 0 < rows_of_item g (item_at g x) → most_views < views g (reach_of reach x) →
         is_too_wide g reach x ≡ true
     wide_by_views x some many =
@@ -228,7 +234,7 @@ module _ (g : Graph) (within : IsWithinLimits g) (urgency order : List ℕ) (adm
         (or_left (nat_lt most_views (views g (reach_of reach x))) _
         (lt-ltb most_views (views g (reach_of reach x)) many))
 
-    -- an item with rows is too wide if the loads up to it are more than may be
+    -- or if the loads of the items up to it are together more than `most_loads`
     wide_by_loads : (x : ℕ) → 0 < rows_of_item g (item_at g x) →
         most_loads < sum_by (load g reach) (numbers_below (x + 1)) →
         is_too_wide g reach x ≡ true
@@ -237,7 +243,7 @@ module _ (g : Graph) (within : IsWithinLimits g) (urgency order : List ℕ) (adm
         (or_right (nat_lt most_views (views g (reach_of reach x))) _
         (lt-ltb most_loads (sum_by (load g reach) (numbers_below (x + 1))) many))
 
-    -- no item is too wide
+    -- but no item is too wide, by the hypothesis
     not_wide : (x : ℕ) → x < item_count g → is_too_wide g reach x ≡ true → ⊥
     not_wide x l wide = both_ways (is_too_wide g reach x) (narrow reach reached x l) wide
 
@@ -245,7 +251,8 @@ module _ (g : Graph) (within : IsWithinLimits g) (urgency order : List ℕ) (adm
     no_load : (x : ℕ) → rows_of_item g (item_at g x) ≡ 0 → load g reach x ≡ 0
     no_load x none = ap (λ n. views g (reach_of reach x) * n) none ∙ omega arith
 
-    -- by induction on n: the first item that went beyond the most would be too wide
+    -- the first n items ask for at most the most columns together: by induction on n, the first item that went beyond would be too
+    -- wide
     loads_few : (n : ℕ) → n ≤ item_count g → sum_by (load g reach) (numbers_below n) ≤ most_loads
     loads_few zero l = omega arith
     loads_few (suc n) l =
@@ -262,7 +269,7 @@ module _ (g : Graph) (within : IsWithinLimits g) (urgency order : List ℕ) (adm
           ]
         ])
 
-    -- each row has few enough columns
+    -- each row has few enough columns: no more than views, if the item has rows, and none otherwise
     row_few : (x : ℕ) → x < item_count g → length (row_for rows x).columns ≤ MOST_COLUMNS
     row_few x l = elim (cases_lt 0 (rows_of_item g (item_at g x))) [
       | inl some ↦ elim (cases_lt most_views (views g (reach_of reach x))) [
@@ -273,7 +280,7 @@ module _ (g : Graph) (within : IsWithinLimits g) (urgency order : List ℕ) (adm
           omega (arith, ap length (unsent_row x none_here.0 l none_here.1))
     ]
 
-    -- all rows of all tables together have few enough columns
+    -- all rows of all tables together have few enough columns, as each item has at most its load
     loads : sum_by (λ x. length (row_for rows x).columns * rows_of_item g (item_at g x)) (numbers_below (item_count g))
         ≤ MOST_LOAD
     loads = omega (
@@ -293,7 +300,7 @@ module _ (g : Graph) (within : IsWithinLimits g) (urgency order : List ℕ) (adm
       loads = loads;
     }
 
-  -- each column can be written, and the rest is what it means that the rows fit
+  -- if the rows fit, they can be written: each of their columns can, and a row of an item that isn't sent is empty
   writable : DoRowsFit g rows → AreWritable g rows
   writable fits = record {
     items = is.items;

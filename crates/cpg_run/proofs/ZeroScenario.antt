@@ -7,7 +7,7 @@ use Rattle.cpg_base.specs.Scenario.{zero_scenario, number_of_value, is_before, S
 use Rattle.cpg_base.proofs.ScenarioOrder.{not_before_by_parts}
 
 module _ (g : Graph) where
-  -- it is a scenario of the graph
+  -- the scenario without faults and with every value false is one of the graph
   pub zero_lawful : IsScenario g (zero_scenario g)
   zero_lawful = record {
     values = length-replicate (condition_count g) false;
@@ -21,6 +21,7 @@ module _ (g : Graph) where
       (λ p. omega (arith, same_all {X = ℕ} (process_count g) p 0))
       (λ p c e. let f = ap number_of_value (same_all {X = Bool} (condition_count g) c false) in omega (arith, f))
     where
+      -- each element of a list of equal ones is the one, and so is the default past its end
       same_all : {X : Type 0} (n i : ℕ) (a : X) → get_or (replicate n a) i a ≡ a
       same_all zero i a = refl
       same_all (suc n) zero a = refl

@@ -4,7 +4,7 @@ use Rattle.std.specs.List.{flat_map}
 use Rattle.cpg_base.specs.Graph.{Graph, is_frozen}
 use Rattle.cpg_bus.specs.Plan.{queue_of}
 
--- the frozen items of a process: its start and then its messages by number
+-- the frozen items of a process: its start and then what it sends, in the order of its queue
 abbrev pub frozen_items_of : Graph → ℕ → List ℕ
 frozen_items_of g p = filter (is_frozen g) (p ∷ queue_of g p)
 

@@ -1,4 +1,4 @@
--- The laws of rows: what is carried beside a time decides it, so entries and their rows have the times of the runs.
+-- The laws of rows: what is carried beside a time decides the time, so entries and their rows have the times of the runs.
 use Rattle.std.specs.Prelude.{ℕ, ◌≡◌, ◌≢◌, ◌<◌, false, List, [], Option, None, get_or, option_to_list, All, IsTrue}
 use Rattle.cpg_base.specs.Graph.{Graph, item_count, item_at, producer}
 use Rattle.cpg_base.specs.Activity.{item_active}
@@ -16,35 +16,35 @@ use Rattle.cpg_run.specs.Run.{Times, IsRun}
 use Rattle.cpg_run.specs.Carried.{row_at, carried}
 use Rattle.cpg_run.specs.Rows.{AreEntriesOf, AreRows}
 
--- an admitted graph, its urgency order, an order of its processes, and its frozen times
+-- an admitted graph, its urgency order, an order of its processes, and the frozen times under that order
 pub record IsTimed (g : Graph) (urgency order : List ℕ) (frozen : List (Option ℕ)) : Type 0 where
   pub admitted : Admitted g urgency order
   pub frozen_times : AreFrozenTimes g order frozen
 
--- in every scenario the columns have the one time of an item in the run, and none if it is inactive
+-- in every scenario the columns that match have just the time of the item x in the run, and none matches if it has none
 abbrev pub HaveTimesOf : Graph → List ℕ → List (Option ℕ) → ℕ → List Column → Type 0
 HaveTimesOf g order frozen x columns = (s : Scenario) (t : Times) → IsScenario g s → IsRun g order frozen s t →
     times_in columns s ≡ option_to_list (get_or t.times x None)
 
--- an item from a process that has an earlier place than this
+-- the item y comes from a process at a place below the bound
 abbrev pub IsEarlier : Graph → List ℕ → ℕ → ℕ → Type 0
 IsEarlier g order bound y = (y < item_count g) × (place order (producer g y) < bound)
 
--- two lists of rows have the same rows of the items from processes at earlier places
+-- two lists of rows agree on the items from processes at places below the bound
 abbrev pub SameRowsBefore : Graph → List ℕ → ℕ → List (List Column) → List (List Column) → Type 0
 SameRowsBefore g order bound rows others = (y : ℕ) → IsEarlier g order bound y → row_at rows y ≡ row_at others y
 
--- the rows of those items have cubes of the graph, and the times of the runs
+-- the rows of the items from processes at places below the bound have cubes of the graph, and the times of the runs
 pub record AreRowsBefore (g : Graph) (order : List ℕ) (frozen : List (Option ℕ)) (bound : ℕ)
     (rows : List (List Column)) : Type 0 where
   pub cubes : (y : ℕ) → IsEarlier g order bound y → All (λ c. IsCube g c.cube) (row_at rows y)
   pub times : (y : ℕ) → IsEarlier g order bound y → HaveTimesOf g order frozen y (row_at rows y)
 
--- the rows of the items from processes before an item's
+-- the rows of the items from processes before the producer of x have cubes of the graph, and the times of the runs
 abbrev pub AreRowsFor : Graph → List ℕ → List (Option ℕ) → ℕ → List (List Column) → Type 0
 AreRowsFor g order frozen x rows = AreRowsBefore g order frozen (place order (producer g x)) rows
 
--- an item is active in another scenario too, with the same time, and the same is carried there
+-- the item x is active in the scenario u too, with the same time as in s, and the same is carried there
 pub record IsSameIn (g : Graph) (order : List ℕ) (frozen : List (Option ℕ)) (rows : List (List Column)) (x : ℕ)
     (s u : Scenario) : Type 0 where
   pub active : IsTrue (item_active g u.values (item_at g x))
@@ -52,14 +52,15 @@ pub record IsSameIn (g : Graph) (order : List ℕ) (frozen : List (Option ℕ)) 
       get_or t.times x None ≡ get_or w.times x None
   pub carried : carried g order rows u x ≡ carried g order rows s x
 
--- what is carried beside a time is found in the rows of earlier processes alone
+-- what is carried beside a time is found in the rows of items from earlier processes alone
 abbrev pub CarriedRestsOnEarlier : Type 0
 CarriedRestsOnEarlier =
     (g : Graph) (order : List ℕ) (rows others : List (List Column)) (s : Scenario) (x : ℕ) → IsTopological g order →
     x < item_count g → SameRowsBefore g order (place order (producer g x)) rows others →
     carried g order rows s x ≡ carried g order others s x
 
--- what is carried beside a time decides the time: if it holds in another scenario, the item is the same there
+-- what is carried beside a time decides it: in any other scenario in which those literals hold, the item is active and
+-- has the same time
 abbrev pub CarriedDecides : Type 0
 CarriedDecides = (g : Graph) (urgency order : List ℕ) (frozen : List (Option ℕ)) (rows : List (List Column))
     (s u : Scenario) (x : ℕ) →
@@ -68,7 +69,7 @@ CarriedDecides = (g : Graph) (urgency order : List ℕ) (frozen : List (Option �
     IsTrue (item_active g s.values (item_at g x)) → IsTrue (matches (carried g order rows s x) u) →
     IsSameIn g order frozen rows x s u
 
--- entries can be merged, and have the times of the runs
+-- the entries of an item can be merged, and have the times of the runs
 abbrev pub EntriesHaveTimes : Type 0
 EntriesHaveTimes = (g : Graph) (urgency order : List ℕ) (frozen : List (Option ℕ)) (rows : List (List Column)) (x : ℕ)
     (entries : List Column) →
@@ -77,7 +78,7 @@ EntriesHaveTimes = (g : Graph) (urgency order : List ℕ) (frozen : List (Option
     AreMergeable g entries ×
     HaveTimesOf g order frozen x entries
 
--- rows have the times of the runs, and an item that is never active has no column
+-- rows of merged entries have the times of the runs, and the row of an item that is never active has no column
 abbrev pub RowsHaveTimes : Type 0
 RowsHaveTimes = (g : Graph) (urgency order : List ℕ) (frozen : List (Option ℕ)) (rows : List (List Column)) →
     IsTimed g urgency order frozen → AreRows g urgency order frozen rows → (x : ℕ) →

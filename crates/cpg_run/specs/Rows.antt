@@ -1,5 +1,5 @@
--- The rows of a graph: one column for each group of scenarios in which an item's node has the same literals, merged.
--- Such a column is an entry as long as it isn't merged.
+-- The rows of a graph. The scenarios in which the same literals are carried beside an item's time make one column, an
+-- entry. Merged, the entries of an item are its row.
 use Rattle.std.specs.Prelude.{ℕ, ◌≡◌, ◌≢◌, ◌<◌, List, Option, Some, None, length, map, get_or, Contains, AllPairs}
 use Rattle.std.specs.Prelude.{IsTrue}
 use Rattle.cpg_base.specs.Graph.{Graph, item_count, item_at}
@@ -14,7 +14,7 @@ use Rattle.cpg_cube.specs.declared.column.Column.{Column}
 use Rattle.cpg_run.specs.Run.{Times, IsRun}
 use Rattle.cpg_run.specs.Carried.{row_at, carried}
 
--- a cube with the ranges that the literals leave together, on no other variables than theirs
+-- `cube` has the ranges that the literals leave together, on no other variables than theirs
 pub record IsCubeOf (k : ℕ) (literals cube : List Literal) : Type 0 where
   -- its literals are in the order of their variables
   pub rising : IsRising cube
@@ -25,7 +25,8 @@ pub record IsCubeOf (k : ℕ) (literals cube : List Literal) : Type 0 where
   -- the high of each variable is the least of their highs
   pub high : (v : ℕ) → high_in k cube v ≡ kept_high k literals v
 
--- an entry of an item for a scenario in which it is active: its time in that scenario, with what is carried there
+-- `e` is the entry of the item x for the scenario s, in which it is active: its time there, and the cube of what is
+-- carried beside it
 pub record IsEntryIn (g : Graph) (order : List ℕ) (frozen : List (Option ℕ)) (rows : List (List Column)) (x : ℕ)
     (s : Scenario) (e : Column) : Type 0 where
   pub lawful : IsScenario g s
@@ -33,22 +34,26 @@ pub record IsEntryIn (g : Graph) (order : List ℕ) (frozen : List (Option ℕ))
   pub time : (t : Times) → IsRun g order frozen s t → get_or t.times x None ≡ Some e.time
   pub cube : IsCubeOf g.faults (carried g order rows s x) e.cube
 
--- the entries, one for each scenario that is the least of its cube
+-- The entries of the item x. All scenarios that an entry's cube matches have the same entry, so it is taken once, for the
+-- least of them, which is `lows` of the cube.
 pub record AreEntriesOf (g : Graph) (order : List ℕ) (frozen : List (Option ℕ)) (rows : List (List Column)) (x : ℕ)
     (entries : List Column) : Type 0 where
+  -- each is the entry for the least scenario of its cube
   pub each : (e : Column) → Contains entries e → IsEntryIn g order frozen rows x (lows g e.cube) e
+  -- no two have the same least scenario
   pub apart : AllPairs (λ d e. lows g d.cube ≢ lows g e.cube) entries
+  -- each scenario that is the least of its entry's cube has one
   pub all : (s : Scenario) (e : Column) → IsEntryIn g order frozen rows x s e → lows g e.cube ≡ s →
       Contains (map (λ d. lows g d.cube) entries) s
 
--- the row of an item: its entries, merged
+-- the row of the item x: its entries, merged
 pub record IsRowOf (g : Graph) (urgency order : List ℕ) (frozen : List (Option ℕ)) (rows : List (List Column))
     (x : ℕ) : Type 0 where
   pub entries : List Column
   pub are : AreEntriesOf g order frozen rows x entries
   pub merge : IsMergeOf g urgency entries (row_at rows x)
 
--- a row for each item, found from those of the frames before it
+-- a row for each item; what is carried beside its times is found in the rows of items from earlier processes
 pub record AreRows (g : Graph) (urgency order : List ℕ) (frozen : List (Option ℕ))
     (rows : List (List Column)) : Type 0 where
   pub count : length rows ≡ item_count g

@@ -18,31 +18,32 @@ pub record IsSetting (setting : Setting) : Type 0 where
   pub topological : IsTopological setting.problem.now setting.order.now
   pub plan : setting.plan.now ≡ plan_of setting.problem.now
 
--- the run of a scenario
+-- `t` is the run of the scenario under the setting's order
 abbrev pub IsRunOf : Setting → List (Option ℕ) → Scenario → Times → Type 0
 IsRunOf setting frozen s t = IsRun setting.problem.now setting.order.now frozen s t
 
--- a place for all that is known of a run
+-- there is a place for the time of each item, for the end of each process, and for what is kept of each node
 abbrev pub HavePlaces : Setting → Times → Nodes → Type 0
 HavePlaces setting known nodes = HasPlaces setting.problem.now known nodes.ready.items nodes.free.items
 
--- what is known is that of the run before the place i
+-- what is found is that of the scenario's run before the place i
 abbrev pub AreAt : Setting → List (Option ℕ) → Scenario → ℕ → Times → Nodes → Type 0
 AreAt setting frozen s i known nodes =
     (t : Times) → IsRunOf setting frozen s t →
     IsAt setting.problem.now setting.order.now s t i known nodes.ready.items nodes.free.items
 
--- what is known is that of the run before a process sends
+-- what is known is that of the scenario's run, before the process p sends anything
 abbrev pub CanSendIn : Setting → List (Option ℕ) → Scenario → ℕ → Times → ℕ → Type 0
 CanSendIn setting frozen s p known free =
     (t : Times) → IsRunOf setting frozen s t → CanSend setting.problem.now setting.order.now s t p known free
 
--- the first n of what a process sends have their times of the run
+-- the first n items that the process p sends have their times of the scenario's run
 abbrev pub HasSentIn : Setting → List (Option ℕ) → Scenario → ℕ → ℕ → Times → Times → ℕ → Type 0
 HasSentIn setting frozen s p n old new free =
     (t : Times) → IsRunOf setting frozen s t → HasSent setting.problem.now setting.order.now s t p n old new free
 
--- the start of a process whose node is ready for it at a time
+-- when a process starts whose node is ready for it at the time `ready`: not before its release, its live inputs and, if it
+-- has one, its frozen time
 abbrev pub start_at : Graph → Scenario → Times → List (Option ℕ) → ℕ → ℕ → ℕ
 start_at g s known frozen p ready =
     max (max (max ready (process_at g p).release) (greatest (input_bounds g s known p))) (frozen_in frozen p)

@@ -12,7 +12,7 @@ use cpg_base::{OutOfMemory, Problem, Scenario};
 use cpg_rules::GuardTrees;
 use std::alloc::Global;
 
-/// Whether a process is active in a scenario, by the guards of an admitted graph. The contract alone names `problem`.
+/// Whether a process is active in a scenario. Only the contract names `problem`, whose guards these are.
 pub fn is_active(problem: &Problem, guards: &GuardTrees, scenario: &Scenario, process: u32) -> bool
     requires admitted { AreAdmitted problem.now guards.now }
     requires scenario { IsScenario problem.now scenario.now }
@@ -23,7 +23,7 @@ pub fn is_active(problem: &Problem, guards: &GuardTrees, scenario: &Scenario, pr
     active
 }
 
-/// Whether an edge is live. The contract alone names `problem`.
+/// Whether an edge is live in a scenario. Only the contract names `problem`, whose guards these are.
 pub(crate) fn is_live(
     problem: &Problem,
     guards: &GuardTrees,
@@ -39,7 +39,8 @@ pub(crate) fn is_live(
     live
 }
 
-/// The conditions that decide a process. The contract alone names `problem`.
+/// Returns the conditions that decide a process in a scenario, in the urgency order of their processes. Only the contract
+/// names `problem`, whose guards these are.
 pub(crate) fn deciding(
     alloc: Global,
     problem: &Problem,
@@ -57,8 +58,8 @@ pub(crate) fn deciding(
     Ok(conditions)
 }
 
-/// Whether an item that an active process may send is active: each broadcast is active, and a message is active if its
-/// edge is live. The contract alone names `process`.
+/// Whether an item in the queue of an active process is active: a broadcast always is, and a message is if its edge is
+/// live. Only the contract names `process`.
 pub(crate) fn is_item_active(
     problem: &Problem,
     guards: &GuardTrees,
@@ -74,9 +75,10 @@ pub(crate) fn is_item_active(
     ensures { result ≡ item_active problem.now scenario.now.values (item_at problem.now item) }
 {
     let processes = problem.processes().len() as u32;
-    // processes come first, then messages, then broadcasts: a broadcast of an active process is active
+    // items are numbered in the order starts, messages, broadcasts, so these are the broadcasts
     if item >= processes + problem.edges().len() as u32 {
         return true;
     }
+    // what is sent and no broadcast is a message, whose number is that of its edge after the starts
     is_live(problem, guards, scenario, item - processes)
 }

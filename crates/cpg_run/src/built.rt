@@ -1,4 +1,4 @@
-//! What a builder of tables answers.
+//! What a builder of tables answers: the tables, with the greatest finish and excess, or why there are none.
 
 use crate::FrozenTimes;
 use cpg_base::{OutOfMemory, Scenario};
@@ -8,30 +8,30 @@ use std::alloc::{AllocError, AllocFailed};
 /// The tables of a graph under an order, with the frozen times, the greatest finish and the greatest excess.
 #[derive(Drop)]
 pub struct Built {
-    /// The tables of all nodes.
+    /// The tables of all nodes, with the head that names the graph's sizes.
     pub tables: Tables,
-    /// The times of frozen items.
+    /// The times of the frozen items under the order.
     pub frozen: FrozenTimes,
     /// The greatest finish of all scenarios, in time units.
     pub worst: u64,
-    /// The least scenario that has it.
+    /// The least scenario, by the urgency order, that has this finish.
     pub worst_in: Scenario,
-    /// The least process that ends at it there; `None` exactly if there is no process.
+    /// The least process that ends at this finish in that scenario; `None` exactly if the graph has no process.
     pub worst_by: Option<u32>,
-    /// The greatest excess: how far an end is past its due at most, in time units.
+    /// How far an end is past its due at most, in time units: 0 if all end in time.
     pub excess: u64,
-    /// The least scenario that has this excess.
+    /// The least scenario, by the urgency order, that has this excess.
     pub excess_in: Scenario,
-    /// The least process that has it there; `None` exactly if nothing is late.
+    /// The least process that has this excess in that scenario; `None` exactly if the excess is 0.
     pub excess_by: Option<u32>,
 }
 
 /// Why no tables were built.
 #[derive(Clone, Copy, Debug, PartialEq, Eq)]
 pub enum BuildFault {
-    /// The least item whose row would have too many columns.
+    /// This item is too wide: its row, or all rows up to it together, might need more columns than are allowed.
     TooWide(u32),
-    /// Out of memory.
+    /// Memory ran out.
     OutOfMemory,
 }
 

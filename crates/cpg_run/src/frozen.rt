@@ -6,7 +6,7 @@ use cpg_base::{OutOfMemory, Problem};
 use std::alloc::Global;
 use std::marker::Model;
 
-/// The times of frozen items, in time units, seen as a list with a time or `None` for each item number.
+/// The times of frozen items, in time units: for each item its frozen time, or `None` if it has none.
 #[derive(Drop)]
 pub struct FrozenTimes {
     times: Vec<Option<u64>>,
@@ -21,10 +21,11 @@ impl Model for FrozenTimes {
 }
 
 impl FrozenTimes {
-    /// Frozen times without a time for any item.
+    /// Returns frozen times in which none is set yet, with a place for each item of a graph.
     pub fn none(alloc: Global, problem: &Problem) -> Result<FrozenTimes, OutOfMemory>
         ensures { IfOk result (λ frozen. frozen ≡ nothing_frozen problem.now) }
     {
+        // an item is a start for each process, a message for each edge or a broadcast for each condition
         let items = problem.processes().len()
             + problem.edges().len()
             + problem.conditions() as usize;
@@ -33,7 +34,7 @@ impl FrozenTimes {
         })
     }
 
-    /// The time of an item, and `None` exactly if none was set.
+    /// Returns the frozen time of an item, and `None` exactly if none was set.
     pub fn time_of(&self, item: u32) -> Option<u64>
         requires { item < length self.now }
         ensures { result ≡ get_or self.now item None }
@@ -41,7 +42,7 @@ impl FrozenTimes {
         self.times[item as usize]
     }
 
-    /// Sets the time of an item.
+    /// Sets the frozen time of an item.
     pub fn set(&mut self, item: u32, time: u64)
         requires { item < length self.old }
         ensures { self.new ≡ slice_set self.old item (Some time) }
@@ -49,7 +50,7 @@ impl FrozenTimes {
         self.times[item as usize] = Some(time);
     }
 
-    /// A copy of the frozen times.
+    /// Returns a copy of the frozen times.
     pub fn copy(&self) -> Result<FrozenTimes, OutOfMemory>
         ensures { IfOk result (λ frozen. frozen ≡ self.now) }
     {

@@ -11,10 +11,12 @@ use cpg_base::{OutOfMemory, Problem};
 use std::alloc::Global;
 use std::marker::Model;
 
-/// The times and ends that are known so far, in time units: seen as a run's times whose finish is 0.
+/// The times and ends of a run that are known so far, in time units. Contracts see a run's times whose finish is 0.
 #[derive(Drop)]
 pub(crate) struct Known {
+    // for each item when it starts or is sent; `None` if it is inactive or not known yet
     times: Vec<Option<u64>>,
+    // for each process when it ends; `None` if it is inactive or not known yet
     ends: Vec<Option<u64>>,
 }
 
@@ -26,7 +28,7 @@ impl Model for Known {
     ghost view = { λ k. record { times = k.times.items; ends = k.ends.items; finish = 0 } };
 }
 
-/// The greatest of these ends, or 0 if there is none.
+/// Returns the greatest of these ends, or 0 if there is none.
 fn greatest_end(ends: &[Option<u64>]) -> u64
     ensures { result ≡ greatest (flat_map option_to_list ends.now) }
 {
@@ -40,11 +42,12 @@ fn greatest_end(ends: &[Option<u64>]) -> u64
 }
 
 impl Known {
-    /// Known times of a graph's items when none is known yet.
+    /// Returns what is known at first: nothing, with a place for the time of each item and the end of each process of a graph.
     pub(crate) fn none(alloc: Global, problem: &Problem) -> Result<Known, OutOfMemory>
         ensures { IfOk result (λ known. known ≡ no_times problem.now) }
     {
         let processes = problem.processes().len();
+        // an item is a start for each process, a message for each edge or a broadcast for each condition
         let items = processes + problem.edges().len() + problem.conditions() as usize;
         Ok(Known {
             times: vec![in alloc; None; items]?,
@@ -52,7 +55,7 @@ impl Known {
         })
     }
 
-    /// A copy of the times and ends.
+    /// Returns a copy of the times and ends.
     pub(crate) fn copy(&self) -> Result<Known, OutOfMemory>
         ensures { IfOk result (λ known. known ≡ self.now) }
     {
@@ -62,7 +65,7 @@ impl Known {
         })
     }
 
-    /// The time of an item, and `None` if none is known.
+    /// Returns the time of an item, and `None` exactly if none is known or the graph has no such item.
     pub(crate) fn time_if(&self, item: u32) -> Option<u64>
         ensures { result ≡ get_or self.now.times item None }
     {
@@ -72,14 +75,14 @@ impl Known {
         }
     }
 
-    /// The time of an item, or 0 if none is known.
+    /// Returns the time of an item, or 0 if none is known.
     pub(crate) fn time(&self, item: u32) -> u64
         ensures { result ≡ time_in self.now item }
     {
         self.time_if(item).unwrap_or(0)
     }
 
-    /// The end of a process, or 0 if none is known.
+    /// Returns the end of a process, or 0 if none is known.
     pub(crate) fn end(&self, process: u32) -> u64
         ensures { result ≡ end_in self.now process }
     {
@@ -105,7 +108,7 @@ impl Known {
         self.ends[process as usize] = Some(end);
     }
 
-    /// The run of these times.
+    /// Returns a run with these times and ends, whose finish is the greatest end.
     pub(crate) fn finished(self) -> RunTimes
         ensures { result ≡ record self { finish = greatest (flat_map option_to_list self.ends) } }
     {

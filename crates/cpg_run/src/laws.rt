@@ -1,10 +1,10 @@
-//! The laws of rows.
+//! The laws of rows, as contracts without code.
 
 ghost use Rattle.cpg_run.specs.Carrying.{CarryingTablesAreLawful, ListedRowsCarry};
 ghost use Rattle.cpg_run.specs.Found.{FoundRowsAreWritable, FoundRowsFit, FoundTablesAreBuilt};
 ghost use Rattle.cpg_run.specs.RowLaws.{CarriedDecides, CarriedRestsOnEarlier, EntriesHaveTimes, RowsHaveTimes};
 
-/// What is carried beside a time is found in the rows of earlier processes alone.
+/// What is carried beside a time is found in the rows of items from earlier processes alone.
 pub fn carried_rests_on_earlier()
     ensures { CarriedRestsOnEarlier }
 {}
@@ -15,27 +15,28 @@ pub fn carried_decides()
     ensures { CarriedDecides }
 {}
 
-/// Entries can be merged, and have the times of the runs.
+/// The entries of an item can be merged, and have the times of the runs.
 pub fn entries_have_times()
     ensures { EntriesHaveTimes }
 {}
 
-/// Rows have the times of the runs, and an item that is never active has no column.
+/// Rows of merged entries have the times of the runs, and the row of an item that is never active has no column.
 pub fn rows_have_times()
     ensures { RowsHaveTimes }
 {}
 
-/// Tables whose rows carry no more than they may are exact and keep the rules.
+/// Tables whose columns say no more than is carried beside their times are exact and supported, and keep all rules but,
+/// if an end is past its due, V9. No row has more columns than its item has views.
 pub fn carrying_tables_are_lawful()
     ensures { CarryingTablesAreLawful }
 {}
 
-/// The rows of groups of listed scenarios carry no more than they may.
+/// The columns of merged entries say no more than is carried beside their times.
 pub fn listed_rows_carry()
     ensures { ListedRowsCarry }
 {}
 
-/// Rows that carry no more than they may are within the limits of a row and of all rows if no item is too wide.
+/// Rows that are found are within the limits of a row and of all rows, if no item is too wide.
 pub fn found_rows_fit()
     ensures { FoundRowsFit }
 {}

@@ -13,7 +13,7 @@ use cpg_bus::Plan;
 use cpg_rules::Admitted;
 use std::alloc::Global;
 
-/// The run of a scenario in a setting that is made once for many.
+/// Returns the run of a scenario, as `run` does, in a setting that is made once for many scenarios.
 pub fn run_by(
     alloc: Global,
     setting: &Setting<'_>,
@@ -27,15 +27,15 @@ pub fn run_by(
     ensures { IfOk result (IsRunOf setting.now frozen.now scenario.now) }
 {
     let mut progress = RunProgress::none(alloc, setting.problem)?;
-    // place by place along the order: a process waits only for processes before it
+    // along the order, since a process waits only for processes before it
     for place in 0..setting.problem.processes().len() as u32 {
         progress.step(alloc, setting, frozen, scenario, place)?;
     }
     Ok(progress.finished())
 }
 
-/// The run of a scenario: the start of each active process, the start of the slot of each active message and broadcast,
-/// and the ends, in time units.
+/// Returns the run of a scenario under a topological order and these frozen times: when each active item starts or is
+/// sent, and when each active process ends, in time units.
 pub fn run(
     alloc: Global,
     admitted: &Admitted,

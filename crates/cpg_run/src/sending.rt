@@ -1,4 +1,4 @@
-//! What a process sends.
+//! When a process's messages and broadcasts are sent.
 ghost use Rattle.std.specs.Prelude.{◌≡◌, ◌<◌, ◌^◌, max, true, length};
 ghost use Rattle.cpg_base.specs.Graph.{process_count, item_count};
 ghost use Rattle.cpg_base.specs.Activity.{active};
@@ -17,8 +17,8 @@ use crate::{FrozenTimes, Setting};
 use cpg_base::{Problem, Scenario};
 use cpg_bus::Plan;
 
-/// When an active item is sent: in a slot that is free, at the end of its producer or later, and at its frozen time if
-/// that is later.
+/// Returns when an active item is sent: in the first slot of its node from `end` on, the end of its producer, but not
+/// before `free`, from which the node's slots are free, and not before its frozen time, if it has one.
 fn send_time(
     problem: &Problem,
     plan: &Plan,
@@ -39,8 +39,8 @@ fn send_time(
     next.max(free).max(frozen_time(frozen, item))
 }
 
-/// Sets the times of all that an active process sends, if the slots of its node are free from a given time on. Returns
-/// the time from which they are free after that.
+/// Sets the times of all that an active process sends, given the time `free` from which the slots of its node are free.
+/// Returns the time from which they are free after that.
 pub(crate) fn send(
     setting: &Setting<'_>,
     frozen: &FrozenTimes,
@@ -68,7 +68,8 @@ pub(crate) fn send(
     let round = plan.round(problem);
     let mut free = free;
     for item in plan.queue(problem, process) {
-        // the queue is in the order of sending; an inactive item takes no slot
+        // the queue is in the order of sending; an inactive item takes no slot, and after an active one the
+        // node's next slot is a round later (the sum doesn't overflow, since times of a run are below 2^59)
         if is_item_active(problem, setting.guards, scenario, process, *item) {
             let time = send_time(problem, plan, frozen, node, *item, end, free);
             known.set_time(*item, time);

@@ -8,14 +8,18 @@ use cpg_rules::{Admitted, GuardTrees};
 /// An admitted graph, an order of its processes, and the graph's plan.
 #[derive(Clone, Copy)]
 pub struct Setting<'a> {
+    /// The graph, which is admitted.
     pub problem: &'a Problem,
+    /// The guards of its processes, which say in which outcomes each is active.
     pub guards: &'a GuardTrees,
+    /// The order in which the processes of a node run, and frames are queued.
     pub order: &'a Order,
+    /// The graph's edges by process, its queues and its slots.
     pub plan: &'a Plan,
 }
 
 impl<'a> Setting<'a> {
-    /// A graph under an order, with its plan.
+    /// Returns the setting of an admitted graph, given an order of its processes and its plan.
     pub fn of(admitted: &'a Admitted, order: &'a Order, plan: &'a Plan) -> Setting<'a>
         ensures problem { result.problem.now ≡ admitted.now.graph }
         ensures guards { result.guards.now ≡ admitted.now.guards }

@@ -1,4 +1,4 @@
-//! A run is found one process after another.
+//! Finds a run along an order, one process after another.
 ghost use Rattle.std.specs.List.{flat_map};
 ghost use Rattle.std.specs.Option.{option_to_list};
 ghost use Rattle.std.specs.Prelude.{◌≡◌, ◌+◌, ◌<◌, ℕ, List, Option, None, IfOk, OnErr, OnOk, get_or, length};
@@ -18,15 +18,17 @@ use cpg_base::{OutOfMemory, Problem, Scenario};
 use std::alloc::Global;
 use std::marker::Model;
 
-/// For each node: when it is ready for its next process, apart from what decides that process, and when its slots are
-/// free.
+/// What the processes so far leave to the next ones, for each node, in time units.
 #[derive(Drop)]
 struct Nodes {
+    // by when all active processes so far have ended, and the node has heard what decides any process so far
     ready: Vec<u64>,
+    // from when its slots are free after all that it has sent so far
     free: Vec<u64>,
 }
 
-/// Sets the times of the process at a place, and of what it sends.
+/// Sets the start and the end of the process at a place of the order, and the times of what it sends, if it is active.
+/// If memory runs out, nothing is changed.
 fn step(
     alloc: Global,
     setting: &Setting<'_>,
@@ -61,25 +63,28 @@ fn step(
         process,
     )?;
     let ready = nodes.ready[node].max(heard);
-    // an inactive process takes no time, but its node has to know by then that it is inactive
+    // an inactive process takes no time, but a later one on its node starts only when the node knows of that
     if !is_active(problem, setting.guards, scenario, process) {
         nodes.ready[node] = ready;
         return Ok(());
     }
-    // an active one: its start and end are set first, since what it sends waits for its end
+    // the start and the end are set before anything is sent, since what a process sends waits for its end
     let start = start(setting, frozen, known, scenario, process, ready);
     let end = start + problem.duration(process, scenario.fault(process));
     known.set_time(process, start);
     known.set_end(process, end);
+    // the start waited for `ready`, so the end is no earlier than that
     nodes.ready[node] = end;
     nodes.free[node] = send(setting, frozen, scenario, known, process, nodes.free[node]);
     Ok(())
 }
 
-/// What is known of a run before a place of the order.
+/// What is found of a scenario's run before a place of the order.
 #[derive(Drop)]
 pub struct RunProgress {
+    // the times and the ends that are known so far
     known: Known,
+    // what is left to the next processes of each node
     nodes: Nodes,
 }
 
@@ -92,7 +97,7 @@ impl Model for RunProgress {
 }
 
 impl RunProgress {
-    /// The progress before the first place, when nothing is known.
+    /// Returns the progress before the first place: nothing is known, and every node is ready and its slots free at 0.
     pub fn none(alloc: Global, problem: &Problem) -> Result<RunProgress, OutOfMemory>
         // the progress is that of the run of any scenario, before the first place
         ensures { IfOk result (λ progress. (order : List ℕ) (frozen : List (Option ℕ)) (s : Scenario) → IsAlong problem.now order frozen s 0 progress) }
@@ -107,7 +112,7 @@ impl RunProgress {
         })
     }
 
-    /// A copy of the progress.
+    /// Returns a copy of the progress.
     pub fn copy(&self) -> Result<RunProgress, OutOfMemory>
         ensures { IfOk result (λ progress. progress ≡ self.now) }
     {
@@ -120,14 +125,15 @@ impl RunProgress {
         })
     }
 
-    /// The time of an item in time units, and `None` if none is known.
+    /// Returns the time of an item, in time units, and `None` exactly if none is known or the graph has no such item.
     pub fn time(&self, item: u32) -> Option<u64>
         ensures { result ≡ get_or self.now.known.times item None }
     {
         self.known.time_if(item)
     }
 
-    /// Finds the times of the process at a place and of all that it sends.
+    /// Goes on from a place of the order to the next: finds the times of the process there and of all that it sends. If
+    /// memory runs out, nothing is changed.
     pub fn step(
         &mut self,
         alloc: Global,
@@ -151,7 +157,7 @@ impl RunProgress {
         Ok(())
     }
 
-    /// The run, if all is known.
+    /// Returns the run, if all places of the order are done, so that all of it is known.
     pub(crate) fn finished(self) -> RunTimes
         ensures { result ≡ record self.known { finish = greatest (flat_map option_to_list self.known.ends) } }
     {

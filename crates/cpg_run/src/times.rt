@@ -5,12 +5,13 @@ use cpg_base::OutOfMemory;
 use std::marker::Model;
 
 /// The times of a run, in time units: when each item starts or is sent, when each process ends, and when all have ended.
-/// They are seen as a list with a time or `None` for each item, such a list with an end for each process, and the
-/// greatest end.
 #[derive(Drop)]
 pub struct RunTimes {
+    // for each item when it starts or is sent; `None` if it is inactive
     times: Vec<Option<u64>>,
+    // for each process when it ends; `None` if it is inactive
     ends: Vec<Option<u64>>,
+    // the greatest end, or 0 if there is none
     finish: u64,
 }
 
@@ -23,7 +24,7 @@ impl Model for RunTimes {
 }
 
 impl RunTimes {
-    /// Times with these lists and this finish.
+    /// Returns the times of a run: for each item its time, for each process its end, and the finish, each as given.
     pub fn new(times: Vec<Option<u64>>, ends: Vec<Option<u64>>, finish: u64) -> RunTimes
         ensures { result ≡ record { times = times.items; ends = ends.items; finish = finish } }
     {
@@ -34,7 +35,7 @@ impl RunTimes {
         }
     }
 
-    /// The time of an item. `None` exactly if it is inactive or no item.
+    /// Returns the time of an item, and `None` exactly if it is inactive or the graph has no such item.
     pub fn time(&self, item: u32) -> Option<u64>
         ensures { result ≡ get_or self.now.times item None }
     {
@@ -44,7 +45,7 @@ impl RunTimes {
         }
     }
 
-    /// The end of a process. `None` exactly if it is inactive or no process.
+    /// Returns the end of a process, and `None` exactly if it is inactive or the graph has no such process.
     pub fn end(&self, process: u32) -> Option<u64>
         ensures { result ≡ get_or self.now.ends process None }
     {
@@ -54,14 +55,14 @@ impl RunTimes {
         }
     }
 
-    /// The greatest end, or 0 if there is none.
+    /// Returns the greatest end, or 0 if there is none.
     pub fn finish(&self) -> u64
         ensures { result ≡ self.now.finish }
     {
         self.finish
     }
 
-    /// A copy of the times.
+    /// Returns a copy of the times.
     pub fn copy(&self) -> Result<RunTimes, OutOfMemory>
         ensures { IfOk result (λ copy. copy ≡ self.now) }
     {

@@ -1,4 +1,4 @@
-//! What a start waits for.
+//! When what a start waits for is there.
 ghost use Rattle.std.specs.Prelude.{◌≡◌, ◌<◌, IfOk, if◌then◌else◌, true, ℕ, Contains, length, map};
 ghost use Rattle.cpg_base.specs.Numbers.{greatest};
 ghost use Rattle.cpg_base.specs.Graph.{process_count, edge_count, condition_count, node_of, home};
@@ -22,7 +22,7 @@ use cpg_bus::Plan;
 use cpg_rules::GuardTrees;
 use std::alloc::Global;
 
-/// When a frame of a node arrives.
+/// Returns when a frame that a node sends arrives: at the end of its slot.
 fn frame_there(problem: &Problem, plan: &Plan, known: &Known, node: u32, item: u32) -> u64
     requires plan { plan.now ≡ plan_of problem.now }
     requires node { node < length problem.now.nodes }
@@ -31,10 +31,11 @@ fn frame_there(problem: &Problem, plan: &Plan, known: &Known, node: u32, item: u
     requires small { AreSmall known.now }
     ensures { result ≡ frame_there problem.now known.now item }
 {
+    // the sum doesn't overflow, since known times are below 2^59
     known.time(item) + plan.share(problem, node).length()
 }
 
-/// When an input is there.
+/// Returns when an input is there, given that it is live: when its message arrives or, on one node, when its source ends.
 fn input_there(problem: &Problem, plan: &Plan, known: &Known, edge: u32) -> u64
     requires plan { plan.now ≡ plan_of problem.now }
     requires slots { HasSenderSlots problem.now }
@@ -43,7 +44,7 @@ fn input_there(problem: &Problem, plan: &Plan, known: &Known, edge: u32) -> u64
     ensures { result ≡ input_there problem.now known.now edge }
 {
     let sender = problem.source(edge);
-    // a message comes over the bus, any other input is on the node itself at the sender's end
+    // an input that isn't a message comes from the same node, and is there at once
     if problem.is_message(edge) {
         frame_there(
             problem,
@@ -57,7 +58,8 @@ fn input_there(problem: &Problem, plan: &Plan, known: &Known, edge: u32) -> u64
     }
 }
 
-/// When a node has heard a condition.
+/// Returns when a node has heard a condition, given that the condition's process is active: when that process ends if it is
+/// on the node, and otherwise when the broadcast arrives.
 fn heard_there(problem: &Problem, plan: &Plan, known: &Known, node: u32, condition: u32) -> u64
     requires plan { plan.now ≡ plan_of problem.now }
     requires slots { HasSenderSlots problem.now }
@@ -68,7 +70,7 @@ fn heard_there(problem: &Problem, plan: &Plan, known: &Known, node: u32, conditi
 {
     let process = problem.process_of(condition);
     let sender = problem.node_of(process);
-    // a condition of the node itself is known at its process's end, any other comes by its broadcast
+    // a node needs no broadcast of its own conditions
     if sender == node {
         known.end(process)
     } else {
@@ -82,7 +84,7 @@ fn heard_there(problem: &Problem, plan: &Plan, known: &Known, node: u32, conditi
     }
 }
 
-/// When an input is there, or 0 if it isn't live.
+/// Returns when an input is there, or 0 if it isn't live, since a start doesn't wait for such an input.
 fn live_there(
     problem: &Problem,
     guards: &GuardTrees,
@@ -105,7 +107,7 @@ fn live_there(
     }
 }
 
-/// When all live inputs among these are there.
+/// Returns when all live inputs among these edges are there, or 0 if none is live.
 fn latest_there(
     problem: &Problem,
     guards: &GuardTrees,
@@ -121,7 +123,6 @@ fn latest_there(
     requires small { AreSmall known.now }
     ensures { result ≡ greatest (map (λ e. if live problem.now scenario.now.values e then input_there problem.now known.now e else 0) edges.now) }
 {
-    // 0 if no edge is live
     let mut latest = 0;
     for edge in edges {
         latest = latest.max(live_there(problem, guards, plan, known, scenario, *edge));
@@ -129,7 +130,7 @@ fn latest_there(
     latest
 }
 
-/// When the live inputs of a process are there.
+/// Returns when all live inputs of a process are there, or 0 if it has none.
 fn inputs_there(
     problem: &Problem,
     guards: &GuardTrees,
@@ -155,7 +156,7 @@ fn inputs_there(
     )
 }
 
-/// When a node has heard each of these conditions.
+/// Returns when a node has heard each of these conditions, or 0 if there are none.
 fn latest_heard(problem: &Problem, plan: &Plan, known: &Known, node: u32, conditions: &[u32]) -> u64
     requires plan { plan.now ≡ plan_of problem.now }
     requires slots { HasSenderSlots problem.now }
@@ -171,7 +172,7 @@ fn latest_heard(problem: &Problem, plan: &Plan, known: &Known, node: u32, condit
     latest
 }
 
-/// When the node of a process has heard each condition that decides the process.
+/// Returns when the node of a process has heard each condition that decides the process in a scenario, or 0 if none does.
 pub(crate) fn decided_there(
     alloc: Global,
     problem: &Problem,
@@ -186,7 +187,7 @@ pub(crate) fn decided_there(
     requires scenario { IsScenario problem.now scenario.now }
     requires process { process < process_count problem.now }
     requires small { AreSmall known.now }
-    // the greatest time at which the node hears one of the conditions that decide the process, 0 without any
+    // the greatest time at which the node hears a condition that decides the process, or 0 if none does
     ensures { IfOk result (IsMost (λ c. (c < condition_count problem.now) ×
         (decides problem.now scenario.now.values process c ≡ true)) (heard_there problem.now known.now (node_of problem.now process))) }
 {
@@ -202,7 +203,7 @@ pub(crate) fn decided_there(
     Ok(heard)
 }
 
-/// The frozen time of an item, or 0 if none is set.
+/// Returns the frozen time of an item, or 0 if none is set.
 pub(crate) fn frozen_time(frozen: &FrozenTimes, item: u32) -> u64
     requires { item < length frozen.now }
     ensures { result ≡ frozen_in frozen.now item }
@@ -210,7 +211,8 @@ pub(crate) fn frozen_time(frozen: &FrozenTimes, item: u32) -> u64
     frozen.time_of(item).unwrap_or(0)
 }
 
-/// The start of an active process whose node is ready for it at a time.
+/// Returns when an active process starts, given the time `ready` at which its node is ready for it: at the latest of that, its
+/// release, the arrival of its live inputs and its frozen time.
 pub(crate) fn start(
     setting: &Setting<'_>,
     frozen: &FrozenTimes,
@@ -228,7 +230,6 @@ pub(crate) fn start(
 {
     let (problem, plan) = (setting.problem, setting.plan);
     let inputs = inputs_there(problem, setting.guards, plan, known, scenario, process);
-    // the greatest of when the node is ready, the release, the inputs and the frozen time
     let released = ready.max(problem.release(process));
     released.max(inputs).max(frozen_time(frozen, process))
 }

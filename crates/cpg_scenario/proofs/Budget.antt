@@ -1,4 +1,5 @@
--- What the steps and the end of reading a scenario's counts, values and lengths show.
+-- The counts and lengths of a document: when they keep the fault number and the durations, and that they then are a
+-- scenario to play.
 use Rattle.std.proofs.Common.{ℕ, ℤ, ◌+◌, ◌<◌, ◌≤◌, ◌≡◌, ◌⊎◌, Bool, true, false, List, map, sum_by, sym, ap, ap₂, ◌∙◌}
 use Rattle.std.proofs.Common.{⊎_elim, arith, pos, negsuc, true≢false, Option, Some, None, get_or, subst}
 use Rattle.std.specs.Prelude.{nat_le}
@@ -20,13 +21,13 @@ use Rattle.cpg_scenario.specs.File.{is_natural, count_given, count_of, keeps_bud
 use Rattle.cpg_scenario.specs.File.{lengths_of, length_or, length_given, is_length_if, IsPlayed}
 use Rattle.cpg_scenario.proofs.Filling.{all_pass, one_fails, over_budget}
 
--- a scenario is made of its values and faults
+-- a scenario with these values and faults is the record of them
 pub scenario_is : (s : Scenario) (values : List Bool) (faults : List ℕ) → s.values ≡ values → s.faults ≡ faults →
     s ≡ record { values = values; faults = faults }
 scenario_is s values faults e k =
     ap₂ (λ (v : List Bool) (f : List ℕ). let t : Scenario = record { values = v; faults = f } in t) e k
 
--- a length that is taken is at least 1, and at most the longest
+-- a length that passes its test, or the longest if none is given, is from 1 to the longest
 given_within : (longest : ℕ) (given : Option ℤ) → 1 ≤ longest → is_length_if longest given ≡ true →
     (1 ≤ length_or longest given) × (length_or longest given ≤ longest)
 given_within longest None l t = (l, omega arith)
@@ -35,7 +36,8 @@ given_within longest (Some (pos n)) l t = let parts = and_parts (nat_le 1 n) (na
 given_within longest (Some (negsuc n)) l t = absurd (true≢false (sym t))
 
 module _ (g : Graph) (ms : Members) where
-  -- a count that is below 0, or above the rest of the fault number, breaks the budget
+  -- If the counts before process n leave `left` of the fault number, and n is given a count below 0 or above this rest,
+  -- the test of the counts fails: in its first part, or as the sum is too great.
   pub budget_broken : (n left : ℕ) (given : ℤ) → n < process_count g → given ≡ count_given g ms n →
       left + sum_by (count_of g ms) (numbers_below n) ≡ g.faults →
       (is_natural given ≡ false) ⊎
@@ -47,7 +49,7 @@ module _ (g : Graph) (ms : Members) where
       (process_count g) n g.faults left l total (let same = ap natural e in omega arith)))
       cause
 
-  -- if no count is below 0, and the counts leave the rest of the fault number, the budget is kept
+  -- if no count is below 0, and all counts leave a rest of the fault number, the test of the counts passes
   pub budget_kept : (left : ℕ) → ((p : ℕ) → p < process_count g → is_natural (count_given g ms p) ≡ true) →
       left + sum_by (count_of g ms) (numbers_below (process_count g)) ≡ g.faults →
       keeps_budget g ms ≡ true
@@ -55,7 +57,7 @@ module _ (g : Graph) (ms : Members) where
       (all_pass (λ p. is_natural (count_given g ms p)) (process_count g) h)
       (le-leb (sum_by (count_of g ms) (numbers_below (process_count g))) g.faults (omega arith))
 
-  -- the scenario of a document that keeps the budget is one of the graph
+  -- the scenario of a document whose counts pass their test is one of the graph
   pub is_scenario : keeps_budget g ms ≡ true → IsScenario g (scenario_of g ms)
   is_scenario kept = record {
     values = length-map _ _ ∙ length-range_with_len 0 (condition_count g);
@@ -75,12 +77,13 @@ module _ (g : Graph) (ms : Members) where
       (λ p c. ap (duration g p)
       (get_or-map-below (count_of g ms) (process_count g) p 0 (numbers-Contains (process_count g) p c)))
 
-  -- an execution takes at least one time unit
+  -- a duration is at least 1, as the wcet is
   takes_time : IsWithinLimits g → (p f : ℕ) → p < process_count g → 1 ≤ duration g p f
   takes_time within p f l = let at : IsProcessWithin _ (process_at g p) = within.processes p _ l in
       omega (arith, at.works)
 
-  -- each length of a document that keeps them is from 1 to the duration of its process
+  -- If the lengths pass their test, each length of the document is from 1 to the duration of its process with its
+  -- faults.
   within_length : keeps_lengths g ms ≡ true → IsWithinLimits g → (q : ℕ) → q < process_count g →
       (1 ≤ get_or (lengths_of g ms) q 0) ×
       (get_or (lengths_of g ms) q 0 ≤ duration g q (fault_of (scenario_of g ms) q))
@@ -97,7 +100,7 @@ module _ (g : Graph) (ms : Members) where
             (subst (λ n. length_or (duration g q (count_of g ms q)) (length_given g ms q) ≤ n) (sym few) w.1),
       )
 
-  -- a document that keeps the budget and the lengths says a scenario to play
+  -- if the counts and the lengths pass their tests, the document's scenario and lengths can be played
   pub is_played : IsWithinLimits g → keeps_budget g ms ≡ true → keeps_lengths g ms ≡ true →
       (s : Scenario) (ls : List ℕ) → s ≡ scenario_of g ms →
       ls ≡ lengths_of g ms →

@@ -1,4 +1,5 @@
--- Each cause is there exactly if its test fails, and the tests stand in the order of the causes.
+-- A file is rejected for its first cause: each cause is there exactly if its test fails, and the tests are made in the
+-- order of the causes.
 use Rattle.std.proofs.Common.{ℕ, zero, suc, ℤ, pos, negsuc, ◌≡◌, ◌<◌, ◌≤◌, ◌⊎◌, Bool, true, false, not, ◌&&◌, ◌||◌}
 use Rattle.std.proofs.Common.{if◌then◌else◌, List, [], ◌∷◌, Contains, Option, Some, None, Ok, Err, is_some}
 use Rattle.std.proofs.Common.{sum_by, codes, refl, sym, ap, subst, ◌∙◌, inl, inr, arith, true≢false}
@@ -29,7 +30,7 @@ use Rattle.cpg_scenario.proofs.Filling.{all_pass, one_fails}
 
 -- ---- a test, and the fact that holds if it fails
 
--- a test fails exactly if a fact holds: the test for the absence of a cause, and the cause
+-- a test fails exactly if a fact holds
 abbrev Fails : Bool → Type 0 → Type 0
 Fails test Fact = (test ≡ false) ↔ Fact
 
@@ -38,17 +39,17 @@ both : (a b : Bool) (A B : Type 0) → Fails a A → Fails b B → Fails (a && b
 both false b A B f g = (λ e. inl (f.0 refl), λ s. refl)
 both true b A B f g = (λ e. inr (g.0 e), λ s. elim s [ inl x ↦ absurd (true≢false (f.1 x)) | inr y ↦ g.1 y ])
 
--- a test fails by a fact exactly if it fails by another that says the same
+-- if a test fails exactly if a fact holds, it does so exactly if an equivalent fact holds
 through : (test : Bool) (A B : Type 0) → Fails test A → (A → B) → (B → A) → Fails test B
 through test A B f on back = (λ e. on (f.0 e), λ b. f.1 (back b))
 
--- one of three facts, grouped in the other way
+-- one of three facts, grouped to the right
 next : {A B C : Type 0} → (A ⊎ B) ⊎ C → A ⊎ (B ⊎ C)
 next (inl (inl x)) = inl x
 next (inl (inr y)) = inr (inl y)
 next (inr z) = inr (inr z)
 
--- one of three, grouped the other way
+-- one of three facts, grouped to the left
 back : {A B C : Type 0} → A ⊎ (B ⊎ C) → (A ⊎ B) ⊎ C
 back (inl x) = inl (inl x)
 back (inr (inl y)) = inl (inr y)
@@ -59,7 +60,7 @@ three : (a b c : Bool) (A B C : Type 0) → Fails a A → Fails b B → Fails c 
 three a b c A B C f g h =
     through ((a && b) && c) ((A ⊎ B) ⊎ C) (A ⊎ (B ⊎ C)) (both (a && b) c (A ⊎ B) C (both a b A B f g) h) next back
 
--- a test of four tests fails exactly if one of the four facts holds
+-- four tests together fail exactly if one of four facts holds
 four : (a b c d : Bool) (A B C D : Type 0) → Fails a A → Fails b B → Fails c C → Fails d D →
     Fails (((a && b) && c) && d) (A ⊎ (B ⊎ (C ⊎ D)))
 four a b c d A B C D f g h i = through (((a && b) && c) && d) ((A ⊎ B) ⊎ (C ⊎ D)) (A ⊎ (B ⊎ (C ⊎ D)))
@@ -74,40 +75,44 @@ never A none = (λ e. absurd (true≢false e), λ a. absurd (none a))
 always : (A : Type 0) → A → Fails false A
 always A a = (λ e. a, λ b. refl)
 
--- a test of all numbers below a bound
+-- given a test p of all numbers below n
 module _ (p : ℕ → Bool) (n : ℕ) where
+  -- if not all numbers pass, some number fails; by looking for it, as otherwise all would pass
   some_fails : list_all p (numbers_below n) ≡ false → (i : ℕ) × (i < n) × (p i ≡ false)
   some_fails e = elim (any_below (λ i. not (p i)) n) [
     | inl r ↦ (r.0, r.1, off (p r.0) r.2)
     | inr h ↦ absurd (both_ways (list_all p (numbers_below n)) e (all_pass p n (λ i l. on (p i) (h i l))))
   ]
     where
+      -- what isn't true is false
       off : (b : Bool) → not b ≡ true → b ≡ false
       off true e = absurd (true≢false (sym e))
       off false e = refl
 
-      -- what isn't otherwise is true
+      -- what isn't false is true
       on : (b : Bool) → not b ≡ false → b ≡ true
       on true e = refl
       on false e = absurd (true≢false e)
 
 -- ---- tables
 
+-- given a fact about entries
 module _ (Fact : List ℕ → Data → Type 0) where
+  -- if the fact holds for the first entry or for one of the others, it holds for an entry of the table
   first_entry : (key : List ℕ) (d : Data) (ms : Members) → Fact key d ⊎ HasEntry ms Fact →
       HasEntry (member key d ms) Fact
   first_entry key d ms (inl fact) = record { key = key; value = d; stands = inl (refl, refl); fact = fact }
   first_entry key d ms (inr other) =
       record { key = other.key; value = other.value; stands = inr other.stands; fact = other.fact }
 
-  -- an entry with a fact is the first one or one of the others
+  -- conversely, an entry for which it holds is the first or one of the others
   entry_first : (key : List ℕ) (d : Data) (ms : Members) (k : List ℕ) (e : Data) → Stands (member key d ms) k e →
       Fact k e →
       Fact key d ⊎ HasEntry ms Fact
   entry_first key d ms k e (inl same) fact = inl (subst (λ x. Fact key x) same.1 (subst (λ x. Fact x e) same.0 fact))
   entry_first key d ms k e (inr later) fact = inr (record { key = k; value = e; stands = later; fact = fact })
 
--- the test that a key is one of some fails exactly if it isn't
+-- the test that a key is among some keys fails exactly if it isn't
 among : (key : List ℕ) (keys : List (List ℕ)) → Fails (list_any (bytes_eq key) keys) (Contains keys key → ⊥)
 among key keys = (
   λ e c. both_ways (list_any (bytes_eq key) keys) e
@@ -117,21 +122,22 @@ among key keys = (
       none (subst (Contains keys) (sym ((bytes_eq-Decides key r.0).0 r.2)) r.1)),
 )
 
--- the test that all keys are among some fails exactly if there is another key
+-- the test that all keys of a table are among some keys fails exactly if the table has another key
 keys_among : (keys : List (List ℕ)) (ms : Members) → Fails (are_among keys ms) (HasOtherKey keys ms)
 keys_among keys no_members = never (HasOtherKey keys no_members) (λ h. h.stands)
 keys_among keys (member key d ms) = through _ _ _ (both _ _ _ _ (among key keys) (keys_among keys ms))
     (first_entry (λ key d. Contains keys key → ⊥) key d ms)
     (λ h. entry_first (λ key d. Contains keys key → ⊥) key d ms h.key h.value h.stands h.fact)
 
--- the test of the values' types fails exactly if one has another type
+-- the test of the types of a table's entries fails exactly if one has another type
 entries_typed : (flags : Bool) (ms : Members) → Fails (are_typed flags ms) (HasOtherType flags ms)
 entries_typed flags no_members = never (HasOtherType flags no_members) (λ h. h.stands)
 entries_typed flags (member key d ms) = through _ _ _ (both _ _ _ _ (λ e. e, λ e. e) (entries_typed flags ms))
     (first_entry (λ key d. is_typed flags d ≡ false) key d ms)
     (λ h. entry_first (λ key d. is_typed flags d ≡ false) key d ms h.key h.value h.stands h.fact)
 
--- the test that a key has a table of such values fails exactly if it has something else
+-- The test of what a key has fails exactly if the key is there and has something else than a table of such entries. By
+-- what it has: anything but a table fails.
 is_table : (flags : Bool) (o : Option Data) → Fails (is_table_of flags o) (IsSomeAnd o (IsNoTableOf flags))
 is_table flags None = never ⊥ (λ h. h)
 is_table flags (Some (string s)) = always ⊤ tt
@@ -142,7 +148,7 @@ is_table flags (Some (datetime dt)) = always ⊤ tt
 is_table flags (Some (array ds)) = always ⊤ tt
 is_table flags (Some (table ms)) = entries_typed flags ms
 
--- the test that keys are names of processes fails exactly if one isn't
+-- the test that a table's keys are names of processes fails exactly if there is a table and one of its keys isn't
 named : (g : Graph) (o : Option Members) → Fails (are_named g o) (IsSomeAnd o (HasOtherKey (process_names g)))
 named g None = never ⊥ (λ h. h)
 named g (Some ms) = keys_among (process_names g) ms
@@ -161,7 +167,7 @@ names_fail g ms = three _ _ _ _ _ _ (named g (option_and_then as_table (get_memb
 -- ---- values, counts and lengths
 
 module _ (g : Graph) (ms : Members) where
-  -- a value that is given to a process without a condition is a bad value
+  -- a process whose test fails is given a value and has no condition
   bad_value : (p : ℕ) → p < process_count g → (given : Option Bool) → value_given g ms p ≡ given → (c : Option ℕ) →
       condition_of g p ≡ c → (not (is_some given) || is_some c) ≡ false →
       HasBadValue g ms
@@ -192,7 +198,7 @@ module _ (g : Graph) (ms : Members) where
         ((negative (count_given g ms h.process)).1 h.negative),
   )
 
-  -- the test for at most fails exactly if it is more
+  -- the test for `at most` fails exactly if the number is greater
   above : (n m : ℕ) → Fails (nat_le n m) (m < n)
   above n m = (
     λ e. elim (cases_Bool (nat_le n m)) [
@@ -202,11 +208,11 @@ module _ (g : Graph) (ms : Members) where
     λ l. lt-leb n m l,
   )
 
-  -- the test of the faults fails exactly if one is negative or they are too many
+  -- the test of the budget fails exactly if a count is below 0 or all together are too many
   budget_fails : Fails (keeps_budget g ms) (IsOverBudget g ms)
   budget_fails = both _ _ _ _ counts_fail (above (sum_by (count_of g ms) (numbers_below (process_count g))) g.faults)
 
-  -- the test of a length fails exactly if it is below 1 or above the full one
+  -- the test of a length fails exactly if it is below 1 or above the longest
   no_length : (longest : ℕ) (z : ℤ) → Fails (is_length longest z) (IsNoLength longest z)
   no_length longest (pos n) = both _ _ _ _ (above 1 n) (above n longest)
   no_length longest (negsuc n) = always ⊤ tt
@@ -247,7 +253,7 @@ cause_at (suc (suc (suc zero))) = Condition
 cause_at (suc (suc (suc (suc zero)))) = Budget
 cause_at n = Length
 
--- each cause has its place in that order
+-- a cause is the one at its place
 at_place : (cause : Cause) → cause_at (rank_of_cause cause) ≡ cause
 at_place Toml = refl
 at_place Field = refl
@@ -256,7 +262,7 @@ at_place Condition = refl
 at_place Budget = refl
 at_place Length = refl
 
--- there are six causes
+-- there are six causes, so each place is below 6
 few : (cause : Cause) → rank_of_cause cause < 6
 few Toml = omega arith
 few Field = omega arith
@@ -265,24 +271,26 @@ few Condition = omega arith
 few Budget = omega arith
 few Length = omega arith
 
--- causes with one place are one cause
+-- causes with one place are equal
 same_place : (c e : Cause) → rank_of_cause c ≡ rank_of_cause e → c ≡ e
 same_place c e k = sym (at_place c) ∙ ap cause_at k ∙ at_place e
 
--- a reading is refused for one cause
+-- equal rejections have equal causes
 same_bad : (c e : Cause) → (let r : Reading = Err (Bad c) in r) ≡ Err (Bad e) → c ≡ e
 same_bad c e k = cc
 
--- a reading that is refused gives nothing
+-- a reading isn't both rejected and played
 bad_well : {P : Type 0} (c : Cause) (p : Played) → (let r : Reading = Err (Bad c) in r) ≡ Ok p → P
 bad_well c p k = cc
 
--- causes that stand at places from n on, up to the last
+-- these are the causes at the places from n on, in order, up to the last
 abbrev Rise : ℕ → List Cause → Type 0
 Rise n [] = n ≡ 6
 Rise n (c ∷ cs) = (rank_of_cause c ≡ n) × Rise (suc n) cs
 
+-- given a test for each cause, and what is returned if all pass
 module _ (test : Cause → Bool) (played : Played) where
+  -- what is returned if the tests of these causes are made one after another
   abbrev told : List Cause → Reading
   told [] = Ok played
   told (c ∷ cs) = if not (test c) then Err (Bad c) else told cs
@@ -291,7 +299,7 @@ module _ (test : Cause → Bool) (played : Played) where
   abbrev Pass : ℕ → Type 0
   Pass n = (c : Cause) → rank_of_cause c < n → test c ≡ true
 
-  -- if the tests before a cause pass, and its own does, so do all up to it
+  -- if the tests of all causes before a cause pass, and its own does, all up to it pass
   pass_more : (c : Cause) → Pass (rank_of_cause c) → test c ≡ true → Pass (suc (rank_of_cause c))
   pass_more c before here e l = elim (cases_lt (rank_of_cause e) (rank_of_cause c)) [
     | inl lt ↦ before e lt
@@ -299,23 +307,24 @@ module _ (test : Cause → Bool) (played : Played) where
         subst (λ x. test x ≡ true) (same_place c e same) here
   ]
 
-  -- the same by the cause's place
+  -- `pass_more` for a cause that is given by its place n
   pass_next : (n : ℕ) (c : Cause) → rank_of_cause c ≡ n → Pass n → test c ≡ true → Pass (suc n)
   pass_next n c at before here = subst (λ m. Pass (suc m)) at (pass_more c (subst Pass (sym at) before) here)
 
-  -- the test of a cause fails, and those before it pass
+  -- the test of a cause fails, and those of all causes before it pass
   abbrev IsFirstFailure : Cause → Type 0
   IsFirstFailure cause = (test cause ≡ false) × Pass (rank_of_cause cause)
 
-  -- a test that passes leaves it to the others
+  -- if the first test passes, the others decide
   goes_on : (c : Cause) (cs : List Cause) → test c ≡ true → told (c ∷ cs) ≡ told cs
   goes_on c cs pass = rw pass refl
 
-  -- one that fails stops with its cause
+  -- if the first test fails, its cause is returned
   stops : (c : Cause) (cs : List Cause) → test c ≡ false → told (c ∷ cs) ≡ Err (Bad c)
   stops c cs fail = rw fail refl
 
-  -- the cause that is returned is the first whose test fails
+  -- The cause that is returned is the first whose test fails. By induction on the causes from n on, as those before n
+  -- pass.
   told_first : (cs : List Cause) (n : ℕ) → Rise n cs → Pass n → (cause : Cause) → told cs ≡ Err (Bad cause) →
       IsFirstFailure cause
   told_first [] n rise before cause e = cc
@@ -325,7 +334,7 @@ module _ (test : Cause → Bool) (played : Played) where
         subst IsFirstFailure (same_bad c cause (sym (stops c cs fail) ∙ e)) (fail, subst Pass (sym rise.0) before)
   ]
 
-  -- the first cause whose test fails is returned
+  -- The first cause whose test fails is returned. By induction on the causes from n on: this cause, or one after it.
   first_told : (cs : List Cause) (n : ℕ) → Rise n cs → (cause : Cause) → n ≤ rank_of_cause cause →
       IsFirstFailure cause →
       told cs ≡ Err (Bad cause)
@@ -338,12 +347,12 @@ module _ (test : Cause → Bool) (played : Played) where
         stops c cs (subst (λ x. test x ≡ false) is first.0) ∙ ap (λ x. Err (Bad x)) (sym is)
   ]
 
-  -- if all pass, the scenario is read
+  -- if all tests pass, the scenario is returned
   told_well : (cs : List Cause) → ((c : Cause) → test c ≡ true) → told cs ≡ Ok played
   told_well [] pass = refl
   told_well (c ∷ cs) pass = goes_on c cs (pass c) ∙ told_well cs pass
 
-  -- if the scenario is returned, no test fails
+  -- if a scenario is returned, all tests pass; by induction on the causes from n on, as those before n pass
   well_told : (cs : List Cause) (n : ℕ) → Rise n cs → Pass n → (p : Played) → told cs ≡ Ok p → (c : Cause) →
       test c ≡ true
   well_told [] n rise before p e c = before c (let f = few c in omega (arith, f, rise))
@@ -354,7 +363,9 @@ module _ (test : Cause → Bool) (played : Played) where
 
 -- ---- the file
 
+-- given a document
 module _ (g : Graph) (ms : Members) where
+  -- the test of each cause; that the bytes spell a document is known
   abbrev test : Cause → Bool
   test Toml = true
   test Field = has_fields ms
@@ -380,27 +391,29 @@ module _ (g : Graph) (ms : Members) where
   passes : (cause : Cause) → (IsIn g (Some ms) cause → ⊥) → test cause ≡ true
   passes cause none = true_from_ne_false (test cause) (λ e. none ((fails cause).0 e))
 
--- a document is refused for its first cause, and played if there is none
+-- a document, or none, is rejected for its first cause, and played if there is none
 abbrev Judged : Graph → Option Members → Type 0
 Judged g document =
     ((cause : Cause) → played_if g document ≡ Err (Bad cause) ↔ (IsIn g document cause ×
     ((other : Cause) → rank_of_cause other < rank_of_cause cause → IsIn g document other → ⊥)))
     × (((p : Played) × (played_if g document ≡ Ok p)) ↔ ((cause : Cause) → IsIn g document cause → ⊥))
 
--- a document, or none, is refused for its first cause, and else is read
+-- This holds of each document. Without one, `Toml` is the one cause. With one, its tests are made in the order of the
+-- causes, and the first that fails, by `told_first` and `first_told`, is the first cause.
 judged : (g : Graph) (document : Option Members) → Judged g document
 judged g None = (
   λ cause. (λ e. at cause (let same : Toml ≡ cause = cc in same), λ h. back cause h.0),
   (λ (p, e). cc, λ none. absurd (none Toml refl)),
 )
   where
+    -- `Toml` is there and is the first
     at : (cause : Cause) → Toml ≡ cause →
         IsIn g None cause × ((other : Cause) → rank_of_cause other < rank_of_cause cause → IsIn g None other → ⊥)
     at cause e =
         subst (λ c. IsIn g None c × ((other : Cause) → rank_of_cause other < rank_of_cause c → IsIn g None other → ⊥)) e
         (refl, λ other l h. absurd (omega (arith, l)))
 
-    -- bytes that are no document have the first cause alone
+    -- without a document no other cause is there
     back : (cause : Cause) → IsIn g None cause → played_if g None ≡ Err (Bad cause)
     back Toml h = refl
     back Field h = absurd h
@@ -424,14 +437,15 @@ judged g (Some ms) = (
   ),
 )
   where
+    -- the causes that a document is tested for
     order : List Cause
     order = Field ∷ Unknown ∷ Condition ∷ Budget ∷ Length ∷ []
 
-    -- the causes are tested in order
+    -- they are those from the second on, in order
     rise : Rise 1 order
     rise = (refl, (refl, (refl, (refl, (refl, refl)))))
 
-    -- before the second test, the first has passed
+    -- the test of the cause before them, `Toml`, passes
     start : Pass (test g ms) (played g ms) 1
     start Toml l = refl
     start Field l = absurd (omega (arith, l))
@@ -440,7 +454,7 @@ judged g (Some ms) = (
     start Budget l = absurd (omega (arith, l))
     start Length l = absurd (omega (arith, l))
 
-    -- a cause in a document that is one comes behind that of no document
+    -- a cause that is there in a document isn't the first, `Toml`
     behind : (cause : Cause) → IsIn g (Some ms) cause → 1 ≤ rank_of_cause cause
     behind Toml h = cc
     behind Field h = omega arith
@@ -449,7 +463,8 @@ judged g (Some ms) = (
     behind Budget h = omega arith
     behind Length h = omega arith
 
--- each file is refused for its first cause, and says a scenario if there is no cause
+-- each file is rejected for its first cause, and gives a scenario if there is none: `judged` for the document that it
+-- spells
 pub first_causes_are_told : FirstCausesAreTold
 unfolding file_of
 first_causes_are_told g bytes = let is = judged g (document_of bytes) in record {

@@ -9,18 +9,18 @@ use Rattle.cpg_scenario.specs.declared.fault.Cause.TheVariants.{Toml}
 use Rattle.cpg_scenario.specs.declared.fault.ScenarioFault.TheVariants.{Bad}
 use Rattle.cpg_scenario.specs.File.{played_of, file_of}
 
--- bytes that are a document are read as its tables
+-- bytes that spell a document give what the document gives
 pub file_of-read : (g : Graph) (bytes : List ℕ) (ms : Members) → IsUtf8 bytes → parse_document bytes ≡ Some ms →
     file_of g bytes ≡ played_of g ms
 unfolding file_of
 file_of-read g bytes ms text read = rw (is_utf8-from_IsUtf8 bytes text, read) refl
 
--- a test that lets through only nothing gives nothing
+-- an option after a test is `None` if it is so whenever the test passes
 none_if : (b : Bool) (o : Option Members) → (b ≡ true → o ≡ None) → cond b o None ≡ None
 none_if true o h = h refl
 none_if false o h = refl
 
--- bytes that are no document are refused as no TOML
+-- bytes that aren't UTF-8, or spell no document, are rejected with `Toml`
 pub file_of-refused : (g : Graph) (bytes : List ℕ) → (IsUtf8 bytes → parse_document bytes ≡ None) →
     file_of g bytes ≡ Err (Bad Toml)
 unfolding file_of

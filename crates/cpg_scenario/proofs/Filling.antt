@@ -28,7 +28,7 @@ below_next P n h here i l =
 
 -- ---- a list that is filled in
 
--- below n the list has what f gives
+-- a list of `count` places has at each place below n what f gives; d is for places past its end
 pub record FilledTo {X : Type 0} (f : ℕ → X) (count : ℕ) (d : X) (n : ℕ) (xs : List X) : Type 0 where
   pub long : length xs ≡ count
   pub there : (i : ℕ) → i < n → get_or xs i d ≡ f i
@@ -52,7 +52,7 @@ filled_next f count d n xs x l e h = record {
       (cases_lt i n);
 }
 
--- when all places are filled in, the list has what the function gives
+-- when all places are filled in, the list is that of what f gives below `count`
 pub filled_all : {X : Type 0} (f : ℕ → X) (count : ℕ) (d : X) (n : ℕ) (xs : List X) → count ≤ n →
     FilledTo f count d n xs →
     xs ≡ map f (numbers_below count)
@@ -63,7 +63,7 @@ filled_all f count d n xs l h =
 
 -- ---- the rest of a budget
 
--- a sum up to n + 1 is that up to n and the next number
+-- the sum of f over the numbers below n + 1 is that over those below n, and f n
 pub sum_next : (f : ℕ → ℕ) (n : ℕ) → sum_by f (numbers_below (n + 1)) ≡ sum_by f (numbers_below n) + f n
 sum_next f n = ap (sum_by f) (below_push n) ∙ sum_by-append f (numbers_below n) (n ∷ [])
     ∙ (let e = sum_by-cons f n [] in omega arith)
@@ -77,7 +77,8 @@ sum_grows f n (suc m) =
     let e = ap (λ k. sum_by f (numbers_below k)) (let h : n + suc m ≡ n + m + 1 = omega arith in h) in
     omega arith
 
--- if one number is more than the rest of the budget, the sum is over the budget
+-- If the numbers below n leave `left` of a budget, and the number at n is more, the whole sum is over the budget, as
+-- the later numbers take nothing away.
 pub over_budget : (f : ℕ → ℕ) (count n budget left : ℕ) → n < count → left + sum_by f (numbers_below n) ≡ budget →
     left < f n →
     nat_le (sum_by f (numbers_below count)) budget ≡ false

@@ -18,14 +18,14 @@ AreSome [] = ⊤
 AreSome ([] ∷ ps) = ⊥
 AreSome ((c ∷ cs) ∷ ps) = AreSome ps
 
--- pieces are written after other pieces
+-- two lists of pieces can be written one after the other
 with_pieces-append : (text : List ℕ) (ps qs : List (List ℕ)) →
     with_pieces text (ps ++ qs) ≡ with_pieces (with_pieces text ps) qs
 with_pieces-append text [] qs = refl
 with_pieces-append [] (p ∷ ps) qs = with_pieces-append p ps qs
 with_pieces-append (c ∷ cs) (p ∷ ps) qs = with_pieces-append (((c ∷ cs) ++ codes ", ") ++ p) ps qs
 
--- after a text that isn't empty each piece follows a comma
+-- after a text that isn't empty, each piece is written after a comma and a space
 after_some : (c : ℕ) (cs : List ℕ) (ps : List (List ℕ)) →
     with_pieces (c ∷ cs) ps ≡ (c ∷ cs) ++ flat_map (λ p. codes ", " ++ p) ps
 after_some c cs [] = sym (append-nil (c ∷ cs))
@@ -33,7 +33,8 @@ after_some c cs (p ∷ ps) = after_some c ((cs ++ codes ", ") ++ p) ps
     ∙ ap (λ l. c ∷ l) (append_assoc (cs ++ codes ", ") p (flat_map (λ q. codes ", " ++ q) ps)
     ∙ append_assoc cs (codes ", ") (p ++ flat_map (λ q. codes ", " ++ q) ps))
 
--- pieces that are written one after the other, none of them empty, are the list with commas
+-- Pieces that are written one after the other, none of them empty, are the list with commas. The first has no comma
+-- before it, and makes the text not empty, so each of the others has one.
 pub finished : (ps : List (List ℕ)) → AreSome ps → or_none (with_pieces [] ps) ≡ listed ps
 finished [] h = refl
 finished ([] ∷ ps) h = absurd h
@@ -50,7 +51,7 @@ AreSome-flat_map : (f : ℕ → List (List ℕ)) → ((x : ℕ) → AreSome (f x
 AreSome-flat_map f h [] = tt
 AreSome-flat_map f h (x ∷ xs) = AreSome-append (f x) (flat_map f xs) (h x) (AreSome-flat_map f h xs)
 
--- a name with something behind it isn't empty
+-- a name with something after it isn't empty
 after_name : (name : List ℕ) (d : ℕ) (ds : List ℕ) → AreSome ((name ++ d ∷ ds) ∷ [])
 after_name [] d ds = tt
 after_name (c ∷ cs) d ds = tt
@@ -64,6 +65,7 @@ longer_some (c ∷ cs) q h = tt
 faults_some : (name : List ℕ) (n : ℕ) → AreSome (fault_pieces name n)
 faults_some name n = where_some (n == 0)
   where
+    -- by whether there are no faults
     where_some : (b : Bool) → AreSome (cond b [] ((name ++ codes " faults " ++ decimal n) ∷ []))
     where_some false = longer_some (name ++ codes " faults ") (decimal n) (after_name name _ _)
     where_some true = tt

@@ -7,11 +7,11 @@ use Rattle.cpg_base.specs.Numbers.{numbers_below}
 use Rattle.cpg_base.specs.Graph.{Graph, process_count, process_at, condition_of}
 use Rattle.cpg_base.specs.Scenario.{Scenario, fault_of}
 
--- the faults of a process, if it has any
+-- the piece for a process's faults, such as `A faults 1`, if it has any
 abbrev pub fault_pieces : List ℕ → ℕ → List (List ℕ)
 fault_pieces name faults = if faults == 0 then [] else (name ++ codes " faults " ++ decimal faults) ∷ []
 
--- the value of a process, if it is true
+-- the piece for a process's value, such as `A true`, if the value is true
 abbrev pub value_pieces : List ℕ → Bool → List (List ℕ)
 value_pieces name false = []
 value_pieces name true = (name ++ codes " true") ∷ []
@@ -21,7 +21,7 @@ abbrev pub value_at : Scenario → Option ℕ → Bool
 value_at s None = false
 value_at s (Some c) = get_or s.values c false
 
--- the pieces for one process
+-- the pieces for one process: at most one for its faults and one for its value
 abbrev pub pieces_of : Graph → Scenario → ℕ → List (List ℕ)
 pieces_of g s p = fault_pieces (process_at g p).name (fault_of s p)
     ++ value_pieces (process_at g p).name (value_at s (condition_of g p))

@@ -9,7 +9,7 @@ ghost use Rattle.cpg_scenario.specs.File.{top_keys, are_among, is_typed, are_typ
 use cpg_base::Problem;
 use toml::{Table, Value};
 
-/// Whether a key stands at the top of a scenario file.
+/// Whether a text is one of the keys that may stand at the top of a scenario file.
 fn is_top_key(text: &str) -> bool
     ensures { result ≡ list_any (bytes_eq text.now) top_keys }
 {
@@ -22,7 +22,7 @@ fn is_top_key(text: &str) -> bool
     text == "lengths"
 }
 
-/// Whether all keys of a document may stand at the top.
+/// Whether each key of a document may stand at the top of a scenario file.
 fn are_top_keys(document: &Table) -> bool
     ensures { result ≡ are_among top_keys (table_view document.now) }
 {
@@ -34,7 +34,7 @@ fn are_top_keys(document: &Table) -> bool
     true
 }
 
-/// Whether an entry is a boolean, or else an integer.
+/// Whether an entry is a boolean, if `flags` is true, or an integer, if it is false.
 fn is_typed(value: &Value, flags: bool) -> bool
     ensures { result ≡ is_typed flags (view value.now) }
 {
@@ -45,7 +45,7 @@ fn is_typed(value: &Value, flags: bool) -> bool
     }
 }
 
-/// Whether all entries of a table are booleans, or else integers.
+/// Whether all entries of a table are booleans, if `flags` is true, or integers, if it is false.
 fn are_typed(table: &Table, flags: bool) -> bool
     ensures { result ≡ are_typed flags (table_view table.now) }
 {
@@ -57,14 +57,14 @@ fn are_typed(table: &Table, flags: bool) -> bool
     true
 }
 
-/// The value at a key.
+/// Returns what a table has at a key, or `None` if it hasn't the key.
 fn value_at<'a>(table: &'a Table, key: &str) -> Option<&'a Value>
     ensures { option_map (λ v. view v.now) result ≡ get_member key.now (table_view table.now) }
 {
     table.get(key)
 }
 
-/// The table at a key, if one stands there.
+/// Returns the table at a key. `None` if the key is absent or has something else.
 fn table_at<'a>(document: &'a Table, key: &str) -> Option<&'a Table>
     ensures { option_map (λ t. table_view t.now) result ≡ option_and_then as_table (get_member key.now (table_view document.now)) }
 {
@@ -74,15 +74,16 @@ fn table_at<'a>(document: &'a Table, key: &str) -> Option<&'a Table>
     }
 }
 
-/// Whether a key is absent, or a table stands there whose entries are all booleans (if `flags` is true) or all integers.
+/// Whether a key is absent, or a table stands there whose entries are all booleans (if `flags` is true) or all
+/// integers.
 fn is_table_of(document: &Table, key: &str, flags: bool) -> bool
     ensures { result ≡ is_table_of flags (get_member key.now (table_view document.now)) }
 {
-    // an absent key is right
+    // each of the three keys may be left out
     let Some(value) = value_at(document, key) else {
         return true;
     };
-    // the key has a table, or else it is refused
+    // a key that is there must have a table
     match value.as_table() {
         Some(table) => are_typed(table, flags),
         None => false,
@@ -105,7 +106,7 @@ pub fn has_fields(document: &Table) -> bool
     is_table_of(document, "lengths", false)
 }
 
-/// The entry of a name in the table at a key.
+/// Returns the entry of a name in the table at a key. `None` if there is no such table or it has no such entry.
 fn entry_at<'a>(document: &'a Table, key: &str, name: &str) -> Option<&'a Value>
     ensures { option_map (λ v. view v.now) result ≡ entry_at (table_view document.now) key.now name.now }
 {
@@ -115,7 +116,7 @@ fn entry_at<'a>(document: &'a Table, key: &str, name: &str) -> Option<&'a Value>
     }
 }
 
-/// The integer of a name in the table at a key.
+/// Returns the integer of a name in the table at a key. `None` if there is no such entry or it is no integer.
 pub fn integer_at(document: &Table, key: &str, name: &str) -> Option<i64>
     ensures { result ≡ option_and_then as_integer (entry_at (table_view document.now) key.now name.now) }
 {
@@ -125,7 +126,7 @@ pub fn integer_at(document: &Table, key: &str, name: &str) -> Option<i64>
     }
 }
 
-/// The boolean of a name in the table at a key.
+/// Returns the boolean of a name in the table at a key. `None` if there is no such entry or it is no boolean.
 pub fn flag_at(document: &Table, key: &str, name: &str) -> Option<bool>
     ensures { result ≡ option_and_then as_bool (entry_at (table_view document.now) key.now name.now) }
 {
@@ -159,7 +160,7 @@ fn are_processes(problem: &Problem, table: &Table) -> bool
     true
 }
 
-/// Whether all keys of the table at a key are names of processes, if there is a table.
+/// Whether all keys of the table at a key are names of processes. True if there is no table.
 fn names_at(problem: &Problem, document: &Table, key: &str) -> bool
     ensures { result ≡ names_at problem.now (table_view document.now) key.now }
 {
@@ -170,7 +171,7 @@ fn names_at(problem: &Problem, document: &Table, key: &str) -> bool
     }
 }
 
-/// Whether all keys of the tables are names of processes.
+/// Whether all keys of the three tables, so far as they are there, are names of processes.
 pub fn has_names(problem: &Problem, document: &Table) -> bool
     ensures { result ≡ has_names problem.now (table_view document.now) }
 {

@@ -2,29 +2,29 @@
 
 use cpg_base::OutOfMemory;
 
-/// What is wrong with a scenario file. The first cause that is there is returned.
+/// What is wrong with a scenario file. Of several causes the first in this order is reported.
 #[derive(Clone, Copy, Debug, PartialEq, Eq)]
 pub enum Cause {
-    /// The bytes aren't UTF-8, or no TOML document.
+    /// The bytes aren't UTF-8, or spell no TOML document.
     Toml,
-    /// Another key at the top, something else than a table at one, or an entry of another type.
+    /// The top has an unknown key, a key has something other than a table, or an entry is of the wrong type.
     Field,
     /// A key of a table is no process name.
     Unknown,
-    /// A process with a value has no condition.
+    /// A process that is given a value has no condition.
     Condition,
-    /// A fault count is below 0, or they add up to more than the graph's fault number.
+    /// A fault count is below 0, or all together are more than the graph's fault number.
     Budget,
-    /// The length of an execution is below 1 or above the process's duration with its faults.
+    /// A length is below 1 or above the duration of its process with its faults.
     Length,
 }
 
-/// Why a file isn't a scenario.
+/// Why reading a scenario file failed.
 #[derive(Clone, Copy, Debug, PartialEq, Eq)]
 pub enum ScenarioFault {
-    /// The file isn't one of the graph.
+    /// The bytes give no scenario of the graph.
     Bad(Cause),
-    /// Out of memory.
+    /// Memory ran out.
     OutOfMemory,
 }
 

@@ -1,4 +1,4 @@
-//! Scenario files and scenarios as texts.
+//! Reading a scenario file, and writing a scenario as a text.
 #![tactic(auto)]
 
 ghost use Rattle.cpg_scenario.specs.Causes.{FirstCausesAreTold};
@@ -12,7 +12,7 @@ pub use fault::{Cause, ScenarioFault};
 pub use reading::{Played, read_scenario};
 pub use text::scenario_text;
 
-/// A scenario file is refused for its first cause, and says a scenario of the graph if it has none.
+/// A scenario file is rejected for the first cause that is there, and gives a scenario of the graph if none is.
 pub fn first_causes_are_told()
     ensures { FirstCausesAreTold }
 {}

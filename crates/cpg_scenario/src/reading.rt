@@ -18,13 +18,13 @@ use toml::Table;
 /// A scenario to play, and how long each execution takes in it.
 #[derive(Drop)]
 pub struct Played {
-    /// The values and the faults.
+    /// The values of the conditions and the fault counts of the processes.
     pub scenario: Scenario,
-    /// The lengths, in time units.
+    /// The length of each process's execution, in time units.
     pub lengths: Lengths,
 }
 
-/// The value that a process is given, if any.
+/// Returns the value that a process is given, or `None` if it is given none.
 fn value_given(problem: &Problem, document: &Table, process: u32) -> Option<bool>
     requires { process < process_count problem.now }
     ensures { result ≡ value_given problem.now (table_view document.now) process }
@@ -33,12 +33,12 @@ fn value_given(problem: &Problem, document: &Table, process: u32) -> Option<bool
     flag_at(document, "values", name)
 }
 
-/// Whether a process has a condition, if it is given a value.
+/// Whether a process is given no value, or has a condition.
 fn may_have_value(problem: &Problem, document: &Table, process: u32) -> bool
     requires { process < process_count problem.now }
     ensures { result ≡ may_have_value problem.now (table_view document.now) process }
 {
-    // no value is given, so no condition is needed
+    // without a value no condition is needed
     if value_given(problem, document, process).is_none() {
         return true;
     }
@@ -57,7 +57,7 @@ fn has_conditions(problem: &Problem, document: &Table) -> bool
     true
 }
 
-/// Gives each condition its value.
+/// Sets the value of each condition to the given one, or to false if none is given.
 fn set_values(problem: &Problem, document: &Table, scenario: &mut Scenario)
     requires { length scenario.old.values ≡ condition_count problem.now }
     ensures { scenario.new ≡ record scenario.old { values = values_of problem.now (table_view document.now) } }
@@ -68,7 +68,7 @@ fn set_values(problem: &Problem, document: &Table, scenario: &mut Scenario)
     }
 }
 
-/// The fault count that a process is given, or else 0.
+/// Returns the fault count that a process is given, or 0 if it is given none.
 fn count_given(problem: &Problem, document: &Table, process: u32) -> i64
     requires { process < process_count problem.now }
     ensures { result ≡ count_given problem.now (table_view document.now) process }
@@ -77,7 +77,8 @@ fn count_given(problem: &Problem, document: &Table, process: u32) -> i64
     integer_at(document, "faults", name).unwrap_or(0)
 }
 
-/// A count, if it is within the rest of the fault number.
+/// Returns a fault count if it is from 0 to `left`, the part of the fault number that earlier processes leave.
+/// Otherwise `None`.
 fn count_within(count: i64, left: u8) -> Option<u8>
     requires { left ≤ 8 }
     ensures some { IfSome result (λ n. (count ≡ pos n) × (n ≤ left)) }
@@ -89,10 +90,12 @@ fn count_within(count: i64, left: u8) -> Option<u8>
     if count > i64::from(left) {
         return None;
     }
+    // it is from 0 to `left`, so the cast keeps it
     Some(count as u8)
 }
 
-/// Gives each process its fault count; false exactly if a count is below 0, or they are more than the fault number.
+/// Sets the fault count of each process to the given one, or to 0. Returns false if a count is below 0 or all together
+/// are more than the fault number; then some may not be set.
 fn set_faults(problem: &Problem, document: &Table, scenario: &mut Scenario) -> bool
     requires { length scenario.old.faults ≡ process_count problem.now }
     ensures kept { result ≡ keeps_budget problem.now (table_view document.now) }
@@ -112,18 +115,19 @@ fn set_faults(problem: &Problem, document: &Table, scenario: &mut Scenario) -> b
     true
 }
 
-/// The length that is given, if it is one of an execution that takes at most the longest, and the longest if none is.
+/// Returns the length that is given, `longest` if none is, or `None` if the given one isn't from 1 to `longest`.
 fn length_within(given: Option<i64>, longest: u64) -> Option<u64>
     ensures some { IfSome result (λ n. (n ≡ length_or longest given) × (is_length_if longest given ≡ true)) }
     ensures none { IfNone result (is_length_if longest given ≡ false) }
 {
-    // no length is given
+    // an execution that isn't named takes its longest time
     let Some(given) = given else {
         return Some(longest);
     };
     if given < 1 {
         return None;
     }
+    // at least 1, so the cast keeps it
     let length = given as u64;
     if length > longest {
         return None;
@@ -131,7 +135,7 @@ fn length_within(given: Option<i64>, longest: u64) -> Option<u64>
     Some(length)
 }
 
-/// The length that the execution of a process is given, if any.
+/// Returns the length that the execution of a process is given, or `None` if it is given none.
 fn length_given(problem: &Problem, document: &Table, process: u32) -> Option<i64>
     requires { process < process_count problem.now }
     ensures { result ≡ length_given problem.now (table_view document.now) process }
@@ -140,7 +144,8 @@ fn length_given(problem: &Problem, document: &Table, process: u32) -> Option<i64
     integer_at(document, "lengths", name)
 }
 
-/// Gives each execution its length, if all are full; false exactly if one is below 1 or above the full one.
+/// Sets each length that is given, where all are the longest before. Returns false if a given one is below 1 or above
+/// the longest; then some may not be set.
 fn set_lengths(problem: &Problem, document: &Table, lengths: &mut Lengths) -> bool
     requires { lengths.old ≡ map (λ p. duration problem.now p (count_of problem.now (table_view document.now) p)) (numbers_below (process_count problem.now)) }
     ensures kept { result ≡ keeps_lengths problem.now (table_view document.now) }
@@ -157,7 +162,8 @@ fn set_lengths(problem: &Problem, document: &Table, lengths: &mut Lengths) -> bo
     true
 }
 
-/// The scenario and the lengths of a document.
+/// Returns the scenario and the lengths that a document gives. An error is the first cause that is there, or that
+/// memory runs out.
 fn read_played(alloc: Global, problem: &Problem, document: &Table) -> Result<Played, ScenarioFault>
     ensures document { result ≢ Err ScenarioFault.OutOfMemory → result ≡ played_of problem.now (table_view document.now) }
     ensures played { IfOk result (λ p. IsPlayed problem.now p) }
@@ -172,7 +178,7 @@ fn read_played(alloc: Global, problem: &Problem, document: &Table) -> Result<Pla
     if !has_conditions(problem, document) {
         return Err(ScenarioFault::Bad(Cause::Condition));
     }
-    // from here on the counts and values are set as they are tested
+    // the last two tests are done while counts and lengths are set
     let mut scenario = Scenario::zero(alloc, problem)?;
     if !set_faults(problem, document, &mut scenario) {
         return Err(ScenarioFault::Bad(Cause::Budget));
@@ -185,9 +191,9 @@ fn read_played(alloc: Global, problem: &Problem, document: &Table) -> Result<Pla
     Ok(Played { scenario, lengths })
 }
 
-/// Reads what the bytes of a scenario file say of a graph: its faults and values, and the lengths of its executions. What
-/// isn't named has no faults, is false, and takes its longest time. A refusal names the first cause that is there, each
-/// looked for in the whole file before the next.
+/// Reads the bytes of a scenario file for a graph and returns its scenario and the lengths of its executions. A process
+/// that isn't named has no faults, its value is false, and it takes its longest time. An error is the first cause that
+/// is there, each looked for in the whole file before the next, or that memory runs out.
 pub fn read_scenario(
     alloc: Global,
     problem: &Problem,
@@ -198,7 +204,7 @@ pub fn read_scenario(
 {
     match toml::table_from_slice(alloc, bytes) {
         Ok(document) => read_played(alloc, problem, &document),
-        // the parser gave up: it ran out of memory, or the bytes are no document
+        // memory ran out, or the bytes spell no document
         Err(error) => {
             if error.is_memory() {
                 Err(ScenarioFault::OutOfMemory)

@@ -1,4 +1,4 @@
-//! The text of a scenario.
+//! Writing a scenario as a text, such as `A faults 1, A true`.
 ghost use Rattle.std.specs.Prelude.{◌≡◌, ◌<◌, IfOk, OnOk, length, string_bytes};
 ghost use Rattle.cpg_base.specs.Graph.{condition_count, process_count};
 ghost use Rattle.cpg_scenario.specs.Text.{fault_pieces, pieces_of, scenario_text, value_pieces};
@@ -7,7 +7,7 @@ ghost use Rattle.cpg_scenario.specs.Pieces.{led, or_none, with_pieces};
 use cpg_base::{OutOfMemory, Problem, Scenario};
 use std::alloc::{AllocError, Global};
 
-/// Separates the next piece from the one before, if there is one.
+/// Writes a comma and a space for the next piece, unless it is the first. The one error is that memory runs out.
 fn write_comma(out: &mut String) -> Result<(), AllocError>
     ensures { OnOk result (string_bytes out.new ≡ led (string_bytes out.old)) }
 {
@@ -17,7 +17,7 @@ fn write_comma(out: &mut String) -> Result<(), AllocError>
     Ok(())
 }
 
-/// Writes how often a process fails, if it does.
+/// Writes the piece for a process's faults, if it has any. The one error is that memory runs out.
 fn write_faults(out: &mut String, name: &str, faults: u8) -> Result<(), AllocError>
     ensures { OnOk result (string_bytes out.new ≡ with_pieces (string_bytes out.old) (fault_pieces name.now faults)) }
 {
@@ -29,7 +29,7 @@ fn write_faults(out: &mut String, name: &str, faults: u8) -> Result<(), AllocErr
     write!(out, "{name} faults {faults}")
 }
 
-/// Writes the value of a process if it is true.
+/// Writes the piece for a process's value, if the value is true. The one error is that memory runs out.
 fn write_value(out: &mut String, name: &str, value: bool) -> Result<(), AllocError>
     ensures { OnOk result (string_bytes out.new ≡ with_pieces (string_bytes out.old) (value_pieces name.now value)) }
 {
@@ -41,7 +41,7 @@ fn write_value(out: &mut String, name: &str, value: bool) -> Result<(), AllocErr
     write!(out, "{name} true")
 }
 
-/// Writes what a scenario says of a process.
+/// Writes the pieces for a process: its faults, then its value. The one error is that memory runs out.
 fn write_process(
     out: &mut String,
     problem: &Problem,
@@ -63,7 +63,7 @@ fn write_process(
     write_value(out, name, value)
 }
 
-/// Writes `none` if nothing is said.
+/// Writes `none` if nothing has been written. The one error is that memory runs out.
 fn write_none(out: &mut String) -> Result<(), AllocError>
     ensures { OnOk result (string_bytes out.new ≡ or_none (string_bytes out.old)) }
 {
@@ -73,8 +73,8 @@ fn write_none(out: &mut String) -> Result<(), AllocError>
     Ok(())
 }
 
-/// The faults and the true values of a scenario by process number, as `A faults 1, A true`, and `none` if there are
-/// none.
+/// Returns the faults and the true values of a scenario by process number, as `A faults 1, A true`, or `none` if there
+/// are none. The one error is that memory runs out.
 pub fn scenario_text(
     alloc: Global,
     problem: &Problem,

@@ -41,9 +41,9 @@ use Rattle.cpg_shelf_laws.proofs.Stops.{admits, says, says_acts, says_scenario, 
 use Rattle.cpg_shelf_laws.proofs.Stops.{stops_pack, stops_part, stops_scenario}
 use Rattle.cpg_shelf_laws.proofs.Values.{says_graph, says_log, says_part, says_played, says_tables}
 
--- ---- out of memory
+-- ---- memory runs out
 
--- lack of memory may stop reading, whatever the shelf reports
+-- memory may run out as a file is read, whatever the shelf reports
 unread_memory : (old new : ShelfState) (told : Option Text) (halt : Halt) → halt ≡ Memory →
     StopsReading (seen old new) told halt
 unread_memory old new told halt e =
@@ -65,15 +65,16 @@ memory_stops old new (Hyper pairs) halt e = inl (inr e)
 memory_stops old new (Tune graph) halt e = inl (inl (unread_memory old new _ halt e))
 memory_stops old new (Audit graph pack log) halt e = inl (inl (unread_memory old new _ halt e))
 
--- what leaves tables unverified stops the verdict by what the shelf reports too
+-- a halt by which a check stops is one of the earlier contract
 verdict_told : (a : Admission) (t : Tables) (halt : Halt) → Unverified a t halt → StopsVerdict a t halt
 verdict_told a t halt (inl other) = inl other
 verdict_told a t halt (inr broken) = inr (inl broken)
 
--- a name that no node has stops the naming by what the shelf reports too
+-- the halt for a name that no node has is one of the earlier contract
 naming_told : (t : Tables) (name : Text) (halt : Halt) → Unnamed t name halt → StopsNaming t name halt
 naming_told t name halt u = inl (u.halt_is, u.none)
 
+-- given a shelf that a run has kept
 module _ (old new : ShelfState) (k : KeepsShelf old new) where
   -- ---- one, two or three files
 
@@ -85,7 +86,7 @@ module _ (old new : ShelfState) (k : KeepsShelf old new) where
   two : (f p : Fetch) → new.history ≡ p ∷ f ∷ old.history → IsLast old new p
   two f p e = last old new k p (f ∷ []) e
 
-  -- the first of two agrees with the shelf
+  -- of two fetches, the first gave what the shelf reports
   first : (f p : Fetch) → new.history ≡ p ∷ f ∷ old.history → Agrees old.stands f
   first f p e = agreed old new k f (record { newer = p ∷ []; older = []; is = e })
 
@@ -93,19 +94,19 @@ module _ (old new : ShelfState) (k : KeepsShelf old new) where
   three : (f p c : Fetch) → new.history ≡ c ∷ p ∷ f ∷ old.history → IsLast old new c
   three f p c e = last old new k c (p ∷ f ∷ []) e
 
-  -- the first of three agrees with the shelf
+  -- of three fetches, the first gave what the shelf reports
   first_three : (f p c : Fetch) → new.history ≡ c ∷ p ∷ f ∷ old.history → Agrees old.stands f
   first_three f p c e = agreed old new k f (record { newer = c ∷ p ∷ []; older = []; is = e })
 
-  -- the second of three fetches agrees with the shelf
+  -- of three fetches, the second gave what the shelf reports
   second_three : (f p c : Fetch) → new.history ≡ c ∷ p ∷ f ∷ old.history → Agrees old.stands p
   second_three f p c e = agreed old new k p (record { newer = c ∷ []; older = f ∷ []; is = e })
 
-  -- a fetch within the limit gives a count within it
+  -- if the last fetch gave no more than a limit, the count of its bytes isn't more
   within : (f : Fetch) (limit : ℕ) → IsLast old new f → length f.given ≤ limit → given_count new ≤ limit
   within f limit is short = let c = is.count in omega (arith, c, short)
 
-  -- a graph file that was read gives the value of a graph, which stood on the shelf
+  -- the value of a graph file that was read is an admitted graph, and what the shelf reports of the file says it
   graph_of : (g : Option Graph) (name : Text) (f : Fetch) (v : Value) → IsRead g (file GraphFile name) f v →
       Agrees old.stands f →
       (a : Admission) × (v ≡ graph_value a) × Admits (old.stands name) a
@@ -116,7 +117,7 @@ module _ (old new : ShelfState) (k : KeepsShelf old new) where
         (tells_whole old.stands (file GraphFile name) f r.whole ag) r.whole.short r.says.2,
   )
 
-  -- a pack file that was read gives the value of tables, which stood on the shelf
+  -- the value of a pack that was read is tables, and what the shelf reports of the file spells them
   tables_of : (g : Option Graph) (name : Text) (f : Fetch) (v : Value) → IsRead g (file PackFile name) f v →
       Agrees old.stands f →
       (t : Tables) × (v ≡ tables_value t) × Spells (old.stands name) t
@@ -127,55 +128,56 @@ module _ (old new : ShelfState) (k : KeepsShelf old new) where
         (tells_whole old.stands (file PackFile name) f r.whole ag) r.whole.short r.says.2,
   )
 
-  -- a graph that was read is the one that the shelf's file has
+  -- what the shelf reports of a graph file that was read says the graph
   graph_is : (g : Option Graph) (name : Text) (f : Fetch) (a : Admission) →
       IsRead g (file GraphFile name) f (graph_value a) → Agrees old.stands f →
       Admits (old.stands name) a
   graph_is g name f a r ag = admits (old.stands name) f.given a
       (tells_whole old.stands (file GraphFile name) f r.whole ag) r.whole.short (says_graph g f.given a r.says)
 
-  -- tables that were read are those that the shelf's file spells
+  -- what the shelf reports of a pack that was read spells the tables
   tables_are : (g : Option Graph) (name : Text) (f : Fetch) (t : Tables) →
       IsRead g (file PackFile name) f (tables_value t) → Agrees old.stands f →
       Spells (old.stands name) t
   tables_are g name f t r ag = spells (old.stands name) f.given t
       (tells_whole old.stands (file PackFile name) f r.whole ag) r.whole.short (says_tables g f.given t r.says)
 
-  -- the tables of a pack that was read first are spelled by the bytes that stand under its name
+  -- the same for a pack that was read before any graph
   pub spelled_by : (name : Text) (f : Fetch) (t : Tables) → IsRead None (file PackFile name) f (tables_value t) →
       Agrees old.stands f →
       Spells (old.stands name) t
   spelled_by name f t r ag = tables_are None name f t r ag
 
-  -- a scenario that was read is the one that the shelf's file says
+  -- what the shelf reports of a scenario file that was read says the scenario
   played_is : (g : Graph) (name : Text) (f : Fetch) (p : Played) →
       IsRead (Some g) (file ScenarioFile name) f (played_value p) → Agrees old.stands f →
       SaysPlayed (old.stands name) g p
   played_is g name f p r ag = says_scenario (old.stands name) f.given g p
       (tells_whole old.stands (file ScenarioFile name) f r.whole ag) r.whole.short (says_played g f.given p r.says)
 
-  -- a log that was read is the one that the shelf's file says
+  -- what the shelf reports of a log that was read says the log
   log_is : (g : Graph) (name : Text) (f : Fetch) (l : Log) → IsRead (Some g) (file LogFile name) f (log_value l) →
       Agrees old.stands f →
       SaysLog (old.stands name) g l
   log_is g name f l r ag = says_acts (old.stands name) f.given g l
       (tells_whole old.stands (file LogFile name) f r.whole ag) r.whole.short (says_log g f.given l r.says)
 
-  -- a part that was read is the one that the shelf's file says
+  -- what the shelf reports of a part's file that was read says its graph
   part_is : (g : Option Graph) (name : Text) (f : Fetch) (h : Graph) → IsRead g (file PartFile name) f (part_value h) →
       Agrees old.stands f →
       Says (old.stands name) h
   part_is g name f h r ag = says (old.stands name) f.given h
       (tells_whole old.stands (file PartFile name) f r.whole ag) r.whole.short (says_part g f.given h r.says)
 
-  -- behind a graph and tables, files are read for that graph
+  -- after a graph and tables, files are read for that graph
   behind : (v w : Value) (a : Admission) (t : Tables) → v ≡ graph_value a → w ≡ tables_value t →
       graph_after (graph_after None v) w ≡ Some a.graph
   behind v w a t e d = ap (graph_after (graph_after None v)) d ∙ ap (graph_after None) e
 
   -- ---- parts
 
-  -- if a part's file stops the run, it is the first that isn't read as a graph
+  -- If the reading of the parts' files stops the run, one of them isn't read as a graph, and all before it are. By
+  -- induction on the pairs: the first file stops it, or it was read, and a later one stops it.
   pub unsaid : (g : Option Graph) (pairs : List Pair) (past older : List Fetch) (halt : Halt) →
       past ≡ older ++ old.history →
       StopsFiles g (part_files pairs) past new.history halt →
@@ -206,7 +208,7 @@ module _ (old new : ShelfState) (k : KeepsShelf old new) where
         stops = rest.stops;
       }
 
-  -- if the files of all parts were read, the parts have the graphs that stand under the names
+  -- if the files of all parts were read, what the shelf reports of them says their graphs; by induction on the pairs
   pub parts_said : (g : Option Graph) (pairs : List Pair) (parts : List Part) (past older : List Fetch) →
       past ≡ older ++ old.history →
       Reads g (part_files pairs) past new.history (part_values parts) → HavePeriods pairs parts →
@@ -223,7 +225,8 @@ module _ (old new : ShelfState) (k : KeepsShelf old new) where
         parts_said g pairs parts (f ∷ past) (f ∷ older) (ap (λ h. f ∷ h) e) rest h.1,
       )
 
-  -- the last part that was read gave no more than the limit
+  -- the file of the last part, if all were read, gave no more than the limit; by induction on the pairs, of which there
+  -- is one
   pub parts_within : (g : Option Graph) (pairs : List Pair) (parts : List Part) (past older : List Fetch) →
       past ≡ older ++ old.history →
       0 < length pairs →
@@ -239,7 +242,8 @@ module _ (old new : ShelfState) (k : KeepsShelf old new) where
 
   -- ---- a file stops a command
 
-  -- a command stops for a cause that is true of what stands under the names, if a file stops it
+  -- If a file stops a command, the earlier contract has this stop too, by what the shelf reports of the files. By the
+  -- command, and by which of its files stops it: each earlier one was read, and gave what the shelf reports.
   pub stops_files : (c : Command) (halt : Halt) → StopsFiles None (files_of c) old.history new.history halt →
       StopsCommand (seen old new) c halt
   stops_files (Show name) halt (f, inl (stops, e)) = inl (stops_graph old new f (one f e) name None halt stops)
@@ -349,7 +353,9 @@ module _ (old new : ShelfState) (k : KeepsShelf old new) where
   abbrev Files : Command → List Value → Type 0
   Files c values = Reads None (files_of c) old.history new.history values
 
+  -- given that one file was read, a graph
   module _ (name : Text) (a : Admission) (h : OneRead GraphFile name (graph_value a)) where
+    -- what the shelf reports of the file says the graph
     one_graph : Admits (old.stands name) a
     one_graph = graph_is None name h.f a h.r (one h.f h.end).agrees
 
@@ -357,7 +363,9 @@ module _ (old new : ShelfState) (k : KeepsShelf old new) where
     one_within : given_count new ≤ GRAPH_LIMIT
     one_within = within h.f (limit_of GraphFile) (one h.f h.end) h.r.whole.short
 
+  -- given that one file was read, a pack
   module _ (pack : Text) (t : Tables) (h : OneRead PackFile pack (tables_value t)) where
+    -- what the shelf reports of the file spells the tables
     one_pack : Spells (old.stands pack) t
     one_pack = tables_are None pack h.f t h.r (one h.f h.end).agrees
 
@@ -365,28 +373,31 @@ module _ (old new : ShelfState) (k : KeepsShelf old new) where
     pack_within : given_count new ≤ PACK_LIMIT
     pack_within = within h.f (limit_of PackFile) (one h.f h.end) h.r.whole.short
 
+  -- given that two files were read, a graph and a pack
   module _ (name pack : Text) (a : Admission) (t : Tables) (h : TwoRead name pack a t) where
+    -- what the shelf reports of the first says the graph
     two_graph : Admits (old.stands name) a
     two_graph = graph_is None name h.f a h.r (first h.f h.p h.end)
 
-    -- the pack that was read behind the graph is the shelf's
+    -- what the shelf reports of the second spells the tables
     two_pack : Spells (old.stands pack) t
     two_pack = tables_are (Some a.graph) pack h.p t h.q (two h.f h.p h.end).agrees
 
-    -- what was given of the pack behind the graph is within its limit
+    -- what was given of the pack after the graph is within its limit
     two_within : given_count new ≤ PACK_LIMIT
     two_within = within h.p (limit_of PackFile) (two h.f h.p h.end) h.q.whole.short
 
   module _ (kind : FileKind) (name pack third : Text) (a : Admission) (t : Tables) (v : Value)
       (h : ThreeRead kind name pack third a t v) where
+    -- given three files that were read, what the shelf reports of the first says the graph
     three_graph : Admits (old.stands name) a
     three_graph = graph_is None name h.f a h.r (first_three h.f h.p h.c h.end)
 
-    -- the pack that was read between the others is the shelf's
+    -- what the shelf reports of the second spells the tables
     three_pack : Spells (old.stands pack) t
     three_pack = tables_are (Some a.graph) pack h.p t h.q (second_three h.f h.p h.c h.end)
 
-    -- the third file agrees with the shelf
+    -- the fetch of the third gave what the shelf reports
     three_agrees : Agrees old.stands h.c
     three_agrees = (three h.f h.p h.c h.end).agrees
 
@@ -396,7 +407,7 @@ module _ (old new : ShelfState) (k : KeepsShelf old new) where
 
   -- ---- the work stops a command
 
-  -- what stops a compile stops it by what the shelf reports
+  -- if the compile of a graph file fails, the earlier contract has this stop too
   compiled_stops : (name : Text) (halt : Halt) (values : List Value) →
       Reads None (file GraphFile name ∷ []) old.history new.history values →
       OnGraph values (λ a. IsUncompiled a halt) →
@@ -406,7 +417,7 @@ module _ (old new : ShelfState) (k : KeepsShelf old new) where
       (subst (λ vs. Reads None (file GraphFile name ∷ []) old.history new.history vs) e reads) in
       inr (a, one_graph name a h, record { stops = un; within = one_within name a h })
 
-  -- if no node of the tables that were read has the name, the run stops over the name after reading
+  -- if no node of a pack has the name, the earlier contract has this stop too
   naming_stops : (pack name : Text) (halt : Halt) (values : List Value) →
       Reads None (file PackFile pack ∷ []) old.history new.history values →
       OnTables values (λ t. Unnamed t name halt) →
@@ -417,7 +428,8 @@ module _ (old new : ShelfState) (k : KeepsShelf old new) where
       (subst (λ vs. Reads None (file PackFile pack ∷ []) old.history new.history vs) e reads) in
       inr (t, one_pack pack t h, record { stops = naming_told t name halt un; within = pack_within pack t h })
 
-  -- and so it does if its work on what the files say stops it
+  -- If a command's work on what its files say stops it, the earlier contract has this stop too, by what the shelf
+  -- reports of the files. By the command, whose files were all read.
   pub stops_work : (words : List Text) (c : Command) (halt : Halt) (values : List Value) → command_of words ≡ Some c →
       Files c values → StopsWork c values halt →
       StopsCommand (seen old new) c halt
@@ -486,7 +498,8 @@ module _ (old new : ShelfState) (k : KeepsShelf old new) where
 
   -- ---- a command puts out a text
 
-  -- what a command puts out by what its files say is right by what stands under the names
+  -- A text that a command puts out by what its files say is one that it puts out by what the shelf reports of them. By
+  -- the command, whose files were all read.
   pub prints : (words : List Text) (c : Command) (text : Text) (values : List Value) → command_of words ≡ Some c →
       Files c values → PutsOut c values text →
       PrintsCommand (seen old new) c text

@@ -61,12 +61,12 @@ is_live (Some (Hyper pairs)) = false
 is_live (Some (Tune a)) = false
 is_live (Some (Audit a b c)) = false
 
--- a command, or a default
+-- the command, or d if there is none
 abbrev command_or : Command → Option Command → Command
 command_or d None = d
 command_or d (Some c) = c
 
--- words form one command
+-- if words form two commands, these are equal
 pub same_command : (o : Option Command) (a b : Command) → o ≡ Some a → o ≡ Some b → a ≡ b
 same_command o a b e f = ap (command_or a) (sym e ∙ f)
 
@@ -74,13 +74,13 @@ same_command o a b e f = ap (command_or a) (sym e ∙ f)
 pub no_command : (c : Command) → None ≡ Some c → ⊥
 no_command c e = absurd (cc e)
 
--- ---- what one graph's facts are of another admission of it
+-- ---- values that are alike, and facts of admissions that are alike
 
 -- what holds of one of two admissions that are alike holds of the other
 moved_on : (a b : Admission) → AreAlike a b → (P : Graph → List ℕ → Type 0) → P a.graph a.order → P b.graph b.order
 moved_on a b same P p = subst (P b.graph) (sym same.order) (subst (λ g. P g a.order) (sym same.graph) p)
 
--- values alike to one graph are one alike graph
+-- values that are alike to one graph alone are one graph, which is alike
 graph_alone : (a : Admission) (ws : List Value) → AllAlike (graph_value a ∷ []) ws →
     (b : Admission) × (ws ≡ graph_value b ∷ []) × AreAlike a b
 graph_alone a [] x = absurd x
@@ -91,7 +91,7 @@ graph_alone a (tables_value t ∷ ws) x = absurd x.0
 graph_alone a (played_value p ∷ ws) x = absurd x.0
 graph_alone a (log_value l ∷ ws) x = absurd x.0
 
--- values that are alike to those of tables alone are the same tables
+-- values that are alike to tables alone are these tables
 pub tables_alone : (t : Tables) (ws : List Value) → AllAlike (tables_value t ∷ []) ws → ws ≡ tables_value t ∷ []
 tables_alone t [] x = absurd x
 tables_alone t (tables_value u ∷ []) x = ap (λ u. tables_value u ∷ []) x.0
@@ -101,7 +101,7 @@ tables_alone t (part_value h ∷ ws) x = absurd x.0
 tables_alone t (played_value p ∷ ws) x = absurd x.0
 tables_alone t (log_value l ∷ ws) x = absurd x.0
 
--- values that are alike to a graph and others are a graph that is alike, and others
+-- values that are alike to a graph and others are a graph that is alike, and others that are alike
 graph_first : (a : Admission) (vs ws : List Value) → AllAlike (graph_value a ∷ vs) ws →
     (b : Admission) × (rest : List Value) × (ws ≡ graph_value b ∷ rest) × AreAlike a b × AllAlike vs rest
 graph_first a vs [] x = absurd x
@@ -111,7 +111,7 @@ graph_first a vs (tables_value t ∷ ws) x = absurd x.0
 graph_first a vs (played_value p ∷ ws) x = absurd x.0
 graph_first a vs (log_value l ∷ ws) x = absurd x.0
 
--- values that are alike to tables and others are the same tables, and others
+-- values that are alike to tables and others are these tables, and others that are alike
 tables_first : (t : Tables) (vs ws : List Value) → AllAlike (tables_value t ∷ vs) ws →
     (rest : List Value) × (ws ≡ tables_value t ∷ rest) × AllAlike vs rest
 tables_first t vs [] x = absurd x
@@ -121,7 +121,8 @@ tables_first t vs (part_value h ∷ ws) x = absurd x.0
 tables_first t vs (played_value p ∷ ws) x = absurd x.0
 tables_first t vs (log_value l ∷ ws) x = absurd x.0
 
--- values alike to one played scenario are that scenario
+-- Values that are alike to one scenario alone are one scenario: no value, a further value or a value of another kind
+-- isn't alike.
 played_alone : (p : Played) (ws : List Value) → AllAlike (played_value p ∷ []) ws →
     (q : Played) × (ws ≡ played_value q ∷ [])
 played_alone p [] x = absurd x
@@ -132,7 +133,7 @@ played_alone p (part_value h ∷ ws) x = absurd x.0
 played_alone p (tables_value t ∷ ws) x = absurd x.0
 played_alone p (log_value l ∷ ws) x = absurd x.0
 
--- values that are alike to one log are one log
+-- values that are alike to one log alone are one log, by the same cases as for a scenario
 log_alone : (l : Log) (ws : List Value) → AllAlike (log_value l ∷ []) ws → (m : Log) × (ws ≡ log_value m ∷ [])
 log_alone l [] x = absurd x
 log_alone l (log_value m ∷ []) x = (m, refl)
@@ -142,7 +143,7 @@ log_alone l (part_value h ∷ ws) x = absurd x.0
 log_alone l (tables_value t ∷ ws) x = absurd x.0
 log_alone l (played_value p ∷ ws) x = absurd x.0
 
--- values alike to those of parts are those of the same parts
+-- values that are alike to those of parts are those of these parts; by induction on the parts
 parts_alone : (parts : List Part) (ws : List Value) → AllAlike (part_values parts) ws → ws ≡ part_values parts
 parts_alone [] [] x = refl
 parts_alone [] (w ∷ ws) x = absurd x
@@ -154,7 +155,8 @@ parts_alone (part ∷ parts) (tables_value t ∷ ws) x = absurd x.0
 parts_alone (part ∷ parts) (played_value p ∷ ws) x = absurd x.0
 parts_alone (part ∷ parts) (log_value l ∷ ws) x = absurd x.0
 
--- what stands there for each pair is the value of its part, and the parts have the periods of the pairs
+-- If the shelf reports the parts of pairs, it reports each file with the part's graph, and the parts have the pairs'
+-- periods.
 parts_told : (stands : Text → Option Text) (pairs : List Pair) (parts : List Part) →
     AreTellingParts stands pairs parts →
     AreTold stands None (part_files pairs) (part_values parts) ×
@@ -166,22 +168,24 @@ parts_told stands (pair ∷ pairs) (part ∷ parts) t =
     let rest = parts_told stands pairs parts t.2 in
     ((t.1.bytes, t.1.is, t.1.short, (part.problem, refl, t.1.says), rest.0), (t.0, rest.1))
 
--- an admitted graph is what the bytes of its file tell
+-- bytes that say an admitted graph tell it as a value
 graph_tells : (o : Option Graph) (bytes : Text) (a : Admission) → AreAdmitted bytes a →
     Tells o GraphFile bytes (graph_value a)
 graph_tells o bytes a x = (a, refl, record { says = x.says; admitted = x.admitted })
 
--- lawful tables are what their spelling tells
+-- the spelling of lawful tables tells them as a value
 pack_tells : (o : Option Graph) (t : Tables) → AreLawful t → Tells o PackFile (spelling t) (tables_value t)
 pack_tells o t lawful = (t, refl, record { spelled = refl; lawful = lawful })
 
 -- ---- a run that is asked so
 
+-- given a lawful run in which neither the shelf nor a sink met a fault
 module _ (r : Run) (w : IsLawfulRun r) (k : KeepsShelf r.shelf.old r.shelf.new) (calm : IsFaultless (told_of r)) where
+  -- no sink met a fault, by the present contract
   faultless : IsFaultlessRun r
   faultless = record { out = calm.out; err = calm.err }
 
-  -- without faults, a run that is out of memory ends with 8
+  -- if it stops as memory ran out, its status is 8
   pub of_memory : (halt : Halt) → halt ≡ Memory → IsToldRun r halt ⊎ IsMutedRun r halt → r.status ≡ 8
   of_memory halt e (inl told) = told.status ∙ ap status_of e
   of_memory halt e (inr muted) = absurd (calm.err muted.err.rose)
@@ -190,7 +194,8 @@ module _ (r : Run) (w : IsLawfulRun r) (k : KeepsShelf r.shelf.old r.shelf.new) 
   abbrev Comes : Command → List Value → Type 0
   Comes c values = ((ws : List Value) × Has r c ws × AllAlike values ws) ⊎ ((r.status ≡ 8) ⊎ FollowsRun r)
 
-  -- if the run has a command with values, that command is c, and its values are alike to those that were told
+  -- If its words are c, and the shelf reports files of c with values, then whatever command and values the run has, the
+  -- command is c, and the values are alike.
   has : (c : Command) (values : List Value) → command_of r.words ≡ Some c →
       AreTold r.shelf.old.stands None (files_of c) values → (d : Command) (ws : List Value) → Has r d ws →
       Comes c values
@@ -203,7 +208,8 @@ module _ (r : Run) (w : IsLawfulRun r) (k : KeepsShelf r.shelf.old r.shelf.new) 
         read_as_told r.shelf.old r.shelf.new k None (files_of c) r.shelf.old.history [] values ws refl t also.reads,
       )
 
-  -- by where the run stops: over its words, in reading its files, or in its work
+  -- The same if the run stops. By where: in its words or its files it stops only as memory ran out, and in its work it
+  -- has read them.
   by_stop : (c : Command) (values : List Value) → command_of r.words ≡ Some c →
       AreTold r.shelf.old.stands None (files_of c) values → (halt : Halt) →
       (IsToldRun r halt ⊎ IsMutedRun r halt) →
@@ -220,7 +226,7 @@ module _ (r : Run) (w : IsLawfulRun r) (k : KeepsShelf r.shelf.old r.shelf.new) 
       (files_of c) r.shelf.old.history [] values halt refl t stops) ending))
   by_stop c values e t halt ending (inr (inr x)) = has c values e t x.command x.values x.has
 
-  -- what ends a run that has its values is what the command comes to
+  -- the same for any run, by how it ends
   comes : (c : Command) (values : List Value) → command_of r.words ≡ Some c →
       AreTold r.shelf.old.stands None (files_of c) values → EndsRun r → Comes c values
   comes c values e t (inl (text, x)) = has c values e t x.prints.command x.prints.values x.prints.has
@@ -246,7 +252,7 @@ module _ (r : Run) (w : IsLawfulRun r) (k : KeepsShelf r.shelf.old r.shelf.new) 
 
   -- ---- tables of a graph
 
-  -- a command of one graph file: the run asks for it with an alike graph, or it is out of memory (status 8)
+  -- For a command on one graph file: the run asks for it with an admission that is alike, or memory ran out (status 8).
   of_graph : (make : Text → Command) (graph : Text) (a : Admission) → is_live (Some (make graph)) ≡ false →
       files_of (make graph) ≡ file GraphFile graph ∷ [] →
       command_of r.words ≡ Some (make graph) →
@@ -259,8 +265,7 @@ module _ (r : Run) (w : IsLawfulRun r) (k : KeepsShelf r.shelf.old r.shelf.new) 
         | inr memory ↦ inr memory
       ]
 
-  -- if the tables of a graph are asked for, the run asks for those of an alike admission, or it is out of memory
-  -- (status 8)
+  -- if the tables of a graph are asked for, the run asks for those of an admission that is alike, or memory ran out
   tables_asked : (a : Admission) → Asks (told_of r) a →
       ((b : Admission) × AsksForTables r b × AreAlike a b) ⊎ (r.status ≡ 8)
   tables_asked a q =
@@ -318,8 +323,8 @@ module _ (r : Run) (w : IsLawfulRun r) (k : KeepsShelf r.shelf.old r.shelf.new) 
 
   -- ---- tables that are judged
 
-  -- if a verdict is asked for, the run asks for it with an alike admission, or it is out of memory, with status 8; by
-  -- the command that asks
+  -- If it is asked to judge tables, the run asks to judge them for an admission that is alike, or memory ran out. By
+  -- the command: `check`, `play` or `audit`; the values of its files are alike to those that the shelf reports.
   verdict_asked : (a : Admission) (t : Tables) → AsksVerdict (told_of r) a t →
       ((b : Admission) × AsksVerdictRun r b t × AreAlike a b) ⊎ (r.status ≡ 8)
   verdict_asked a t q =
@@ -428,7 +433,7 @@ module _ (r : Run) (w : IsLawfulRun r) (k : KeepsShelf r.shelf.old r.shelf.new) 
 
   -- ---- a node, parts
 
-  -- a command `Node`: the run asks for it with the tables that were told, or it is out of memory
+  -- if the table of a node is asked for, the run asks for it of the tables that the shelf reports, or memory ran out
   node_asked : (t : Tables) (name : Text) (q : AsksNode (told_of r) t name) →
       AsksRun r (Node q.pack name) (tables_value t ∷ []) ⊎ (r.status ≡ 8)
   node_asked t name q = elim (asked (Node q.pack name) (tables_value t ∷ []) refl q.words
@@ -453,7 +458,7 @@ module _ (r : Run) (w : IsLawfulRun r) (k : KeepsShelf r.shelf.old r.shelf.new) 
     | inr memory ↦ inr memory
   ]
 
-  -- a command `Hyper`: the run asks for it with the parts that were told, or it is out of memory
+  -- if the graph of parts is asked for, the run asks for it with the parts that the shelf reports, or memory ran out
   unrolling_asked : (parts : List Part) (q : AsksUnrolling (told_of r) parts) →
       AsksRun r (Hyper q.pairs) (part_values parts) ⊎ (r.status ≡ 8)
   unrolling_asked parts q = elim (asked (Hyper q.pairs) (part_values parts) refl q.words
@@ -463,7 +468,7 @@ module _ (r : Run) (w : IsLawfulRun r) (k : KeepsShelf r.shelf.old r.shelf.new) 
         | inr memory ↦ inr memory
       ]
 
-  -- parts with a common graph are unrolled, with 0
+  -- parts that have a graph of all their instances are unrolled, with 0
   pub unrolled : (parts : List Part) (g : Graph) → AsksUnrolling (told_of r) parts → ShowsUnrolled parts (Ok g) →
       Answer 0
   unrolled parts g q shows = elim (unrolling_asked parts q) [
@@ -471,7 +476,7 @@ module _ (r : Run) (w : IsLawfulRun r) (k : KeepsShelf r.shelf.old r.shelf.new) 
     | inr memory ↦ inr memory
   ]
 
-  -- parts without one are rejected, with 4
+  -- parts that are refused are rejected, with 4
   pub apart : (parts : List Part) (fault : HyperFault) → AsksUnrolling (told_of r) parts →
       ShowsUnrolled parts (Err fault) → fault ≢ OutOfMemory → Answer 4
   apart parts fault q shows told = elim (unrolling_asked parts q) [

@@ -32,19 +32,22 @@ use Rattle.cpg_shelf_laws.proofs.Fetched.{IsLast, agreed, last}
 use Rattle.cpg_shelf_laws.proofs.Sinks.{either_told, part_told, said_told}
 use Rattle.cpg_shelf_laws.proofs.Streams.{closed_told, cut_told, lawful_told, refused_told}
 
--- lack of memory may stop a run, whatever it was asked
+-- memory may run out in a run, whatever it was asked
 asked_memory : (r : Run) (c : Option Command) (halt : Halt) → halt ≡ Memory →
     StopsAsked (seen r.shelf.old r.shelf.new) c halt
 asked_memory r None halt e = inr e
 asked_memory r (Some c) halt e = memory_stops r.shelf.old r.shelf.new c halt e
 
+-- given a run that kept its shelf
 module _ (r : Run) (k : KeepsShelf r.shelf.old r.shelf.new) where
+  -- a stop of its command is a stop of its words
   of_command : (c : Command) (halt : Halt) → command_of r.words ≡ Some c →
       StopsAsked (seen r.shelf.old r.shelf.new) (Some c) halt →
       StopsAsked (seen r.shelf.old r.shelf.new) (command_of r.words) halt
   of_command c halt e stops = subst (λ asked. StopsAsked (seen r.shelf.old r.shelf.new) asked halt) (sym e) stops
 
-  -- a run stops for a cause that is true of what stands under the names
+  -- If the run stops, the earlier contract has this stop too. By where it stops: in its words, in its files or in its
+  -- work.
   pub stops_told : (halt : Halt) → StopsRun r halt → StopsAsked (seen r.shelf.old r.shelf.new) (command_of r.words) halt
   stops_told halt (inl w) = elim w.cause [
     | inl formless ↦
@@ -59,7 +62,7 @@ module _ (r : Run) (k : KeepsShelf r.shelf.old r.shelf.new) where
     | inr memory ↦ asked_memory r (command_of r.words) halt memory
   ]
 
-  -- a run's output is right by what stands under the names
+  -- an output of the run is one by the earlier contract, too
   pub prints_told : (text : Text) → PrintsRun r text →
       PrintsAsked (seen r.shelf.old r.shelf.new) (command_of r.words) text
   prints_told text p = subst (λ asked. PrintsAsked (seen r.shelf.old r.shelf.new) asked text) (sym p.has.words)
@@ -69,7 +72,7 @@ module _ (r : Run) (k : KeepsShelf r.shelf.old r.shelf.new) where
   pub told : (halt : Halt) → IsToldRun r halt → IsTold (told_of r) halt
   told halt t = record { status = t.status; out = t.out.taken; err = t.err.taken }
 
-  -- a run that could write no line is so by what it tells
+  -- a run whose line wasn't written whole is so by the earlier contract, too
   muted : (halt : Halt) → IsMutedRun r halt → IsMuted (told_of r) halt
   muted halt t = record { status = t.status; out = t.out.taken; err = part_told r.err (line_of halt) t.err }
 
@@ -77,14 +80,15 @@ module _ (r : Run) (k : KeepsShelf r.shelf.old r.shelf.new) where
   pub printed : (text : Text) → IsPrintedRun r text → IsPrinted (told_of r) text
   printed text t = record { status = t.status; out = t.out.taken; err = t.err.taken }
 
-  -- a run whose output was cut off is so by what it tells
+  -- a run whose output was cut off is so by the earlier contract, too
   cut : (text : Text) → IsCutRun r text → IsCut (told_of r) text
   cut text t =
       record { status = t.status; out = part_told r.out text t.out; err = either_told r.err write_fault_line t.err }
 
   -- ---- a stream
 
-  -- a run that follows a stream does so by what it was told: the pack is spelled by what stood on the shelf
+  -- a run that follows a stream does so by the earlier contract, too: what the shelf reports of the pack spells its
+  -- tables
   abbrev pub follows_told : FollowsRun r → Follows (told_of r)
   follows_told f = record {
     pack = f.pack;
@@ -107,7 +111,7 @@ module _ (r : Run) (k : KeepsShelf r.shelf.old r.shelf.new) where
   front_of f =
       subst (λ name. IfSome (r.shelf.old.stands name) (λ whole. IsFrontOf whole f.fetch)) f.of (last_of f).agrees
 
-  -- a stream that is too long was given beyond the limit
+  -- if a stream is refused as too long, more bytes were given than the limit
   over : (f : FollowsRun r) (fault : StreamFault) (lines : Text) →
       IsRefusedFetch f.tables.head (table_in f) f.fetch fault lines → fault ≡ Long →
       STREAM_LIMIT < given_count r.shelf.new
@@ -137,7 +141,7 @@ module _ (r : Run) (k : KeepsShelf r.shelf.old r.shelf.new) where
     err = u.err.taken;
   }
 
-  -- the lines of a stream that was followed to its close are an output by what stands under the names
+  -- the lines of a stream that was followed to its close are an output by the earlier contract
   pub closed_prints : (f : FollowsRun r) (lines : Text) → IsClosedFetch f.tables.head (table_in f) f.fetch lines →
       PrintsAsked (seen r.shelf.old r.shelf.new) (command_of r.words) lines
   closed_prints f lines c =
@@ -154,7 +158,7 @@ module _ (r : Run) (k : KeepsShelf r.shelf.old r.shelf.new) where
         within = (let m = c.short in let n = (last_of f).count in omega (arith, m, n));
       })
 
-  -- if following breaks by what the run fetched, it breaks by what the run was told, for the same reason
+  -- a stream that isn't followed to its close isn't by the earlier contract either, for the same reason
   breaks_told : (f : FollowsRun r) (broken : Broken) →
       BreaksFetch f.tables.head (table_in f) (stream_of_run r f) broken →
       Breaks f.tables.head (table_in f) (stream_of (told_of r) (follows_told f)) broken
@@ -178,7 +182,8 @@ module _ (r : Run) (k : KeepsShelf r.shelf.old r.shelf.new) where
     over f fault lines c,
   )
 
-  -- a run ends by the earlier contract as it ends by the present one
+  -- A run ends by the earlier contract, too. By how it ends: a stream that was followed to its close has become an
+  -- output.
   pub ends_told : EndsRun r → Ends (told_of r)
   ends_told (inl (text, e)) = inl (
     text,

@@ -18,13 +18,13 @@ use Rattle.cpg_app.specs.Lawful.{IsFailed, IsUnreadStream as IsUnreadRun}
 use Rattle.cpg_app.proofs.Statuses.{of_work}
 use Rattle.cpg_shelf_laws.proofs.Fetched.{last}
 
--- a history with a fetch more isn't the one before
+-- a history with at least one fetch more isn't the one before
 longer : (f : Fetch) (newer past now : List Fetch) → now ≡ newer ++ f ∷ past → now ≡ past → ⊥
 longer f newer past now is same = let l = ap (λ (h : List Fetch). length h) (sym is ∙ same) in
     let k = length-append newer (f ∷ past) in
     omega (arith, l, k)
 
--- reading that stops has fetched something
+-- a reading that stops has fetched something
 grows : (g : Option Graph) (files : List File) (past now : List Fetch) (h : Halt) →
     StopsReading g files past now h → now ≡ past → ⊥
 grows g [] past now h s same = absurd s
@@ -33,8 +33,9 @@ grows g (file ∷ files) past now h (f, inr (v, read, there)) same =
     let x = stops_grown (graph_after g v) files (f ∷ past) now h there in
     longer f x.fetches past now x.is same
 
+-- given a run that kept its shelf
 module _ (r : Run) (k : KeepsShelf r.shelf.old r.shelf.new) where
-  -- a run that stops over a read has read something: stopping over its words or in its work has another halt
+  -- a run that stops with a read fault has fetched something, as it stops neither in its words nor in its work
   not_same : StopsRun r Read → r.shelf.new.history ≡ r.shelf.old.history → ⊥
   not_same (inl s) same = elim s.cause [
     | inl words ↦ absurd (let e = ap status_of words.0 in omega (arith, e))
@@ -46,7 +47,7 @@ module _ (r : Run) (k : KeepsShelf r.shelf.old r.shelf.new) where
     | inr memory ↦ absurd (let e = ap status_of memory in omega (arith, e))
   ]
 
-  -- if a run ends with 2, the shelf's count of faults rose
+  -- if a run ends with status 2, the shelf's count of faults rose, as its last fetch is new and failed
   pub read_rose : IsFailed r × ((StopsRun r Read × IsToldRun r Read) ⊎ IsUnreadRun r) →
       Rose r.shelf.old.faults r.shelf.new.faults
   read_rose (x, inr u) =

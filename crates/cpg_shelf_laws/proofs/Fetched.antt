@@ -13,17 +13,17 @@ use Rattle.cpg_inputs.specs.Files.{File, limit_of}
 use Rattle.cpg_inputs.specs.Reading.{IsFetchOf, IsWhole}
 use Rattle.cpg_shelf_laws.specs.Causes.{IsShort}
 
--- if one fact implies another, so it does of bytes that the shelf may report
+-- if one fact implies another, and the first holds of the bytes that the shelf reports, if it does, so does the second
 pub on_some : (told : Option Text) (P Q : Text → Type 0) → ((bytes : Text) → P bytes → Q bytes) → IfSome told P →
     IfSome told Q
 on_some None P Q f p = tt
 on_some (Some bytes) P Q f p = f bytes p
 
--- the shelf tells these bytes, if it tells any
+-- the shelf reports these bytes, if it reports any
 abbrev pub TellsAs : Option Text → Text → Type 0
 TellsAs told given = IfSome told (λ bytes. bytes ≡ given)
 
--- bytes that were given within the limit are short as the shelf reports them, too
+-- if the bytes that were given are within the limit, so are those that the shelf reports
 pub told_short : (told : Option Text) (given : Text) (limit : ℕ) → TellsAs told given → length given ≤ limit →
     IsShort limit told
 told_short told given limit alike short = on_some told (λ bytes. bytes ≡ given) (λ bytes. length bytes ≤ limit)
@@ -40,22 +40,25 @@ all_at P (x ∷ newer) f older h = all_at P newer f older (All-tail P x (newer +
 
 -- a fetch of a history that has grown since a base
 pub record IsIn (base now : List Fetch) (f : Fetch) : Type 0 where
+  -- the fetches after f, and those before it, since the base
   pub newer : List Fetch
   pub older : List Fetch
   pub is : now ≡ newer ++ f ∷ (older ++ base)
 
--- a history with a fetch more isn't the one before
+-- a history with at least one fetch more isn't the one before
 longer : (f : Fetch) (older base : List Fetch) → f ∷ (older ++ base) ≡ base → ⊥
 longer f older base e = let l = ap length e in let k = length-append older base in omega (arith, l, k)
 
--- the newest fetch of a run
+-- what is so of the newest fetch of a run: it gave as many bytes as the shelf counts, raised the count of faults if it
+-- failed, and gave what the shelf reports
 pub record IsLast (old new : ShelfState) (f : Fetch) : Type 0 where
   pub count : given_count new ≡ length f.given
   pub rose : f.failed ≡ true → Rose old.faults new.faults
   pub agrees : Agrees old.stands f
 
+-- given a shelf that a run has kept
 module _ (old new : ShelfState) (k : KeepsShelf old new) where
-  -- each fetch of a run gave what stands under its name, if the shelf reports that
+  -- each fetch of the run gave what the shelf reports under its name, as far as it went
   pub agreed : (f : Fetch) → IsIn old.history new.history f → Agrees old.stands f
   agreed f i =
       let x = k.fetched in
@@ -64,7 +67,7 @@ module _ (old new : ShelfState) (k : KeepsShelf old new) where
       all_at (Agrees old.stands) i.newer f i.older (subst (All (Agrees old.stands))
       (append_cancel_right x.fetches (i.newer ++ f ∷ i.older) old.history same) x.agree)
 
-  -- the newest fetch gave what was counted, raised the count if it failed, and agrees with the shelf
+  -- the newest fetch of the run is as `IsLast` says
   pub last : (f : Fetch) (older : List Fetch) → new.history ≡ f ∷ (older ++ old.history) → IsLast old new f
   last f older is = record {
     count = ap (λ (h : List Fetch). length (newest_given h)) is;
@@ -75,11 +78,11 @@ module _ (old new : ShelfState) (k : KeepsShelf old new) where
     agrees = agreed f (record { newer = []; older = older; is = is });
   }
 
--- it gave the whole of a file
+-- a fetch that gave a front of these bytes and came to their end gave all of them
 whole_front : (bytes : Text) (f : Fetch) → f.ended ≡ true → IsFrontOf bytes f → bytes ≡ f.given
 whole_front bytes f ended h = h.front ∙ ap (λ rest. f.given ++ rest) (h.all ended) ∙ append-nil f.given
 
--- a fetch that gave a whole file gave just what stands under the file's name
+-- a fetch that gave a whole file gave just what the shelf reports of it
 pub tells_whole : (stands : Text → Option Text) (file : File) (f : Fetch) → IsWhole file f → Agrees stands f →
     TellsAs (stands file.name) f.given
 tells_whole stands file f w agrees = subst (λ name. TellsAs (stands name) f.given) w.named
@@ -96,7 +99,7 @@ long_front bytes f limit over h = let l = ap (λ (b : Text). length b) h.front i
 pub more : (count limit : ℕ) → count ≡ limit + 1 → limit < count
 more count limit is = omega (arith, is)
 
--- if a fetch gave more bytes than the limit, more stand under the file's name
+-- if a fetch gave more bytes than the limit, the shelf reports more, if it reports any
 pub tells_long : (stands : Text → Option Text) (file : File) (f : Fetch) → IsFetchOf file f →
     limit_of file.kind < length f.given →
     Agrees stands f →

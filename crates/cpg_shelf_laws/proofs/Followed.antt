@@ -40,36 +40,37 @@ use Rattle.cpg_shelf_laws.proofs.Fetched.{agreed, last, tells_whole}
 use Rattle.cpg_shelf_laws.proofs.Streams.{closed_ends, refused_ends}
 use Rattle.cpg_shelf_laws.proofs.Telling.{AreTold, none_stops, read_as_told}
 
--- the pack that `live` names, or a default
+-- the pack that a command of `live` names, or d for any other
 abbrev pack_in : Text → Command → Text
 pack_in d (Live pack name stream) = pack
 pack_in d c = d
 
--- the node that `live` names, or a default
+-- the name of the node in a command of `live`, or d for any other
 abbrev name_in : Text → Command → Text
 name_in d (Live pack name stream) = name
 name_in d c = d
 
--- the stream that `live` names, or a default
+-- the stream that a command of `live` names, or d for any other
 abbrev stream_in : Text → Command → Text
 stream_in d (Live pack name stream) = stream
 stream_in d c = d
 
--- the tables that come first among values, or a default
+-- the tables that are the first of some values, or d if they aren't
 abbrev tables_or : Tables → List Value → Tables
 tables_or d (tables_value t ∷ vs) = t
 tables_or d vs = d
 
--- a node, or a default
+-- the node, or d if there is none
 abbrev node_or : ℕ → Option ℕ → ℕ
 node_or d None = d
 node_or d (Some n) = n
 
--- a node that no name has isn't named
+-- an option isn't both `None` and some node
 not_both_named : (o : Option ℕ) (n : ℕ) → o ≡ None → o ≡ Some n → ⊥
 not_both_named o n e f = true≢false (ap is_some (sym f ∙ e))
 
--- a run that is asked to follow a stream, with the pack and the stream reported by its shelf
+-- Given a lawful run that is asked to follow a stream, whose shelf reports the pack and the stream, and in which
+-- nothing failed.
 module _ (r : Run) (w : IsLawfulRun r) (k : KeepsShelf r.shelf.old r.shelf.new) (t : Tables) (name bytes : Text)
     (q : AsksStream (told_of r) t name bytes) where
   -- the shelf reports the pack, which says the tables
@@ -116,7 +117,7 @@ module _ (r : Run) (w : IsLawfulRun r) (k : KeepsShelf r.shelf.old r.shelf.new) 
       tables_alone t ws (read_as_told r.shelf.old r.shelf.new k None (file PackFile q.pack ∷ []) r.shelf.old.history []
       (tables_value t ∷ []) ws refl told also.reads)
 
-  -- if the run stops in its work, no node has the name, or it is out of memory; P is what follows in both cases
+  -- If the run stops in its work, no node has the name, or memory ran out. P is what follows in both cases.
   by_work : (P : Type 0) (halt : Halt) → (x : StopsInWork r halt) → (first_named t.head name ≡ None → P) →
       (halt ≡ Memory → P) → P
   by_work P halt x none memory =
@@ -130,7 +131,7 @@ module _ (r : Run) (w : IsLawfulRun r) (k : KeepsShelf r.shelf.old r.shelf.new) 
         | inr e ↦ memory e
       ]
 
-  -- the same if the run stops anywhere: it stops over its words or in reading its files for memory alone
+  -- the same if the run stops anywhere: in its words or its files it stops only as memory ran out
   by_stop : (P : Type 0) (halt : Halt) → StopsRun r halt → (first_named t.head name ≡ None → P) → (halt ≡ Memory → P) →
       P
   by_stop P halt (inl x) none memory = elim x.cause [
@@ -152,12 +153,13 @@ module _ (r : Run) (w : IsLawfulRun r) (k : KeepsShelf r.shelf.old r.shelf.new) 
 
   -- ---- it is followed
 
+  -- given that some node is the first that has the name
   module _ (node : ℕ) (is : first_named t.head name ≡ Some node) where
     -- the table of the run's node is the one asked
     table_is : (f : FollowsRun r) → table_of f ≡ table_at t.nodes node
     table_is f = ap₂ (λ (t : Tables) n. table_at t.nodes n) (tables_are f) (ap (node_or node) (sym (named_so f) ∙ is))
 
-    -- the status is that of how the whole stream ends
+    -- if the status is that of how the stream ends by the run's table, it is that by the table of the node
     answers : (f : FollowsRun r) (ends : Result ℕ StreamFault) → stream_end (table_of f) bytes ≡ ends →
         r.status ≡ status_of_end ends →
         r.status ≡ status_of_end (stream_end (table_at t.nodes node) bytes)
@@ -175,7 +177,8 @@ module _ (r : Run) (w : IsLawfulRun r) (k : KeepsShelf r.shelf.old r.shelf.new) 
         answers f (Err fault) (refused_ends f.tables.head (table_of f) f.fetch bytes fault lines (front f) c)
         (said.whole (λ e. q.faultless.err (said.part e).rose)).0
 
-    -- without faults, a run that follows a stream ends as the bytes of the stream say, or out of memory
+    -- The run ends as the bytes of the stream say, or memory ran out. By how it ends: with no output, with no stop but
+    -- that of memory, and otherwise along its stream.
     pub followed : EndsRun r → (r.status ≡ status_of_end (stream_end (table_at t.nodes node) bytes)) ⊎ (r.status ≡ 8)
     followed (inl (text, x)) = absurd (no_text x.prints.command x.prints.values text
         (same_command (command_of r.words) x.prints.command (Live q.pack name q.stream) x.prints.has.words q.words)
@@ -191,14 +194,14 @@ module _ (r : Run) (w : IsLawfulRun r) (k : KeepsShelf r.shelf.old r.shelf.new) 
 
   -- ---- no node has the name
 
-  -- if the words stopped the run, memory ran out
+  -- if the run stops in its words, memory ran out, so its status is 8
   of_words : (halt : Halt) → (IsToldRun r halt ⊎ IsMutedRun r halt) → StopsInWords r halt → r.status ≡ 8
   of_words halt ending x = elim x.cause [
     | inl formless ↦ absurd (no_command (Live q.pack name q.stream) (sym formless.1 ∙ q.words))
     | inr e ↦ of_memory r w k q.faultless halt e ending
   ]
 
-  -- if the files stopped the run, memory ran out
+  -- if the run stops in its files, memory ran out, so its status is 8
   of_files : (halt : Halt) → (IsToldRun r halt ⊎ IsMutedRun r halt) → StopsInFiles r halt → r.status ≡ 8
   of_files halt ending x =
       let same : x.command ≡ Live q.pack name q.stream =
@@ -207,7 +210,7 @@ module _ (r : Run) (w : IsLawfulRun r) (k : KeepsShelf r.shelf.old r.shelf.new) 
       (file PackFile q.pack ∷ []) r.shelf.old.history [] (tables_value t ∷ []) halt refl told
       (subst (λ d. StopsReading None (files_of d) r.shelf.old.history r.shelf.new.history halt) same x.stops)) ending
 
-  -- if no node has the name, a run that stops has status 4, or status 8 if it is out of memory
+  -- if no node has the name, a run that stops has status 4, or 8 as memory ran out
   by_halt : first_named t.head name ≡ None → (halt : Halt) → (IsToldRun r halt ⊎ IsMutedRun r halt) → StopsRun r halt →
       (r.status ≡ 4) ⊎ (r.status ≡ 8)
   by_halt none halt ending (inl x) = inr (of_words halt ending x)
@@ -221,7 +224,7 @@ module _ (r : Run) (w : IsLawfulRun r) (k : KeepsShelf r.shelf.old r.shelf.new) 
       w.unfollowed q.pack name q.stream t
       (record { has = has; faultless = record { out = q.faultless.out; err = q.faultless.err } }) none
 
-  -- if no node has the name, it ends with 4, or out of memory
+  -- if no node has the name, the run ends with 4, or with 8 as memory ran out; it can only stop
   pub unfollowed : first_named t.head name ≡ None → EndsRun r → (r.status ≡ 4) ⊎ (r.status ≡ 8)
   unfollowed none (inl (text, x)) = absurd (no_text x.prints.command x.prints.values text
       (same_command (command_of r.words) x.prints.command (Live q.pack name q.stream) x.prints.has.words q.words)

@@ -23,10 +23,11 @@ use Rattle.cpg_shelf_laws.proofs.Endings.{stops_told, told, unread_told}
 use Rattle.cpg_shelf_laws.proofs.Faults.{read_rose}
 use Rattle.cpg_shelf_laws.proofs.Followed.{followed, unfollowed}
 
+-- given a lawful run that kept its shelf
 module _ (r : Run) (w : IsLawfulRun r) (k : KeepsShelf r.shelf.old r.shelf.new) where
-  -- ---- what each status says; of the others it is said by `Endings`, `Faults`, `Complete` and `Followed`
+  -- ---- what some statuses say by the earlier contract; the rest is in `Endings`, `Faults`, `Complete` and `Followed`
 
-  -- a run with status 0 prints its text: that of a command, or all lines of a stream up to its close
+  -- with status 0 the run prints its text: that of its command, or all lines of a stream up to its close
   done : r.status ≡ 0 → (text : Text) × Prints (seen r.shelf.old r.shelf.new) r.words text × IsPrinted (told_of r) text
   done e = elim (w.done e) [
     | inl p ↦ (p.0, prints_told r k p.0 p.1, printed r k p.0 p.2)
@@ -37,7 +38,7 @@ module _ (r : Run) (w : IsLawfulRun r) (k : KeepsShelf r.shelf.old r.shelf.new) 
     )
   ]
 
-  -- what status 4 says, by what the shelf reports
+  -- with status 4 the run stops with a refusal, or refused its stream
   refused : r.status ≡ 4 →
       ((refusal : Refusal) × Stops (seen r.shelf.old r.shelf.new) r.words (Refused refusal) ×
       IsTold (told_of r) (Refused refusal)) ⊎ IsRefusedStream (told_of r)
@@ -46,20 +47,20 @@ module _ (r : Run) (w : IsLawfulRun r) (k : KeepsShelf r.shelf.old r.shelf.new) 
     | inr s ↦ inr (refused_stream_told r k s)
   ]
 
-  -- what status 5 says
+  -- with status 5 the run stops as a process is late
   is_late : r.status ≡ 5 →
       (a : Admission) × (s : Scenario) × (p : ℕ) × (finish : ℕ) ×
       Stops (seen r.shelf.old r.shelf.new) r.words (Late a s p finish) × IsTold (told_of r) (Late a s p finish)
   is_late e = let p = w.is_late e in
       (p.0, p.1, p.2, p.3, stops_told r k (Late p.0 p.1 p.2 p.3) p.4, told r k (Late p.0 p.1 p.2 p.3) p.5)
 
-  -- what status 6 says
+  -- with status 6 the run stops as an item is too wide
   is_wide : r.status ≡ 6 →
       (a : Admission) × (x : ℕ) × Stops (seen r.shelf.old r.shelf.new) r.words (TooWide a x) ×
       IsTold (told_of r) (TooWide a x)
   is_wide e = let p = w.is_wide e in (p.0, p.1, stops_told r k (TooWide p.0 p.1) p.2, told r k (TooWide p.0 p.1) p.3)
 
-  -- what status 7 says
+  -- with status 7 the run stops as tables break a rule
   is_unsafe : r.status ≡ 7 →
       (a : Admission) × (fault : Fault) × Stops (seen r.shelf.old r.shelf.new) r.words (Unsafe a fault) ×
       IsTold (told_of r) (Unsafe a fault)
@@ -79,7 +80,7 @@ module _ (r : Run) (w : IsLawfulRun r) (k : KeepsShelf r.shelf.old r.shelf.new) 
 
   -- ---- all of it
 
-  -- the run keeps the earlier contract, too
+  -- the run keeps the earlier contract, clause by clause
   pub kept : IsLawful (told_of r)
   kept = record {
     ends = ends_told r k w.ends;

@@ -1,4 +1,4 @@
--- A command of parts has some.
+-- A command of `hyper` has at least one part. The proof goes through all forms of the command line.
 use Rattle.std.proofs.Common.{ℕ, ◌≡◌, ◌<◌, Bool, true, false, cond, List, [], ◌∷◌, Option, Some, None, length, arith}
 use Rattle.std.proofs.Common.{subst}
 use Rattle.std.specs.Prelude.{option_map, option_and_then, nat_lt, nat_le, ◌&&◌, ⊤}
@@ -26,7 +26,7 @@ HasParts (Some (Live a b c)) = ⊤
 HasParts (Some (Tune a)) = ⊤
 HasParts (Some (Audit a b c)) = ⊤
 
--- a command of one word has parts
+-- what a form of one word makes of words has parts, if it is `hyper`; so below for each form
 one_has : (make : Text → Command) → ((a : Text) → HasParts (Some (make a))) → (ws ts : List Text) →
     HasParts (one_word make ws ts)
 one_has make h [] ts = tt
@@ -34,7 +34,7 @@ one_has make h (a ∷ []) [] = h a
 one_has make h (a ∷ []) (t ∷ ts) = tt
 one_has make h (a ∷ b ∷ ws) ts = tt
 
--- a command of two words has parts
+-- the same for a form of two words
 two_have : (make : Text → Text → Command) → ((a b : Text) → HasParts (Some (make a b))) → (ws ts : List Text) →
     HasParts (two_words make ws ts)
 two_have make h [] ts = tt
@@ -43,7 +43,7 @@ two_have make h (a ∷ b ∷ []) [] = h a b
 two_have make h (a ∷ b ∷ []) (t ∷ ts) = tt
 two_have make h (a ∷ b ∷ c ∷ ws) ts = tt
 
--- a form of three words makes a command with its parts, or none; by the number of words and of values of `--turns`
+-- the same for a form of three words; by the number of words and of values of `--turns`
 three_have : (make : Text → Text → Text → Command) → ((a b c : Text) → HasParts (Some (make a b c))) →
     (ws ts : List Text) →
     HasParts (three_words make ws ts)
@@ -54,12 +54,12 @@ three_have make h (a ∷ b ∷ c ∷ []) [] = h a b c
 three_have make h (a ∷ b ∷ c ∷ []) (t ∷ ts) = tt
 three_have make h (a ∷ b ∷ c ∷ d ∷ ws) ts = tt
 
--- `play` with a number, if that is one, has parts
+-- the same for `play` with a number, if it is one
 played : (a b c : Text) (n : Option ℕ) → HasParts (option_map (Play a b c) n)
 played a b c None = tt
 played a b c (Some n) = tt
 
--- `play` with any words and turns has parts
+-- the same for `play` with any words and turns
 play_has : (ws ts : List Text) → HasParts (play_of ws ts)
 play_has [] ts = tt
 play_has (a ∷ []) ts = tt
@@ -69,12 +69,12 @@ play_has (a ∷ b ∷ c ∷ []) (t ∷ []) = played a b c (number t)
 play_has (a ∷ b ∷ c ∷ []) (t ∷ u ∷ ts) = tt
 play_has (a ∷ b ∷ c ∷ d ∷ ws) ts = tt
 
--- `trial` with a number, if that is one, has parts
+-- the same for `trial` with a number, if it is one
 tried : (n : Option ℕ) → HasParts (option_map Trial n)
 tried None = tt
 tried (Some n) = tt
 
--- `trial` with any words and turns has parts
+-- the same for `trial` with any words and turns
 trial_has : (ws ts : List Text) → HasParts (trial_of ws ts)
 trial_has [] ts = tt
 trial_has (n ∷ []) [] = tried (number n)
@@ -86,13 +86,13 @@ few : (b : Bool) (p : Pair) (ps : List Pair) → HasParts (option_map Hyper (con
 few true p ps = omega arith
 few false p ps = tt
 
--- `hyper` with its pairs, if there are 1 to 4, has parts
+-- `hyper` with its pairs, if there are 1 to 4, has at least one
 paired : (pairs : Option (List Pair)) → HasParts (option_map Hyper (option_and_then one_to_four pairs))
 paired None = tt
 paired (Some []) = tt
 paired (Some (p ∷ ps)) = few (nat_lt 0 (length (p ∷ ps)) && nat_le (length (p ∷ ps)) 4) p ps
 
--- `hyper` with any words and turns has parts
+-- the same for `hyper` with any words and turns
 hyper_has : (ws ts : List Text) → HasParts (hyper_of ws ts)
 hyper_has ws [] = paired (pairs_of ws)
 hyper_has ws (t ∷ ts) = tt
@@ -104,14 +104,14 @@ abbrev AllHave : List Form → Type 0
 AllHave [] = ⊤
 AllHave (f ∷ fs) = ((ws ts : List Text) → HasParts (f.1 ws ts)) × AllHave fs
 
--- the form that is found by a name gives one, or the others do
+-- a command by the first form, if it is found, or by the others has parts
 found : (p : Parts) (b : Bool) (f : Form) (rest : Option Form) → HasParts (f.1 p.positionals p.turns) →
     HasParts (in_form p rest) →
     HasParts (in_form p (cond b (Some f) rest))
 found p true f rest h k = h
 found p false f rest h k = k
 
--- the command of a name has parts
+-- the command that a name's form makes has parts; by induction on the forms
 named : (fs : List Form) (name : Text) (p : Parts) → AllHave fs → HasParts (command_named fs name p)
 named [] name p h = tt
 named (f ∷ fs) name p h = found p (bytes_eq f.0 name) f _ (h.0 p.positionals p.turns) (named fs name p h.1)
@@ -122,7 +122,7 @@ parted : (fs : List Form) (name : Text) (p : Option Parts) → AllHave fs →
 parted fs name None h = tt
 parted fs name (Some p) h = named fs name p h
 
--- the commands of each form have their parts, one form after another
+-- each form of the command line gives commands that have parts
 all_forms : AllHave forms
 all_forms = (
   one_has Show (λ a. tt),

@@ -1,4 +1,4 @@
--- What a sink took by the present account, it took by the earlier one.
+-- What a sink took by the present contract, it took by the earlier one.
 use Rattle.std.proofs.Common.{ℕ, ◌≡◌, List, inl, inr}
 use Rattle.std.specs.Prelude.{◌⊎◌}
 use Rattle.cpg_refusal.specs.declared.halt.Halt.TheVariants.{Read}
@@ -10,16 +10,16 @@ use Rattle.cpg_outputs.specs.Told.{SinkSeen as SinkSeenRun, Part as PartRun, Sen
 use Rattle.cpg_shelf_laws.specs.Endings.{IsSaid}
 use Rattle.cpg_shelf_laws.specs.Sinks.{Part, Sent, Whole, telling}
 
--- a part that a sink took by one account, it took so by the other
+-- a proper part that a sink took by the present contract, it took by the earlier one
 pub part_told : (s : SinkSeenRun) (bytes : List ℕ) → PartRun s bytes → Part (telling s) bytes
 part_told s bytes p = record { rose = p.rose; prefix = p.prefix }
 
--- bytes that a sink took whole or in part by one account, it took so by the other
+-- bytes that a sink took whole or in part by the present contract, it took so by the earlier one
 pub either_told : (s : SinkSeenRun) (bytes : List ℕ) → WholeRun s bytes ⊎ PartRun s bytes →
     Whole (telling s) bytes ⊎ Part (telling s) bytes
 either_told s bytes e = elim e [ inl whole ↦ inl whole.taken | inr part ↦ inr (part_told s bytes part) ]
 
--- what was sent by the account of this run was sent by that of what it tells
+-- bytes that were sent to a sink by the present contract were sent by the earlier one
 sent_told : (s : SinkSeenRun) (status wanted : ℕ) (bytes : List ℕ) → SentRun s status wanted bytes →
     Sent (telling s) status wanted bytes
 sent_told s status wanted bytes p = record {
@@ -27,7 +27,7 @@ sent_told s status wanted bytes p = record {
   part = λ three. part_told s bytes (p.part three);
 }
 
--- what was said of a broken stream by one account was said so by the other
+-- what was reported of a stream that isn't followed to its close was so by the earlier contract, too
 pub said_told : (s : SinkSeenRun) (status : ℕ) (broken : Broken) → IsSaidRun s status broken →
     IsSaid (telling s) status broken
 said_told s status Broken.Shelf said = sent_told s status 2 (line_of Read) said

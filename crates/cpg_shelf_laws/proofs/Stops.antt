@@ -72,16 +72,17 @@ says_acts told given g l alike short x =
 
 -- ---- why the last file stops a run
 
+-- given the last fetch of a run, and a name
 module _ (old new : ShelfState) (f : Fetch) (is : IsLast old new f) (name : Text) where
-  -- a file within the limit gives a count within it
+  -- if it gave no more than a limit, the count of its bytes isn't more
   within : (limit : ℕ) → length f.given ≤ limit → given_count new ≤ limit
   within limit short = let c = is.count in omega (arith, c, short)
 
-  -- a file that couldn't be fetched raised the count of faults
+  -- if the file wasn't read, as the shelf failed, the count of faults rose
   unread : (kind : FileKind) (halt : Halt) → IsUnreadFile (file kind name) f halt → IsUnread (seen old new) halt
   unread kind halt u = record { halt_is = u.halt_is; rose = is.rose u.failed }
 
-  -- a file that is too long is so on the shelf
+  -- a file that is too long is so as the shelf reports it
   long : (kind : FileKind) (halt : Halt) → IsLongFile (file kind name) f halt →
       IsLong (limit_of kind) (long_of kind) (seen old new) (old.stands name) halt
   long kind halt l = record {
@@ -95,7 +96,7 @@ module _ (old new : ShelfState) (f : Fetch) (is : IsLast old new f) (name : Text
   tells : (kind : FileKind) → IsWhole (file kind name) f → TellsAs (old.stands name) f.given
   tells kind w = tells_whole old.stands (file kind name) f w is.agrees
 
-  -- a graph file that is faulty as it was given is faulty as it stood on the shelf
+  -- a graph file that is faulty as it was given is faulty as the shelf reports it
   faulty : (halt : Halt) (short : length f.given ≤ limit_of GraphFile) → TellsAs (old.stands name) f.given →
       AreFaulty f.given halt →
       IsFaulty (seen old new) (old.stands name) halt
@@ -109,7 +110,7 @@ module _ (old new : ShelfState) (f : Fetch) (is : IsLast old new f) (name : Text
     );
   }
 
-  -- lack of memory stops the reading of a graph
+  -- the halt that memory ran out is one of reading a graph file
   no_graph : (halt : Halt) → halt ≡ Memory → IsFaulty (seen old new) (old.stands name) halt
   no_graph halt e = record {
     fault = ReadFault.OutOfMemory;
@@ -118,7 +119,7 @@ module _ (old new : ShelfState) (f : Fetch) (is : IsLast old new f) (name : Text
     first = λ other. absurd (other refl);
   }
 
-  -- a part's file stops its reading for a cause that is true of what stands under its name
+  -- if a part's file stops the run, its reading stops by the earlier contract, too; by why it stops
   pub stops_part : (g : Option Graph) (halt : Halt) → StopsAt g (file PartFile name) f halt →
       StopsReading (seen old new) (old.stands name) halt
   stops_part g halt (inl u) = inl (unread PartFile halt u)
@@ -126,7 +127,8 @@ module _ (old new : ShelfState) (f : Fetch) (is : IsLast old new f) (name : Text
   stops_part g halt (inr (inr (inl r))) = inr (inr (faulty halt r.whole.short (tells PartFile r.whole) r.refuses))
   stops_part g halt (inr (inr (inr w))) = inr (inr (no_graph halt w.halt_is))
 
-  -- a graph file that is refused as it was given is refused as it stood: it is faulty, or its graph is not admitted
+  -- a graph file that is rejected as it was given is rejected as the shelf reports it: it is faulty, or its graph isn't
+  -- admitted
   refused_graph : (halt : Halt) (short : length f.given ≤ limit_of GraphFile) → TellsAs (old.stands name) f.given →
       (AreFaulty f.given halt ⊎ AreOfNone f.given halt) →
       StopsAdmission (seen old new) (old.stands name) halt
@@ -137,7 +139,7 @@ module _ (old new : ShelfState) (f : Fetch) (is : IsLast old new f) (name : Text
     record { stops = x.breaks; within = within (limit_of GraphFile) short },
   )
 
-  -- a graph file stops a run for a cause that is true of what stands under its name
+  -- if a graph file stops the run, it does by the earlier contract, too; by why it stops
   pub stops_graph : (g : Option Graph) (halt : Halt) → StopsAt g (file GraphFile name) f halt →
       StopsAdmission (seen old new) (old.stands name) halt
   stops_graph g halt (inl u) = inl (inl (unread GraphFile halt u))
@@ -145,7 +147,7 @@ module _ (old new : ShelfState) (f : Fetch) (is : IsLast old new f) (name : Text
   stops_graph g halt (inr (inr (inl r))) = refused_graph halt r.whole.short (tells GraphFile r.whole) r.refuses
   stops_graph g halt (inr (inr (inr w))) = inl (inr (inr (no_graph halt w.halt_is)))
 
-  -- a pack stops a run for a cause that is true of what stands under its name
+  -- if a pack stops the run, it does by the earlier contract, too; by why it stops
   pub stops_pack : (g : Option Graph) (halt : Halt) → StopsAt g (file PackFile name) f halt →
       StopsPack (seen old new) (old.stands name) halt
   stops_pack g halt (inl u) = inl (unread PackFile halt u)
@@ -164,7 +166,7 @@ module _ (old new : ShelfState) (f : Fetch) (is : IsLast old new f) (name : Text
   stops_pack g halt (inr (inr (inr w))) =
       inr (inr (record { fault = PackFault.OutOfMemory; halt_is = w.halt_is; within = λ other. absurd (other refl); shows = tt }))
 
-  -- a scenario file stops a run for a cause that is true of what stands under its name
+  -- if a scenario file stops the run, it does by the earlier contract, too; by why it stops
   pub stops_scenario : (g : Graph) (halt : Halt) → StopsAt (Some g) (file ScenarioFile name) f halt →
       StopsPlayed (seen old new) (old.stands name) g halt
   stops_scenario g halt (inl u) = inl (unread ScenarioFile halt u)
@@ -183,7 +185,7 @@ module _ (old new : ShelfState) (f : Fetch) (is : IsLast old new f) (name : Text
   stops_scenario g halt (inr (inr (inr w))) =
       inr (inr (record { fault = ScenarioFault.OutOfMemory; halt_is = w.halt_is; within = λ other. absurd (other refl); first = λ other. absurd (other refl) }))
 
-  -- a log stops a run for a cause that is true of what stands under its name
+  -- if a log stops the run, it does by the earlier contract, too; by why it stops
   pub stops_log : (g : Graph) (halt : Halt) → StopsAt (Some g) (file LogFile name) f halt →
       StopsLog (seen old new) (old.stands name) g halt
   stops_log g halt (inl u) = inl (unread LogFile halt u)

@@ -24,36 +24,36 @@ use Rattle.cpg_live.proofs.Cutting.{lawless_stays}
 use Rattle.cpg_live.proofs.Streams.{acts_more, after_more, not_long, took_more}
 use Rattle.cpg_shelf_laws.specs.Streams.{IsClosed, IsCutOff, IsLawfulSoFar, IsRefused}
 
--- a bad state ends the stream as lawless
+-- a state with a lawless record ends the stream with it
 end_lawless : (s : LiveState) (count : ℕ) (lawless : LawlessRecord) → s.lawless ≡ Some lawless →
     end_of s count ≡ Err (Lawless lawless)
 end_lawless s count lawless e =
     ap (λ o. cond (is_none o && nat_lt STREAM_LIMIT count) (Err Long) (end_by (outcome_if s o))) e
 
--- once the state is bad, more bytes change nothing
+-- after a lawless record, more bytes change nothing
 after_lawless : (table : NodeTable) (fed more : List ℕ) (lawless : LawlessRecord) →
     (after table fed).lawless ≡ Some lawless →
     after table (fed ++ more) ≡ after table fed
 after_lawless table fed more lawless e = after_more table fed more ∙ lawless_stays (after table fed) lawless more e
 
--- a fault that is missing isn't there
+-- no lawless record isn't some
 none_some : (lawless : LawlessRecord) → None ≡ Some lawless → ⊥
 none_some lawless e = true≢false (ap is_none e)
 
--- up to a limit, what was fed and then what is left of the limit
+-- the bytes up to a limit are those that were fed and, of the rest, as many as the limit leaves
 part_of : (limit : ℕ) (fed rest : List ℕ) → length fed ≤ limit →
     take limit (fed ++ rest) ≡ fed ++ take (limit - length fed) rest
 part_of limit fed rest l =
     let e : limit ≡ length fed + (limit - length fed) = omega (arith, l) in
     ap (λ n. take n (fed ++ rest)) e ∙ take-append-add fed rest (limit - length fed)
 
--- a stream of these bytes is refused
+-- a stream of these bytes is refused with this fault, after these lines
 record IsRefusedBy (h : Head) (table : NodeTable) (bytes : List ℕ) (fault : StreamFault) (lines : List ℕ) : Type 0 where
   ends : stream_end table bytes ≡ Err fault
   long : fault ≡ Long → IsTooLong table bytes
   spelled : lines ≡ stream_lines h table bytes
 
--- a fetch that gave a front of a stream
+-- given a fetch that gave a front of a stream, at most one byte more than the limit
 module _ (h : Head) (table : NodeTable) (f : Fetch) (whole : List ℕ) (w : IsFrontOf whole f)
     (few : length f.given ≤ STREAM_LIMIT + 1) where
   -- the part that is read of what was given is all of it
@@ -64,17 +64,17 @@ module _ (h : Head) (table : NodeTable) (f : Fetch) (whole : List ℕ) (w : IsFr
   read_whole : read_part whole ≡ f.given ++ take (STREAM_LIMIT + 1 - length f.given) w.rest
   read_whole = ap read_part w.front ∙ part_of (STREAM_LIMIT + 1) f.given w.rest few
 
-  -- without a rest it is that of what was given
+  -- if nothing is left of the stream, the part that is read is that of what was given
   same_of_none : w.rest ≡ [] → read_part whole ≡ read_part f.given
   same_of_none none = ap read_part (w.front ∙ (ap (λ rest. f.given ++ rest) none ∙ append-nil f.given))
 
-  -- the part that is read is that of what was given if that is more than the limit
+  -- so it is if more than the limit was given
   same_of_full : STREAM_LIMIT < length f.given → read_part whole ≡ read_part f.given
   same_of_full over =
       let e : STREAM_LIMIT + 1 - length f.given ≡ 0 = omega (arith, over, few) in
       read_whole ∙ (ap (λ n. f.given ++ take n w.rest) e ∙ (append-nil f.given ∙ sym read_given))
 
-  -- what is read of both is the same
+  -- if what is read of the stream is what is read of the bytes that were given, a refusal of these is one of the stream
   refused_same : (fault : StreamFault) (lines : List ℕ) → IsRefusedFetch h table f fault lines →
       read_part whole ≡ read_part f.given →
       IsRefusedBy h table whole fault lines
@@ -91,7 +91,7 @@ module _ (h : Head) (table : NodeTable) (f : Fetch) (whole : List ℕ) (w : IsFr
         act_lines h (after table bytes).progress.acts ++ close_of (end_of (after table bytes) (length bytes))) same);
   }
 
-  -- the rest comes after a lawless record
+  -- if the bytes that were given have a lawless record, their refusal is one of the stream, as the rest changes nothing
   refused_lawless : (fault : StreamFault) (lines : List ℕ) (lawless : LawlessRecord) →
       IsRefusedFetch h table f fault lines →
       (after table f.given).lawless ≡ Some lawless →
@@ -111,7 +111,8 @@ module _ (h : Head) (table : NodeTable) (f : Fetch) (whole : List ℕ) (w : IsFr
         spelled = c.spelled ∙ sym (ap₂ (λ (s : LiveState) r. act_lines h s.progress.acts ++ close_of r) state ends);
       }
 
-  -- a refusal of lawful bytes is one of the whole stream
+  -- If they have none, their refusal is one of the stream: either they are more than the limit, or the stream has
+  -- ended, since its last record is missing.
   refused_lawful : (fault : StreamFault) (lines : List ℕ) → IsRefusedFetch h table f fault lines →
       (after table f.given).lawless ≡ None →
       IsRefusedBy h table whole fault lines
@@ -119,7 +120,7 @@ module _ (h : Head) (table : NodeTable) (f : Fetch) (whole : List ℕ) (w : IsFr
   refused_lawful (Lawless lawless) lines c none =
       refused_same (Lawless lawless) lines c (same_of_none (w.all (c.all (not_long lawless) none)))
 
-  -- a refusal of what was given is one of the whole stream, whether the bytes are bad or lawful
+  -- a refusal of what was given is one of the whole stream, whether there is a lawless record or not
   by_lawless : (fault : StreamFault) (lines : List ℕ) → IsRefusedFetch h table f fault lines →
       (o : Option LawlessRecord) →
       (after table f.given).lawless ≡ o →
@@ -127,7 +128,7 @@ module _ (h : Head) (table : NodeTable) (f : Fetch) (whole : List ℕ) (w : IsFr
   by_lawless fault lines c None e = refused_lawful fault lines c e
   by_lawless fault lines c (Some lawless) e = refused_lawless fault lines lawless c e
 
-  -- a front of the lines so far is one of all lines
+  -- A proper front of the lines of what was given is one of all lines, which go on with those of the rest.
   cut_lines : (a b : List ℕ) → TookPrefix a b (act_lines h (after table f.given).progress.acts) →
       TookPrefix a b (stream_lines h table whole)
   cut_lines a b took =
@@ -148,6 +149,7 @@ ended_whole f whole ended w = sym (w.front ∙ (ap (λ rest. f.given ++ rest) (w
 
 -- ---- what the shelf tells
 
+-- given a fetch of a stream
 module _ (h : Head) (table : NodeTable) (f : Fetch) where
   -- if what was given of a stream is rejected, so is the whole stream, with the same fault
   pub refused_ends : (whole : List ℕ) (fault : StreamFault) (lines : List ℕ) → IsFrontOf whole f →
@@ -161,7 +163,7 @@ module _ (h : Head) (table : NodeTable) (f : Fetch) where
       stream_end table whole ≡ Ok c.time
   closed_ends whole lines w c = ap (stream_end table) (sym (ended_whole f whole c.ended w)) ∙ c.ends
 
-  -- a stream rejected by what was given is rejected by what stands under its name
+  -- a stream that is refused by what was given is refused by what the shelf reports; by whether it reports the bytes
   pub refused_told : (told : Option (List ℕ)) (fault : StreamFault) (lines : List ℕ) →
       IfSome told (λ whole. IsFrontOf whole f) →
       IsRefusedFetch h table f fault lines →
@@ -172,7 +174,7 @@ module _ (h : Head) (table : NodeTable) (f : Fetch) where
       let by = by_lawless h table f whole w c.few fault lines c (after table f.given).lawless refl in
       record { bytes = whole; of = refl; ends = by.ends; long = by.long; spelled = by.spelled }
 
-  -- a stream closed by what was given is closed by what stands under its name
+  -- a stream that is closed by what was given is closed by what the shelf reports
   pub closed_told : (told : Option (List ℕ)) (lines : List ℕ) → IfSome told (λ whole. IsFrontOf whole f) →
       IsClosedFetch h table f lines →
       IsClosed h table told lines
@@ -189,10 +191,11 @@ module _ (h : Head) (table : NodeTable) (f : Fetch) where
       sym (ap₂ take e w.front ∙ (part_of (length f.given) f.given w.rest (omega arith)
       ∙ (ap (λ n. f.given ++ take n w.rest) (none_more (length f.given)) ∙ append-nil f.given)))
     where
+      -- a number less itself is 0
       none_more : (n : ℕ) → n - n ≡ 0
       none_more n = omega arith
 
-  -- lines that are right so far by what was given are so by what stands under its name
+  -- lines of lawful records in what was given are so by what the shelf reports
   pub lawful_told : (told : Option (List ℕ)) (count : ℕ) (lines : List ℕ) → count ≡ length f.given →
       IfSome told (λ whole. IsFrontOf whole f) →
       IsLawfulFetch h table f lines →
@@ -200,7 +203,8 @@ module _ (h : Head) (table : NodeTable) (f : Fetch) where
   lawful_told told count lines e w c =
       record { bytes = f.given; count = e; first = given_first told count e w; lawful = c.lawful; spelled = c.spelled }
 
-  -- lines that were cut off by what was given are so by what stands under its name
+  -- Lines that were cut off by what was given are so by what the shelf reports. The stream was given whole, or the
+  -- lines so far were cut, which are a front of all.
   pub cut_told : (told : Option (List ℕ)) (a b : List ℕ) → IfSome told (λ whole. IsFrontOf whole f) →
       IsCutFetch h table f a b →
       IsCutOff h table told (Some a) (Some b)

@@ -1,4 +1,5 @@
--- Files that the shelf reports, and that say values: they are read so, and none of them stops a run.
+-- If the shelf reports files that tell values, and meets no fault, they are read as values that are alike, and none of
+-- them stops a run unless memory runs out.
 use Rattle.std.proofs.Common.{◌≡◌, ◌<◌, ◌≤◌, ◌∙◌, List, [], ◌∷◌, ◌++◌, Option, Some, None, IfSome, length, sym, ap}
 use Rattle.std.proofs.Common.{subst, arith, inl, inr}
 use Rattle.std.specs.Prelude.{Ok, ⊤}
@@ -22,7 +23,7 @@ use Rattle.cpg_inputs.proofs.OneReading.{AllAlike, IsAlike, not_both, not_refuse
 use Rattle.cpg_inputs.proofs.OneReading.{says_alike, stops_grown}
 use Rattle.cpg_shelf_laws.proofs.Fetched.{agreed, last, more, tells_long, tells_whole}
 
--- bytes say a value, of a scenario without what follows of it
+-- the bytes tell a value: they say it, but for a scenario that it is one of the graph needn't be known
 abbrev pub Tells : Option Graph → FileKind → Text → Value → Type 0
 Tells g GraphFile bytes v = Says g GraphFile bytes v
 Tells g PartFile bytes v = Says g PartFile bytes v
@@ -31,7 +32,8 @@ Tells g LogFile bytes v = Says g LogFile bytes v
 Tells (Some g) ScenarioFile bytes v = (p : Played) × (v ≡ played_value p) × (file_of g bytes ≡ Ok p)
 Tells None ScenarioFile bytes v = ⊥
 
--- two values that the same bytes give leave the same graph for later files; by the kind of file
+-- if the same bytes tell a value and say another, later files are read for the same graph after both; by the kind of
+-- file
 tells_after : (g : Option Graph) (k : FileKind) (bytes : Text) (v w : Value) → Tells g k bytes v → Says g k bytes w →
     graph_after g w ≡ graph_after g v
 tells_after g GraphFile bytes v w x y = says_after g GraphFile bytes v w x y
@@ -42,7 +44,7 @@ tells_after (Some g) ScenarioFile bytes v w (p, e, x) (q, f, y) =
     ap (graph_after (Some g)) f ∙ sym (ap (graph_after (Some g)) e)
 tells_after None ScenarioFile bytes v w x y = absurd x
 
--- two values that the same bytes give are alike; by the kind of file
+-- if the same bytes tell a value and say another, the two are alike; by the kind of file
 tells_alike : (g : Option Graph) (k : FileKind) (bytes : Text) (v w : Value) → Tells g k bytes v → Says g k bytes w →
     IsAlike v w
 tells_alike g GraphFile bytes v w x y = says_alike g GraphFile bytes v w x y
@@ -53,7 +55,7 @@ tells_alike (Some g) ScenarioFile bytes v w (p, e, x) (q, f, y) = subst (λ u. I
     (subst (λ u. IsAlike (played_value p) u) (sym f) (same_value (file_of g bytes) q p y.says x))
 tells_alike None ScenarioFile bytes v w x y = absurd x
 
--- bytes that give a value are refused for memory alone; by the kind of file
+-- bytes that tell a value aren't rejected, unless memory runs out; by the kind of file
 tells_no_refusal : (g : Option Graph) (k : FileKind) (bytes : Text) (v : Value) (h : Halt) → Tells g k bytes v →
     Refuses g k bytes h → h ≡ Memory
 tells_no_refusal g GraphFile bytes v h x r = not_refused g GraphFile bytes v h x r
@@ -63,7 +65,7 @@ tells_no_refusal g LogFile bytes v h x r = not_refused g LogFile bytes v h x r
 tells_no_refusal (Some g) ScenarioFile bytes v h (p, e, x) r = absurd (not_both (file_of g bytes) p r.fault x r.first)
 tells_no_refusal None ScenarioFile bytes v h x r = absurd x
 
--- the shelf reports bytes of each file that say its value, within the limit of its kind
+-- the shelf reports the bytes of each file, within the limit of its kind, and they tell its value
 abbrev pub AreTold : (Text → Option Text) → Option Graph → List File → List Value → Type 0
 AreTold stands g [] [] = ⊤
 AreTold stands g [] (v ∷ vs) = ⊥
@@ -71,10 +73,11 @@ AreTold stands g (f ∷ fs) [] = ⊥
 AreTold stands g (f ∷ fs) (v ∷ vs) = (bytes : Text) × (stands f.name ≡ Some bytes) × (length bytes ≤ limit_of f.kind) ×
     Tells g f.kind bytes v × AreTold stands (graph_after g v) fs vs
 
--- what holds of what the shelf reports holds of the bytes
+-- if the shelf reports these bytes, what holds of what it reports holds of them
 known : (o : Option Text) (bytes : Text) (P : Text → Type 0) → o ≡ Some bytes → IfSome o P → P bytes
 known o bytes P e p = subst (λ o. IfSome o P) e p
 
+-- given a shelf that a run has kept
 module _ (old new : ShelfState) (k : KeepsShelf old new) where
   -- a whole file was given as the shelf reports it
   given_is : (f : File) (fetch : Fetch) (bytes : Text) → old.stands f.name ≡ Some bytes → IsWhole f fetch →
@@ -83,7 +86,8 @@ module _ (old new : ShelfState) (k : KeepsShelf old new) where
   given_is f fetch bytes e w ag =
       known (old.stands f.name) bytes (λ b. b ≡ fetch.given) e (tells_whole old.stands f fetch w ag)
 
-  -- if no count of faults rises, none of the files stops the run, unless memory runs out
+  -- If the shelf meets no fault, none of the files stops the run, unless memory runs out. By induction on the files:
+  -- the first is neither too long nor rejected, or it was read, and a later one stops the run.
   pub none_stops : (Rose old.faults new.faults → ⊥) →
       (g : Option Graph) (files : List File) (past older : List Fetch) (vs : List Value) (h : Halt) →
       past ≡ older ++ old.history →
@@ -115,7 +119,8 @@ module _ (old new : ShelfState) (k : KeepsShelf old new) where
       none_stops still (graph_after g w) fs (fetch ∷ past) (fetch ∷ older) vs h (ap (λ p. fetch ∷ p) e)
       (subst (λ o. AreTold old.stands o fs vs) (sym (tells_after g f.kind fetch.given v w x read.says)) t.4) there
 
-  -- if the files are read, they say the values that the shelf reports
+  -- If the files are read, the values that they say are alike to those that the shelf's bytes tell. By induction on the
+  -- files.
   pub read_as_told : (g : Option Graph) (files : List File) (past older : List Fetch) (vs ws : List Value) →
       past ≡ older ++ old.history →
       AreTold old.stands g files vs →

@@ -1,4 +1,4 @@
--- What values of files are.
+-- What a value of known kind says of the bytes of its file.
 use Rattle.std.proofs.Common.{◌≡◌, Option, Some, ap, subst, sym}
 use Rattle.cpg_base.specs.Graph.{Graph}
 use Rattle.cpg_words.specs.Parts.{Text}
@@ -12,27 +12,27 @@ use Rattle.cpg_inputs.specs.declared.kind.FileKind.TheVariants.{GraphFile, PartF
 use Rattle.cpg_inputs.specs.Says.{Value, graph_value, part_value, tables_value, played_value, log_value, AreAdmitted}
 use Rattle.cpg_inputs.specs.Says.{AreLogged, ArePlayed, AreSpelled, Says}
 
--- the graph that a value is, or a default
+-- the admission that a value is, or d if it is no admitted graph
 abbrev graph_in : Admission → Value → Admission
 graph_in d (graph_value a) = a
 graph_in d v = d
 
--- the part that a value is, or a default
+-- the graph of a part that a value is, or d if it is none
 abbrev part_in : Graph → Value → Graph
 part_in d (part_value g) = g
 part_in d v = d
 
--- the tables that a value is, or a default
+-- the tables that a value is, or d if it is none
 abbrev tables_in : Tables → Value → Tables
 tables_in d (tables_value t) = t
 tables_in d v = d
 
--- the scenario that a value is, or a default
+-- the scenario that a value is, or d if it is none
 abbrev played_in : Played → Value → Played
 played_in d (played_value p) = p
 played_in d v = d
 
--- the log that a value is, or a default
+-- the log that a value is, or d if it is none
 abbrev log_in : Log → Value → Log
 log_in d (log_value l) = l
 log_in d v = d

@@ -1,4 +1,4 @@
--- What each exit status of a run says.
+-- What each exit status of a run says, as the earlier contract said it.
 use Rattle.std.specs.Prelude.{ℕ, ◌≡◌, ◌≢◌, ◌<◌, ◌≤◌, ◌⊎◌, List, [], ◌∷◌, Option, Some, None, Result, Ok, Err, length, ⊤}
 use Rattle.cpg_io.specs.Causes.{Rose}
 use Rattle.cpg_base.specs.Graph.{Graph}
@@ -43,14 +43,13 @@ use Rattle.cpg_live.specs.Streams.{fault_line, stream_end}
 use Rattle.cpg_shelf_laws.specs.Streams.{IsLawfulSoFar, IsRefused}
 use Rattle.cpg_shelf_laws.specs.Sinks.{Untouched, Whole}
 
--- no count of faults rose
+-- neither the shelf nor one of the two sinks met a fault
 pub record IsFaultless (r : Ran) : Type 0 where
-  -- neither the shelf nor the two sinks have met a new fault
   pub shelf : Rose r.shelf.before r.shelf.now → ⊥
   pub out : Rose r.out.before r.out.now → ⊥
   pub err : Rose r.err.before r.err.now → ⊥
 
--- the bytes are those of an admitted graph's file, and at most 16 MiB
+-- the bytes, at most 16 MiB, say a graph, which is admitted with its order and its guards
 pub record AreAdmitted (bytes : Text) (a : Admission) : Type 0 where
   pub short : length bytes ≤ GRAPH_LIMIT
   pub says : problem_of bytes ≡ Ok a.graph
@@ -60,8 +59,9 @@ pub record AreAdmitted (bytes : Text) (a : Admission) : Type 0 where
 abbrev pub AsksFor : Text → Option Command → Type 0
 AsksFor graph asked = (asked ≡ Some (Show graph)) ⊎ (asked ≡ Some (Compile graph))
 
--- the words ask so, the shelf reports the bytes of an admitted graph, and nothing failed
+-- the words ask for the tables of a graph file, the shelf reports the bytes of an admitted graph, and nothing failed
 pub record Asks (r : Ran) (a : Admission) : Type 0 where
+  -- the graph file, and its bytes
   pub graph : Text
   pub bytes : Text
   pub words : AsksFor graph (command_of r.words)
@@ -70,7 +70,8 @@ pub record Asks (r : Ran) (a : Admission) : Type 0 where
   pub file : AreAdmitted bytes a
   pub faultless : IsFaultless r
 
--- the shelf reports the bytes of a scenario of the graph and lengths of executions, which are at most 16 MiB
+-- the shelf reports the bytes of a file, at most 16 MiB, and they say a scenario of the graph with lengths of
+-- executions
 pub record SaysScenario (r : Ran) (g : Graph) (name : Text) : Type 0 where
   pub bytes : Text
   pub told : r.shelf.stands name ≡ Some bytes
@@ -78,7 +79,7 @@ pub record SaysScenario (r : Ran) (g : Graph) (name : Text) : Type 0 where
   pub played : Played
   pub says : file_of g bytes ≡ Ok played
 
--- the shelf reports the bytes of a log of the graph, which are at most 16 MiB
+-- the shelf reports the bytes of a file, at most 16 MiB, and they are a log of the graph
 pub record SaysActs (r : Ran) (g : Graph) (name : Text) : Type 0 where
   pub bytes : Text
   pub told : r.shelf.stands name ≡ Some bytes
@@ -93,11 +94,14 @@ AsksToJudge r g graph pack = (command_of r.words ≡ Some (Check graph pack))
     SaysScenario r g scenario)
     ⊎ ((log : Text) × (command_of r.words ≡ Some (Audit graph pack log)) × SaysActs r g log))
 
--- the words ask so, the shelf reports the bytes of an admitted graph and of tables, and nothing failed
+-- the words ask to judge a pack for a graph, the shelf reports the bytes of an admitted graph and of tables, and
+-- nothing failed
 pub record AsksVerdict (r : Ran) (a : Admission) (t : Tables) : Type 0 where
+  -- the files of the graph and of the pack
   pub graph : Text
   pub pack : Text
   pub words : AsksToJudge r a.graph graph pack
+  -- the bytes of the graph file
   pub bytes : Text
   pub told : r.shelf.stands graph ≡ Some bytes
   pub file : AreAdmitted bytes a
@@ -106,8 +110,9 @@ pub record AsksVerdict (r : Ran) (a : Admission) (t : Tables) : Type 0 where
   pub lawful : AreLawful t
   pub faultless : IsFaultless r
 
--- the words ask for the table of the node of that name, the shelf reports the bytes of tables, and nothing failed
+-- the words ask for the table of a node with this name, the shelf reports the bytes of tables, and nothing failed
 pub record AsksNode (r : Ran) (t : Tables) (name : Text) : Type 0 where
+  -- the file of the pack, which has exactly the bytes that the tables are spelled with
   pub pack : Text
   pub words : command_of r.words ≡ Some (Node pack name)
   pub spelled : r.shelf.stands pack ≡ Some (spelling t)
@@ -116,6 +121,7 @@ pub record AsksNode (r : Ran) (t : Tables) (name : Text) : Type 0 where
 
 -- the words ask to tune a graph file, the shelf reports the bytes of an admitted graph, and nothing failed
 pub record AsksTuning (r : Ran) (a : Admission) : Type 0 where
+  -- the graph file, and its bytes
   pub graph : Text
   pub bytes : Text
   pub words : command_of r.words ≡ Some (Tune graph)
@@ -123,14 +129,14 @@ pub record AsksTuning (r : Ran) (a : Admission) : Type 0 where
   pub file : AreAdmitted bytes a
   pub faultless : IsFaultless r
 
--- the shelf reports the bytes of a graph, which are at most 16 MiB
+-- the shelf reports bytes, at most 16 MiB, and they say a graph
 pub record TellsGraph (told : Option Text) (g : Graph) : Type 0 where
   pub bytes : Text
   pub is : told ≡ Some bytes
   pub short : length bytes ≤ GRAPH_LIMIT
   pub says : problem_of bytes ≡ Ok g
 
--- parts with the periods that the words give, whose graphs the shelf reports
+-- there are as many parts as pairs of words, with the pairs' periods, and the shelf reports the bytes of their graphs
 abbrev pub AreTold : (Text → Option Text) → List Pair → List Part → Type 0
 AreTold stands [] [] = ⊤
 AreTold stands [] (part ∷ parts) = ⊥
@@ -138,52 +144,60 @@ AreTold stands (pair ∷ pairs) [] = ⊥
 AreTold stands (pair ∷ pairs) (part ∷ parts) =
     (part.period ≡ pair.period) × TellsGraph (stands pair.graph) part.problem × AreTold stands pairs parts
 
--- the words ask for the graph of all instances of such parts, and nothing failed
+-- the words ask for the graph of all instances of these parts, the shelf reports their bytes, and nothing failed
 pub record AsksUnrolling (r : Ran) (parts : List Part) : Type 0 where
+  -- the words give a period and a graph file for each part
   pub pairs : List Pair
   pub words : command_of r.words ≡ Some (Hyper pairs)
   pub told : AreTold r.shelf.stands pairs parts
   pub faultless : IsFaultless r
 
--- the words ask the node of that name to follow a stream, the shelf reports the bytes of tables and of the stream, and
+-- the words ask a node with this name to follow a stream, the shelf reports the bytes of tables and of the stream, and
 -- nothing failed
 pub record AsksStream (r : Ran) (t : Tables) (name bytes : Text) : Type 0 where
+  -- the files of the pack and of the stream
   pub pack : Text
   pub stream : Text
   pub words : command_of r.words ≡ Some (Live pack name stream)
+  -- the pack has exactly the bytes that the tables are spelled with
   pub spelled : r.shelf.stands pack ≡ Some (spelling t)
   pub lawful : AreLawful t
   pub told : r.shelf.stands stream ≡ Some bytes
   pub faultless : IsFaultless r
 
--- the status of a stream's end: 0 at its close, and 4 if the stream is rejected
+-- the status by a stream's end: 0 if it is its close, and 4 if the stream is rejected
 abbrev pub status_of_end : Result ℕ StreamFault → ℕ
 status_of_end (Ok time) = 0
 status_of_end (Err fault) = 4
 
--- the shelf met a fault in a stream; the lines of the records before it were written
+-- the shelf met a fault in a stream, and the lines of the records before it were written
 pub record IsUnreadStream (r : Ran) : Type 0 where
   pub follows : Follows r
+  -- the lines of the records before the fault, all of them lawful
   pub lines : Text
   pub lawful : IsLawfulSoFar follows.tables.head (table_of follows) (r.shelf.stands follows.stream) r.shelf.given lines
   pub out : Whole r.out lines
+  -- `err` took the line that says that a file couldn't be read
   pub err : Whole r.err (line_of Read)
 
--- A stream is rejected; the lines of the records before were written. It is rejected as too long only if more bytes
--- were given than the limit.
+-- a stream was rejected, and the lines of the lawful records before the place of the fault were written
 pub record IsRefusedStream (r : Ran) : Type 0 where
   pub follows : Follows r
+  -- why it is rejected
   pub fault : StreamFault
+  -- the lines of the records before the fault
   pub lines : Text
   pub refused : IsRefused follows.tables.head (table_of follows) (r.shelf.stands follows.stream) fault lines
-  -- a stream is too long only if the shelf gave more bytes than the limit
+  -- it is refused as too long only if the shelf gave more bytes than the limit
   pub over : fault ≡ Long → STREAM_LIMIT < r.shelf.given
   pub out : Whole r.out lines
+  -- `err` took the line that says the fault
   pub err : Whole r.err (fault_line fault)
 
 -- the status is 6, and some item is too wide by its views under the first order
 pub record IsRefusedAsWide (r : Ran) (a : Admission) : Type 0 where
   pub status : r.status ≡ 6
+  -- the item, which is too wide under the order that is tried first
   pub item : ℕ
   pub wide : IsWide a.graph (first_order a.graph a.order) item
 
@@ -217,12 +231,11 @@ pub record IsLawful (r : Ran) : Type 0 where
   -- follows meets a fault of the shelf or is rejected, the lines of the records before were written.
   pub silent : r.status ≢ 0 → r.status ≢ 3 →
       Untouched r.out ⊎ (((r.status ≡ 2) × IsUnreadStream r) ⊎ ((r.status ≡ 4) × IsRefusedStream r))
-  -- If such a graph gives no order and some item is too wide by its views under its urgency order, it is rejected as
-  -- too wide.
-  -- Otherwise the graph is shown or packed if every process ends by its due in every scenario, under the order that the
-  -- graph gives, or under its urgency order or its track order. If some process doesn't, the graph is rejected as late.
-  -- If the graph gives an order under which some item is too wide by its views, it may be rejected as too wide instead.
-  -- In each case memory may run out.
+  -- If a graph gives no order and some item is too wide by its views under its urgency order, the graph is rejected as
+  -- too wide. Otherwise the graph is shown or packed if every process ends by its due in every scenario, under the
+  -- order that the graph gives, or under its urgency order or its track order. If some process doesn't, the graph is
+  -- rejected as late. If the graph gives an order under which some item is too wide by its views, it may be rejected as
+  -- too wide instead. In each case memory may run out.
   pub wide : (a : Admission) (x : ℕ) → Asks r a → a.graph.order ≡ None →
       IsWide a.graph (first_order a.graph a.order) x →
       (r.status ≡ 6) ⊎ (r.status ≡ 8)
@@ -258,7 +271,8 @@ pub record IsLawful (r : Ran) : Type 0 where
   pub apart : (parts : List Part) (fault : HyperFault) → AsksUnrolling r parts → ShowsUnrolled parts (Err fault) →
       fault ≢ OutOfMemory →
       (r.status ≡ 4) ⊎ (r.status ≡ 8)
-  -- such a node follows a stream to its close, or the stream is rejected; in both cases memory may run out
+  -- The first node that has the name follows the stream to its close, or the stream is rejected. A name that no node
+  -- has is rejected. In each case memory may run out.
   pub followed : (t : Tables) (name bytes : Text) (node : ℕ) → AsksStream r t name bytes →
       first_named t.head name ≡ Some node →
       (r.status ≡ status_of_end (stream_end (table_at t.nodes node) bytes)) ⊎ (r.status ≡ 8)

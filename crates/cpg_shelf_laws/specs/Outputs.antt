@@ -1,4 +1,5 @@
--- What a command puts out, in terms of what the shelf reports for its files.
+-- What a command puts out, in terms of what the shelf reports for its files. The shelf reports the bytes of a file, or
+-- `None`, of which nothing is required.
 use Rattle.std.specs.Prelude.{ℕ, ◌≡◌, ◌≤◌, List, Option, None, Some, ⊤}
 use Rattle.cpg_base.specs.Graph.{Graph}
 use Rattle.cpg_words.specs.Parts.{Text}
@@ -25,19 +26,19 @@ use Rattle.cpg_shelf_laws.specs.Causes.{Seen, Admits, AreSaid, SaysPlayed, Spell
 use Rattle.cpg_shelf_laws.specs.Causes.{LOG_LIMIT, PACK_LIMIT}
 use Rattle.cpg_shelf_laws.specs.Streams.{IsClosed}
 
--- the bytes are made of the graph that the file says
+-- the bytes are those that `spell` gives for a compilation of the graph that a file says
 abbrev pub IsMade : Option Text → (Graph → Compiled → Text) → Text → Type 0
 IsMade told spell bytes = (a : Admission) × Admits told a × IsMadeOf a spell bytes
 
--- the fact holds of the tables that the bytes of a pack spell
+-- the fact holds of the tables that a pack spells
 abbrev pub IsSpelled : Option Text → (Tables → Type 0) → Type 0
 IsSpelled told fact = (t : Tables) × Spells told t × fact t
 
--- the text is that of the table of the first node of that name, in the tables of a pack
+-- the text is that of the table of the first node that has this name in the tables of a pack
 abbrev pub IsNodeOf : Option Text → Text → Text → Type 0
 IsNodeOf told name text = IsSpelled told (λ t. IsNodeText t name text)
 
--- the text has all lines of a stream, which the first node of that name follows to its close
+-- the text has all lines of a stream that the first node with this name follows to its close
 pub record IsFollowed (t : Tables) (name : Text) (stream : Option Text) (text : Text) : Type 0 where
   pub node : ℕ
   -- the first node of this name
@@ -87,7 +88,7 @@ IsUnrolledOf stands pairs text = (parts : List Part) × AreSaid stands pairs par
 abbrev pub IsTunedOf : Option Text → Text → Type 0
 IsTunedOf told text = (a : Admission) × Admits told a × IsTuningText a.graph text
 
--- what each of the ten commands puts out, in terms of its files
+-- a command, one of ten, puts out this text, in terms of what the shelf reports for its files
 abbrev pub IsOutputOf : Seen → Command → Text → Type 0
 IsOutputOf seen (Show graph) text = IsMade (seen.stands graph) shown text
 IsOutputOf seen (Compile graph) text = IsMade (seen.stands graph) packed text
@@ -101,7 +102,7 @@ IsOutputOf seen (Hyper parts) text = IsUnrolledOf seen.stands parts text
 IsOutputOf seen (Tune graph) text = IsTunedOf (seen.stands graph) text
 IsOutputOf seen (Audit graph pack log) text = IsAuditOf (seen.stands graph) (seen.stands pack) (seen.stands log) text
 
--- the file that each of the ten commands reads last gave no more bytes than its limit
+-- the file that the command reads last gave no more bytes than its limit; `trial` reads none
 abbrev pub ReadsWithin : Command → ℕ → Type 0
 ReadsWithin (Show graph) given = given ≤ GRAPH_LIMIT
 ReadsWithin (Compile graph) given = given ≤ GRAPH_LIMIT
@@ -117,10 +118,11 @@ ReadsWithin (Audit graph pack log) given = given ≤ LOG_LIMIT
 -- A command puts out a text. The file that it reads last gave no more bytes than its limit, even if the shelf reports
 -- nothing of it.
 pub record PrintsCommand (seen : Seen) (command : Command) (text : Text) : Type 0 where
+  -- given what the shelf reports, the text is the command's output
   pub output : IsOutputOf seen command text
   pub within : ReadsWithin command seen.given
 
--- words that form no command put out nothing
+-- the command, if the words form one, puts out the text
 abbrev pub PrintsAsked : Seen → Option Command → Text → Type 0
 PrintsAsked seen None text = ⊥
 PrintsAsked seen (Some command) text = PrintsCommand seen command text

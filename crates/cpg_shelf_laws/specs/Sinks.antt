@@ -29,6 +29,7 @@ Untouched sink = Keeps sink.old sink.new
 -- the sink met a fault, and took a proper prefix of the bytes
 pub record Part (sink : SinkSeen) (bytes : List ℕ) : Type 0 where
   pub rose : Rose sink.before sink.now
+  -- if the bytes before and after are known, they say how far it came
   pub prefix : TookPrefix sink.old sink.new bytes
 
 -- Bytes were sent to a sink under a status. Status 3 means that the sink met a fault; under any other they were taken
@@ -37,6 +38,6 @@ pub record Sent (sink : SinkSeen) (status wanted : ℕ) (bytes : List ℕ) : Typ
   pub whole : status ≢ 3 → (status ≡ wanted) × Whole sink bytes
   pub part : status ≡ 3 → Part sink bytes
 
--- a sink as it is now, which always reports what it took
+-- what a run sees of a sink as sinks are now, which always report what they took
 abbrev pub telling : SinkSeenRun → SinkSeen
 telling s = record { before = s.before; now = s.now; old = Some s.old; new = Some s.new }

@@ -17,26 +17,28 @@ use Rattle.cpg_shelf_laws.specs.Sinks.{TookPrefix}
 abbrev pub AreBytesOf : Option (List ℕ) → List ℕ → Type 0
 AreBytesOf told bytes = IfSome told (λ whole. bytes ≡ whole)
 
--- a stream that is lawful to its end, with all its lines
+-- a stream is lawful to its close, and these are all its lines
 pub record IsClosed (h : Head) (table : NodeTable) (told : Option (List ℕ)) (lines : List ℕ) : Type 0 where
   pub bytes : List ℕ
+  -- the bytes are the stream's, if these are known
   pub of : AreBytesOf told bytes
   pub time : ℕ
   -- the stream is lawful and has its close at this time
   pub ends : stream_end table bytes ≡ Ok time
   pub spelled : lines ≡ stream_lines h table bytes
 
--- a stream that is rejected, with the lines of the records before
+-- a stream is rejected, and these are the lines of the lawful records before the place of the fault
 pub record IsRefused (h : Head) (table : NodeTable) (told : Option (List ℕ)) (fault : StreamFault)
     (lines : List ℕ) : Type 0 where
   pub bytes : List ℕ
+  -- the bytes are the stream's, if these are known
   pub of : AreBytesOf told bytes
   pub ends : stream_end table bytes ≡ Err fault
   -- the fault `Long` says that all bytes up to the limit are lawful, have no close, and at least one byte more came
   pub long : fault ≡ Long → IsTooLong table bytes
   pub spelled : lines ≡ stream_lines h table bytes
 
--- the first bytes of a stream, as many as the shelf gave; their records are all lawful, and these are their lines
+-- the records in the first bytes of a stream, as many as the shelf gave, are all lawful, and these are their lines
 pub record IsLawfulSoFar (h : Head) (table : NodeTable) (told : Option (List ℕ)) (given : ℕ)
     (lines : List ℕ) : Type 0 where
   pub bytes : List ℕ
@@ -47,15 +49,15 @@ pub record IsLawfulSoFar (h : Head) (table : NodeTable) (told : Option (List ℕ
   pub lawful : (after table bytes).lawless ≡ None
   pub spelled : lines ≡ act_lines h (after table bytes).progress.acts
 
--- a proper prefix of all lines of a stream was written
+-- only a proper prefix of all lines of a stream was written
 pub record IsCutOff (h : Head) (table : NodeTable) (told old new : Option (List ℕ)) : Type 0 where
   pub bytes : List ℕ
+  -- the bytes are the stream's, if these are known
   pub of : AreBytesOf told bytes
-  -- only a front part of the lines was written, not all of them
+  -- `out` took a proper prefix of the lines
   pub front : TookPrefix old new (stream_lines h table bytes)
 
--- What a run sees of a stream's shelf and of `out`: the bytes of the stream, how many were given, and, before and
--- after, the counts of faults and what was taken.
+-- what a run sees of a stream, of the shelf and of `out`
 pub record Stream : Type 0 where
   -- the bytes of the stream, if they are known
   pub told : Option (List ℕ)
@@ -70,12 +72,13 @@ pub record Stream : Type 0 where
   pub old : Option (List ℕ)
   pub new : Option (List ℕ)
 
--- A stream is followed to its close: all its lines are written, and no more bytes were given than the limit.
+-- a stream is followed to its close: all its lines are written, and no more bytes were given than the limit
 abbrev pub Completes : Head → NodeTable → Stream → Type 0
 Completes h table r =
     (lines : List ℕ) × IsClosed h table r.told lines × Appends r.old r.new lines × (r.given ≤ STREAM_LIMIT)
 
--- a stream isn't followed to its close; it is too long only if more bytes were given than the limit
+-- A stream isn't followed to its close: the shelf met a fault, `out` met one, or the stream is rejected. It is too long
+-- only if more bytes were given than the limit.
 abbrev pub Breaks : Head → NodeTable → Stream → Broken → Type 0
 Breaks h table r Shelf = Rose r.shelf_before r.shelf_now ×
     ((lines : List ℕ) × IsLawfulSoFar h table r.told r.given lines × Appends r.old r.new lines)

@@ -1,5 +1,4 @@
--- A run as the earlier contract saw it, which was stated over what the shelf reports for the names. The run keeps that
--- contract too.
+-- A run keeps the earlier contract too, which was stated over what the shelf reports as the bytes of its files.
 use Rattle.cpg_io.specs.Shelf.{KeepsShelf}
 use Rattle.cpg_app.specs.Endings.{Ran as Run}
 use Rattle.cpg_app.specs.Lawful.{IsLawful as IsLawfulRun}
@@ -18,7 +17,6 @@ told_of r = record {
   status = r.status;
 }
 
--- What a run says of the bytes that its fetches gave, it also says of what stands under their names, if the shelf
--- reports that.
+-- a lawful run that keeps its shelf is lawful as the earlier contract sees it
 abbrev pub RunsKeepWhatWasTold : Type 0
 RunsKeepWhatWasTold = (r : Run) → IsLawfulRun r → KeepsShelf r.shelf.old r.shelf.new → IsLawful (told_of r)

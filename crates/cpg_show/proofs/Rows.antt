@@ -1,4 +1,4 @@
--- One more row of a sheet, and the text of tables by their rows.
+-- One more part of a sheet, and the text of tables by their rows.
 use Rattle.std.proofs.Common.{◌≡◌, ℕ, ◌+◌, List, [], ◌∷◌, ◌++◌, if◌then◌else◌, true, false, refl, flat_map}
 use Rattle.std.proofs.Common.{string_bytes, append-nil, sym, ap, ap₂, ◌∙◌}
 use Rattle.std.proofs.lemmas.Grind.{flat_map-append}
@@ -18,27 +18,28 @@ use Rattle.cpg_show.specs.TableText.{head_line, is_shown, item_text, lines_of_ro
 use Rattle.cpg_show.specs.TableText.{worst_line}
 use Rattle.cpg_show.specs.declared.sheet.SheetPart.{SheetPart}
 
--- a source has the columns that it shows
+-- the columns of a source are those that it shows
 source_shows : (source : RowSource) (columns : List Column) → ShowsSource source columns →
     columns_of_source source ≡ columns
 source_shows (Listed listed) columns is = is
 source_shows (Kept tree) columns is = is
 
--- one more row adds its text
+-- one more part adds its text
 pushed : (labels : Labels) (rows : List SheetPart) (part : SheetPart) →
     flat_map (part_text labels) (rows ++ part ∷ []) ≡ flat_map (part_text labels) rows ++ part_text labels part
 pushed labels rows part = flat_map-append (part_text labels) rows (part ∷ [])
     ∙ ap (λ t. flat_map (part_text labels) rows ++ t) (append-nil (part_text labels part))
 
+-- given `made`, a row for each item, and the parts (`rows`) of the items below n
 module _ (g : Graph) (made : List Row) (labels : Labels) (n : ℕ) (rows : List SheetPart) where
-  -- the lines of the rows up to the next number
+  -- the lines of the items below n + 1 are those of the items below n and then those of item n
   next : flat_map (lines_of_row g made) (numbers_below (n + 1)) ≡ flat_map (lines_of_row g made) (numbers_below n)
       ++ lines_of_row g made n
   next = ap (flat_map (lines_of_row g made)) (below_push n)
       ∙ flat_map-append (lines_of_row g made) (numbers_below n) (n ∷ []) ∙
       ap (λ t. flat_map (lines_of_row g made) (numbers_below n) ++ t) (append-nil (lines_of_row g made n))
 
-  -- an item without lines adds no part to the text of the rows
+  -- an item n without lines adds no part: the parts are those of the items below n + 1
   pub hidden_more : is_shown g n ≡ false →
       flat_map (lines_of_row g made) (numbers_below n) ≡ flat_map (part_text labels) rows →
       flat_map (lines_of_row g made) (numbers_below (n + 1)) ≡ flat_map (part_text labels) rows
@@ -47,7 +48,7 @@ module _ (g : Graph) (made : List Row) (labels : Labels) (n : ℕ) (rows : List 
       next ∙ ap (λ t. flat_map (lines_of_row g made) (numbers_below n) ++ t) none
       ∙ append-nil (flat_map (lines_of_row g made) (numbers_below n)) ∙ e
 
-  -- an item with lines adds its part to the text of the rows
+  -- an item n with lines adds its part: with it, the parts are those of the items below n + 1
   pub shown_more : (part : SheetPart) → is_shown g n ≡ true → labels ≡ labels_of g →
       string_bytes part.head ≡ head_line g n →
       ShowsSource part.columns (row_for made n).columns →
@@ -59,7 +60,7 @@ module _ (g : Graph) (made : List Row) (labels : Labels) (n : ℕ) (rows : List 
       (ap₂ columns_text names (source_shows part.columns (row_for made n).columns columns)))) in
       next ∙ ap₂ (λ before last. before ++ last) e one ∙ sym (pushed labels rows part)
 
--- tables that have these rows have their text
+-- the text of tables in which each item has the columns of its row is the text of these rows
 pub tables_have_text : (g : Graph) (order : List ℕ) (rows : List Row) (worst : ℕ) (tables : List NodeTable) →
     ((x : ℕ) → columns_of tables x ≡ (row_for rows x).columns) →
     table_text g order tables worst ≡ text_of_rows g order rows worst

@@ -1,4 +1,5 @@
--- The order of a trace: the derived order keeps it, and if no two events have one key there is one such order.
+-- The order of a trace: the derived order of the code keeps it, and if no two events have the same key there is just one
+-- such order, and one text.
 use Rattle.std.proofs.Common.{◌≡◌, ◌≢◌, ℕ, ◌+◌, Bool, true, false, not, ◌&&◌, List, ◌++◌, get_or, flat_map, AllPairs}
 use Rattle.std.proofs.Common.{IsPermutation, Ordering, Less, Equal, Greater, arith, refl, sym, ap, ◌∙◌}
 use Rattle.std.proofs.Common.{true≢false}
@@ -20,20 +21,21 @@ use Rattle.cpg_show.specs.declared.event.EventKind.TheVariants.{End, Send, Start
 use Rattle.cpg_show.specs.TraceEvents.{EventKind, TraceEvent, AreToldInOrder, all_events, kind_key, event_key}
 use Rattle.cpg_show.specs.TraceText.{IsTraceText, event_line, finish_line}
 
--- a comparison stays not less if its later part is replaced by one that isn't less when the old part isn't
+-- a comparison by o and then by p that isn't less stays so with q for p, if q isn't less whenever p isn't
 then_weaker : (o p q : Ordering) → (is_lt p ≡ false → is_lt q ≡ false) → is_lt (ordering_then o p) ≡ false →
     is_lt (ordering_then o q) ≡ false
 then_weaker Less p q h k = k
 then_weaker Equal p q h k = h k
 then_weaker Greater p q h k = k
 
--- comparing further by what is equal changes nothing
+-- a comparison that isn't less stays so if nothing more is compared
 then_equal : (o : Ordering) → is_lt o ≡ false → is_lt (ordering_then o Equal) ≡ false
 then_equal Less h = h
 then_equal Equal h = h
 then_equal Greater h = h
 
--- the derived order goes on to compare what the keys leave out
+-- a kind that isn't less by the derived order hasn't a lower key; the derived order goes on to compare the fault count and
+-- the value, which keys leave out
 kind_order : (d e : EventKind) → is_lt ((kind_ord.ghosts).cmp d e) ≡ false → is_below (kind_key d) (kind_key e) ≡ false
 kind_order (End p f v) (End q g w) h = then_weaker (nat_cmp p q) _ Equal (λ _. refl) h
 kind_order (End p f v) (Send y) h = h
@@ -45,22 +47,22 @@ kind_order (Start p) (End q g w) h = refl
 kind_order (Start p) (Send y) h = refl
 kind_order (Start p) (Start q) h = then_equal (nat_cmp p q) h
 
--- an event that the derived order doesn't put first has no lower key
+-- an event that isn't less by the derived order hasn't a lower key: time, node and kind are compared in this order
 event_order : (a b : TraceEvent) → is_lt ((event_ord.ghosts).cmp a b) ≡ false →
     is_below (event_key a) (event_key b) ≡ false
 event_order a b h = then_weaker (nat_cmp a.time b.time) _ _
     (then_weaker (nat_cmp a.node b.node) ((kind_ord.ghosts).cmp a.kind b.kind)
     (slice_cmp nat_cmp (kind_key a.kind) (kind_key b.kind)) (kind_order a.kind b.kind)) h
 
--- one event comes before another
+-- whether one event comes before another in a trace
 abbrev is_event_below : TraceEvent → TraceEvent → Bool
 is_event_below a b = is_below (event_key a) (event_key b)
 
--- the order by keys is a strict weak order
+-- the order by keys is a strict weak order, as that of lists of numbers is
 is_total : IsStrictWeakOrder is_event_below
 is_total = ranks_by nat_list_cmp_total event_key
 
--- a sort by the derived order gives the order of a trace
+-- events that are sorted by the derived order are in the order of a trace
 pub in_order : (events : List TraceEvent) → IsSorted (event_ord.ghosts).cmp events →
     AllPairs (λ a b. is_below (event_key b) (event_key a) ≡ false) events
 in_order events up i j d h l = sorted_far is_event_below is_total events
@@ -68,30 +70,30 @@ in_order events up i j d h l = sorted_far is_event_below is_total events
 
 -- ---- if no two events have one key there is one order, and one text
 
--- neither comes before the other
+-- whether neither of two events comes before the other
 abbrev is_tied : TraceEvent → TraceEvent → Bool
 is_tied a b = not (is_event_below a b) && not (is_event_below b a)
 
--- neither of two, in either order
+-- neither is neither in either order
 and_flips : (x y : Bool) → (not x && not y) ≡ (not y && not x)
 and_flips true true = refl
 and_flips true false = refl
 and_flips false true = refl
 and_flips false false = refl
 
--- if not both are false, not both tests say no
+-- if two tests aren't both false, their negations aren't both true
 not_both : (x y : Bool) → (x ≡ false → y ≡ false → ⊥) → (not x && not y) ≡ false
 not_both true y h = refl
 not_both false true h = refl
 not_both false false h = absurd (h refl refl)
 
--- if not both say no and one does, the other says yes
+-- if their negations aren't both true, and y is false, x is true
 before_from : (x y : Bool) → (not x && not y) ≡ false → y ≡ false → x ≡ true
 before_from true y h k = refl
 before_from false true h k = absurd (true≢false k)
 before_from false false h k = absurd (true≢false h)
 
--- events in order whose keys differ rise
+-- if no two events of xs have the same key, those of xs in order (ys) rise: of two, neither is after and not both are tied
 rises : (xs ys : List TraceEvent) → AllPairs (λ a b. event_key a ≢ event_key b) xs → IsPermutation xs ys →
     AllPairs (λ a b. is_below (event_key b) (event_key a) ≡ false) ys →
     AllPairs (λ a b. is_event_below a b ≡ true) ys
@@ -105,7 +107,7 @@ rises xs ys apart p up i j d h l =
     h l)
     (up i j d h l)
 
--- there is one order of all events
+-- if no two events have the same key, two lists of all events in order are equal
 one_events : (g : Graph) (acts : List (List Act)) (ends : List (List (ℕ × Ended))) (xs ys : List TraceEvent) →
     AllPairs (λ a b. event_key a ≢ event_key b) (all_events g acts ends) →
     AreToldInOrder g acts ends xs → AreToldInOrder g acts ends ys → xs ≡ ys

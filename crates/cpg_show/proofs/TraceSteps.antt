@@ -1,4 +1,4 @@
--- One more node of a trace, and that all of its events are of items of the graph.
+-- The events of one node more, and that all events of a trace are of items and processes of the graph.
 use Rattle.std.proofs.Common.{◌≡◌, ℕ, ◌+◌, ◌<◌, List, [], ◌++◌, length, get_or, map, flat_map, fold, max, All, refl}
 use Rattle.std.proofs.Common.{sym, ap, ◌∙◌, subst, inl, inr}
 use Rattle.std.proofs.lemmas.List.{append_assoc}
@@ -16,7 +16,7 @@ use Rattle.cpg_show.specs.TraceText.{end_times}
 use Rattle.cpg_label.proofs.Steps.{next_piece}
 
 module _ (g : Graph) (acts : List (List Act)) (ends : List (List (ℕ × Ended))) where
-  -- with the acts and the ends of the next node added, the events are those of one node more
+  -- if `before` are the events of the nodes below i, then with the acts of node i and its ends they are those below i + 1
   pub one_node : (i : ℕ) (before middle after : List TraceEvent) →
       before ≡ flat_map (node_events g acts ends) (numbers_below i) →
       middle ≡ before ++ map (event_of_act g i) (get_or acts i [])
@@ -26,7 +26,7 @@ module _ (g : Graph) (acts : List (List Act)) (ends : List (List (ℕ × Ended))
       (a ∙ ap (λ xs. xs ++ map (event_of_end i) (get_or ends i [])) m
       ∙ append_assoc before (map (event_of_act g i) (get_or acts i [])) (map (event_of_end i) (get_or ends i []))))
 
-  -- the kind of an act on an item of the graph is within the graph
+  -- the kind of an act on an item of the graph is of a process or an item of the graph
   kind_within : (x : ℕ) → x < item_count g → IsKindWithin g (kind_of (item_at g x) x)
   kind_within x l = elim (item_cases g x l) [
     | inl c ↦ subst (λ (i : Item). IsKindWithin g (kind_of i x)) (sym c.1) c.0
@@ -34,7 +34,7 @@ module _ (g : Graph) (acts : List (List Act)) (ends : List (List (ℕ × Ended))
     | inr (inr c) ↦ subst (λ (i : Item). IsKindWithin g (kind_of i x)) (sym c.3) l
   ]
 
-  -- the kinds of all events of a node are within the graph
+  -- if the acts and ends of a node are of items and processes of the graph, so are its events
   node_within : (i : ℕ) → All (IsActWithin g) (get_or acts i []) → All (IsEndWithin g) (get_or ends i []) →
       All (λ e. IsKindWithin g e.kind) (node_events g acts ends i)
   node_within i a h = All-append (λ (e : TraceEvent). IsKindWithin g e.kind) (map (event_of_act g i) (get_or acts i []))
@@ -44,7 +44,7 @@ module _ (g : Graph) (acts : List (List Act)) (ends : List (List (ℕ × Ended))
       (All-map (λ (e : TraceEvent). IsKindWithin g e.kind) (event_of_end i) (get_or ends i [])
       (λ k d l. ((h k d l).process, (h k d l).faults)))
 
-  -- if the acts and ends of all nodes are of items of the graph, all events are
+  -- if this holds of each node, it holds of all events: each is an event of some node
   pub all_within : ((i : ℕ) → i < length g.nodes → All (IsActWithin g) (get_or acts i [])) →
       ((i : ℕ) → i < length g.nodes → All (IsEndWithin g) (get_or ends i [])) →
       All (λ e. IsKindWithin g e.kind) (all_events g acts ends)
@@ -55,7 +55,7 @@ module _ (g : Graph) (acts : List (List Act)) (ends : List (List (ℕ × Ended))
       All-contains (λ (e : TraceEvent). IsKindWithin g e.kind) (node_events g acts ends there.0)
       (get_or (all_events g acts ends) k d) (node_within there.0 (a there.0 i) (h there.0 i)) there.2
 
--- the greatest end, of one node more
+-- if `before` is the greatest end of the nodes below i, the greatest of it and the ends of node i is that below i + 1
 pub one_finish : (ends : List (List (ℕ × Ended))) (i before after : ℕ) →
     before ≡ greatest (flat_map (end_times ends) (numbers_below i)) →
     after ≡ fold max before (end_times ends i) →

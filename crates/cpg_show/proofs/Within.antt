@@ -1,4 +1,4 @@
--- The acts and ends of a play are of items and processes of the graph, with no more faults than it has.
+-- The acts and ends of a play are on items and of processes of the graph, and an end has at most the graph's faults.
 use Rattle.std.proofs.Common.{ℕ, ◌≡◌, ◌<◌, ◌≤◌, ◌==◌, List, [], All, Contains, length, get_or, ap, subst, arith, inl}
 use Rattle.std.proofs.Common.{inr}
 use Rattle.std.proofs.lemmas.Bool.{cases_lt}
@@ -17,7 +17,7 @@ use Rattle.cpg_cluster.proofs.Passed.{played_reached}
 use Rattle.cpg_cluster.proofs.Plays.{played_of}
 use Rattle.cpg_show.specs.TraceEvents.{IsActWithin, IsEndWithin}
 
--- a process fails no more often than there may be faults
+-- a process has at most the graph's faults in a lawful scenario, since all together have
 fault_within : (g : Graph) (s : Scenario) → IsScenario g s → (p : ℕ) → fault_of s p ≤ g.faults
 fault_within g s law p = elim (cases_lt p (length s.faults)) [
   | inl l ↦ omega (arith, get_or-le-sum_by (λ x. x) s.faults p 0 l, law.budget)
@@ -25,7 +25,7 @@ fault_within g s law p = elim (cases_lt p (length s.faults)) [
 ]
 
 module _ (p : Playing) (is : IsPlaying p) where
-  -- what is known of a play of these tables
+  -- what is known of any play of these tables
   k : Played p.graph p.tables p.world
   k = played_of p.graph p.tables is.formed is.shape is.valid p.world is.world
 
@@ -37,7 +37,8 @@ module _ (p : Playing) (is : IsPlaying p) where
       All-weaker (Contains acts) (IsActWithin p.graph) (λ a h. (done.only a h).0.row.within) acts
       (All-contains_itself acts)
 
-  -- its ends are of processes of the graph, with no more faults than it has
+  -- its ends are those of its processes in the scenario, so their faults are at most the graph's: each end of the
+  -- cluster is one that was planned for a process on the node, with the faults of the scenario
   ends_within : (node : ℕ) → node < length p.graph.nodes → All (IsEndWithin p.graph) (get_or p.cluster.ends node [])
   ends_within node l =
       let g = p.graph in
@@ -56,14 +57,14 @@ module _ (p : Playing) (is : IsPlaying p) where
 
 -- The same of the graph as code sees it.
 
--- the acts of each node of a play are of items of the graph
+-- the acts of each node of a play are on items of the graph
 pub acts_at : (p : Playing) → IsPlaying p → (g : Graph) → p.graph ≡ g → (node : ℕ) → node < length g.nodes →
     All (IsActWithin g) (get_or p.cluster.acts node [])
 acts_at p is g same =
     subst (λ (g : Graph). (node : ℕ) → node < length g.nodes → All (IsActWithin g) (get_or p.cluster.acts node [])) same
     (acts_within p is)
 
--- the ends of each node of a play are of processes of the graph, with no more faults than it has
+-- the ends of each node of a play are of processes of the graph, with at most the graph's faults
 pub ends_at : (p : Playing) → IsPlaying p → (g : Graph) → p.graph ≡ g → (node : ℕ) → node < length g.nodes →
     All (IsEndWithin g) (get_or p.cluster.ends node [])
 ends_at p is g same =

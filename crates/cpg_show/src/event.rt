@@ -5,16 +5,16 @@ ghost use Rattle.cpg_show.specs.TraceEvents.{IsActWithin, event_of_act, event_of
 use cpg_base::{Item, Problem};
 use cpg_node::{Act, Ended};
 
-/// What a node did. At one time a trace lists ends before sends, and sends before starts.
+/// What a node did. The order is that of a trace at one time and node: ends, then sends, then starts.
 #[derive(Clone, Copy, Debug, PartialEq, Eq, PartialOrd, Ord)]
 pub enum EventKind {
     /// An execution ended.
     End {
         /// The number of the process.
         process: u32,
-        /// How often it failed.
+        /// How many faults it had.
         faults: u8,
-        /// The value of its condition, and false if it has none.
+        /// The value of its condition; false if it has none.
         value: bool,
     },
     /// A message or a broadcast was sent.
@@ -29,7 +29,7 @@ pub enum EventKind {
     },
 }
 
-/// What a node did at a time. The order is the one that a trace has.
+/// What a node did, and when. The order is that of a trace: by time, then by node, then by kind.
 #[derive(Clone, Copy, Debug, PartialEq, Eq, PartialOrd, Ord)]
 pub struct TraceEvent {
     /// When it was, in time units of the graph file.
@@ -40,7 +40,7 @@ pub struct TraceEvent {
     pub kind: EventKind,
 }
 
-/// A start or a send as an event.
+/// Returns the act of a node, a start or a send, as an event.
 pub(crate) fn event_of_act(problem: &Problem, node: u32, act: &Act) -> TraceEvent
     requires { IsActWithin problem.now act.now }
     ensures { result ≡ event_of_act problem.now node act.now }
@@ -56,7 +56,7 @@ pub(crate) fn event_of_act(problem: &Problem, node: u32, act: &Act) -> TraceEven
     }
 }
 
-/// The end of an execution as an event.
+/// Returns the end of an execution on a node, at the time `end.0`, as an event.
 pub(crate) fn event_of_end(node: u32, end: &(u64, Ended)) -> TraceEvent
     ensures { result ≡ event_of_end node end.now }
 {

@@ -1,4 +1,4 @@
-//! All events of a trace, in order.
+//! All events of a trace, in order. Here every error is `OutOfMemory`.
 ghost use Rattle.std.specs.Prelude.{◌≡◌, ◌++◌, All, IfOk, OnOk, map};
 ghost use Rattle.cpg_cluster.specs.Playing.{IsPlaying};
 ghost use Rattle.cpg_show.specs.TraceEvents.{AreToldInOrder, IsActWithin, all_events, event_of_act, event_of_end};
@@ -9,7 +9,7 @@ use cpg_cluster::Cluster;
 use cpg_node::{Act, Ended};
 use std::alloc::Global;
 
-/// Adds the starts and sends of a node.
+/// Adds the starts and sends of a node as events.
 fn add_acts(
     events: &mut Vec<TraceEvent>,
     problem: &Problem,
@@ -25,7 +25,7 @@ fn add_acts(
     Ok(())
 }
 
-/// Adds the ends of a node.
+/// Adds the ends of a node's executions as events.
 fn add_ends(
     events: &mut Vec<TraceEvent>,
     node: u32,
@@ -39,7 +39,7 @@ fn add_ends(
     Ok(())
 }
 
-/// All events, node by node.
+/// Returns the events of all nodes, node by node.
 fn gathered(
     alloc: Global,
     problem: &Problem,
@@ -57,7 +57,7 @@ fn gathered(
     Ok(events)
 }
 
-/// All events in the order of a trace.
+/// Returns the events of all nodes in the order of a trace.
 pub(crate) fn events_in_order(
     alloc: Global,
     problem: &Problem,
@@ -68,6 +68,7 @@ pub(crate) fn events_in_order(
     ensures { IfOk result (λ events. AreToldInOrder problem.now cluster.now.cluster.acts cluster.now.cluster.ends events.items) }
 {
     let mut events = gathered(alloc, problem, cluster)?;
+    // events of equal order are equal, so which of them comes first doesn't matter
     events.sort_unstable();
     Ok(events)
 }

@@ -1,4 +1,4 @@
-//! The text of a node's table.
+//! The text of a node's table. The errors are `OutOfMemory`, but for the last function.
 ghost use Rattle.std.specs.Prelude.{◌≡◌, ◌<◌, ◌≤◌, ◌++◌, Err, IfOk, OnOk, codes, flat_map, length, string_bytes};
 ghost use Rattle.cpg_io.specs.Causes.{Rose};
 ghost use Rattle.cpg_io.specs.Sink.{Took, TookPrefix};
@@ -16,7 +16,7 @@ use cpg_table::{NodeTable, Row, Tables};
 use cpg_tree_columns::RowSource;
 use std::alloc::Global;
 
-/// The line of what a node starts or sends.
+/// Returns the line that says what a node starts or sends.
 fn act_line(alloc: Global, labels: &Labels<'_>, item: u32) -> Result<String, OutOfMemory>
     ensures { IfOk result (λ line. string_bytes line ≡ act_text labels.now (item_of labels.now item) ++ codes "\n") }
 {
@@ -26,7 +26,7 @@ fn act_line(alloc: Global, labels: &Labels<'_>, item: u32) -> Result<String, Out
     Ok(line)
 }
 
-/// The line of what a node hears.
+/// Returns the line that says what a node hears.
 fn hear_line(alloc: Global, labels: &Labels<'_>, item: u32) -> Result<String, OutOfMemory>
     ensures { IfOk result (λ line. string_bytes line ≡ hear_text labels.now (item_of labels.now item) ++ codes "\n") }
 {
@@ -36,7 +36,7 @@ fn hear_line(alloc: Global, labels: &Labels<'_>, item: u32) -> Result<String, Ou
     Ok(line)
 }
 
-/// Adds rows of what a node starts or sends.
+/// Adds a part for each row of what a node starts or sends.
 fn add_acts<'a>(
     parts: &mut Vec<SheetPart<'a>>,
     labels: &Labels<'_>,
@@ -55,7 +55,7 @@ fn add_acts<'a>(
     Ok(())
 }
 
-/// Adds rows of what a node hears.
+/// Adds a part for each row of what a node hears.
 fn add_hears<'a>(
     parts: &mut Vec<SheetPart<'a>>,
     labels: &Labels<'_>,
@@ -74,7 +74,7 @@ fn add_hears<'a>(
     Ok(())
 }
 
-/// The rows of a node's table.
+/// Returns a part for each row of a node's table: starts, then sends, then hears.
 fn rows_of<'a>(
     alloc: Global,
     labels: &Labels<'_>,
@@ -89,7 +89,7 @@ fn rows_of<'a>(
     Ok(parts)
 }
 
-/// The line of a node's name.
+/// Returns the line of a node's name.
 fn name_line(alloc: Global, head: &Head, node: u32) -> Result<String, OutOfMemory>
     requires { node < length head.now.nodes }
     ensures { IfOk result (λ line. string_bytes line ≡ name_line head.now node) }
@@ -100,7 +100,7 @@ fn name_line(alloc: Global, head: &Head, node: u32) -> Result<String, OutOfMemor
     Ok(line)
 }
 
-/// The sheet of a node's table.
+/// Returns the sheet of a node's table.
 fn sheet_of<'a>(alloc: Global, tables: &'a Tables, node: u32) -> Result<Sheet<'a>, OutOfMemory>
     requires { node < length tables.now.head.nodes }
     ensures { IfOk result (λ sheet. sheet_text sheet ≡ node_text tables.entry.now node) }
@@ -117,8 +117,8 @@ fn sheet_of<'a>(alloc: Global, tables: &'a Tables, node: u32) -> Result<Sheet<'a
 
 /// Writes the name of a node, and the rows of what it starts, sends and hears.
 ///
-/// `Failed` only if the sink's count of faults rose. The sink has taken a proper prefix of the text then. On
-/// `OutOfMemory` the sink is as it was.
+/// `Failed` only if the sink met a fault. It has taken a proper prefix of the text then. On `OutOfMemory` the sink is as
+/// it was.
 pub fn write_node<O: Sink>(
     alloc: Global,
     tables: &Tables,

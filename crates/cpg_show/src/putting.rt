@@ -1,4 +1,5 @@
-//! Texts of columns, put into a buffer in front of a sink. No memory is asked for.
+//! Putting the text of columns into a buffer, which writes it to the sink whenever it is full. No memory is asked for. Each
+//! function that returns a `Result` fails only if the sink meets a fault.
 ghost use Rattle.std.specs.Prelude.{◌≡◌, ◌+◌, ◌≤◌, ◌++◌, OnOk, codes, length};
 ghost use Rattle.std.specs.Fmt.{decimal};
 ghost use Rattle.cpg_cube.specs.Cube.{IsRising};
@@ -13,7 +14,8 @@ use cpg_io::{Failed, Sink};
 use cpg_label::{Labels, Line};
 use itoa::Buffer as Digits;
 
-/// How many bytes a line has beside the text of its literals, at most: a number of 20 digits, blanks, a colon and the end.
+/// The most bytes that a line has beside the text of its literals: two blanks, a time of at most 20 digits, a colon with a
+/// blank, and the end of the line.
 const MOST_BESIDE: usize = 25;
 
 /// Puts a text.
@@ -24,7 +26,7 @@ pub(crate) fn put_text<O: Sink>(buffer: &mut Buffer, sink: &mut O, text: &str) -
     buffer.put_any(sink, text.as_bytes())
 }
 
-/// Puts two texts.
+/// Puts two texts, one after the other.
 fn put_two<O: Sink>(
     buffer: &mut Buffer,
     sink: &mut O,
@@ -38,7 +40,7 @@ fn put_two<O: Sink>(
     put_text(buffer, sink, second)
 }
 
-/// Puts three texts.
+/// Puts three texts, one after another.
 fn put_three<O: Sink>(
     buffer: &mut Buffer,
     sink: &mut O,
@@ -53,19 +55,20 @@ fn put_three<O: Sink>(
     put_text(buffer, sink, third)
 }
 
-/// The text of a column's literals, by the line of them. The contract alone names `labels`.
+/// Returns the text of a column's literals, of which `line` is the line; `always` if there are none. `labels` is there for
+/// the contract alone.
 fn cube_text<'a>(labels: &Labels<'_>, line: &'a Line, literals: &[Literal]) -> &'a [u8]
     requires { IsLineOf labels.now literals.now line.now }
     ensures { result.now ≡ cube_text labels.now literals.now }
 {
-    // a column without literals matches always
+    // a column without literals matches in every scenario
     if literals.is_empty() {
         return b"always";
     }
     line.text(labels, literals)
 }
 
-/// Puts what stands before the literals of a column.
+/// Puts what comes before the literals of a column: its time, with blanks and a colon.
 fn put_time<O: Sink>(buffer: &mut Buffer, sink: &mut O, time: u64) -> Result<(), Failed>
     ensures put { Puts (O.state sink.old).taken (O.state sink.new).taken buffer.old buffer.new result (codes "  " ++ decimal time ++ codes ": ") }
     ensures cause { HasCause (O.state sink.old).faults (O.state sink.new).faults result }
@@ -75,7 +78,7 @@ fn put_time<O: Sink>(buffer: &mut Buffer, sink: &mut O, time: u64) -> Result<(),
     put_three(buffer, sink, "  ", text, ": ")
 }
 
-/// Puts a line of a time and a text, without its end.
+/// Puts the line of a time and a text, without its end.
 fn put_timed<O: Sink>(
     buffer: &mut Buffer,
     sink: &mut O,
@@ -90,7 +93,7 @@ fn put_timed<O: Sink>(
     buffer.put_any(sink, text)
 }
 
-/// Puts a line of a time and a text, part by part.
+/// Puts the line of a time and a text, part by part.
 fn put_parts<O: Sink>(
     buffer: &mut Buffer,
     sink: &mut O,
@@ -105,7 +108,7 @@ fn put_parts<O: Sink>(
     put_text(buffer, sink, "\n")
 }
 
-/// Adds a line of a time and a text, for which there is room.
+/// Adds the line of a time and a text, for which the buffer has room.
 fn hold_line(buffer: &mut Buffer, time: u64, text: &[u8])
     requires { length buffer.old + (length text.now + MOST_BESIDE) ≤ 65536 }
     ensures { buffer.new ≡ buffer.old ++ (codes "  " ++ decimal time ++ codes ": " ++ text.now ++ codes "\n") }
@@ -118,7 +121,8 @@ fn hold_line(buffer: &mut Buffer, time: u64, text: &[u8])
     buffer.hold(b"\n");
 }
 
-/// Puts the line of a column, at once if the buffer has room for it, which is the usual case.
+/// Puts the line of a column of this time and these literals, of which `line` is the line. It is put at once if the buffer
+/// has room for it, which is the usual case.
 fn put_column<O: Sink>(
     buffer: &mut Buffer,
     sink: &mut O,
@@ -132,16 +136,17 @@ fn put_column<O: Sink>(
     ensures cause { HasCause (O.state sink.old).faults (O.state sink.new).faults result }
 {
     let text = cube_text(labels, line, literals);
-    // the line fits whole: it is held without a test for each part
+    // the whole line fits, so its parts needn't be looked at one by one; no text is shorter than a room of 0
     if text.len() < buffer.room().saturating_sub(MOST_BESIDE) {
         hold_line(buffer, time, text);
         return Ok(());
     }
-    // no room: each part is put by itself, and the buffer is written when it is full
+    // it may not fit: each part is put by itself, and the buffer is written when it is full
     put_parts(buffer, sink, time, text)
 }
 
-/// Puts the line of the next column, which takes over what it has in common with the line before.
+/// Puts the line of a column of this time and these literals. `line` is that of the column before, and becomes that of
+/// this one; what both have in common isn't made again.
 pub(crate) fn put_next<O: Sink>(
     buffer: &mut Buffer,
     sink: &mut O,
@@ -160,7 +165,7 @@ pub(crate) fn put_next<O: Sink>(
     put_column(buffer, sink, labels, line, time, literals)
 }
 
-/// Puts the lines of columns.
+/// Puts the lines of columns, one after another. `line` may be that of any column before them.
 pub(crate) fn put_columns<O: Sink>(
     buffer: &mut Buffer,
     sink: &mut O,

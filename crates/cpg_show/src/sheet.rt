@@ -1,4 +1,5 @@
-//! Texts of rows, written row by row.
+//! Texts of rows, which are written row by row: only one line of a column is in memory at a time. The functions that take a
+//! buffer fail only if the sink meets a fault.
 ghost use Rattle.std.specs.Prelude.{◌≡◌, ◌≤◌, ◌++◌, [], Err, OnErr, OnOk, flat_map};
 ghost use Rattle.cpg_io.specs.Causes.{HasCause, Rose};
 ghost use Rattle.cpg_io.specs.Sink.{Took, TookPrefix};
@@ -15,22 +16,28 @@ use cpg_label::{Labels, Line};
 use cpg_tree_columns::{PathCube, RowSource};
 use std::alloc::Global;
 
-/// A line, and the columns below it.
+/// A line, and the columns whose lines come below it.
 #[derive(Drop)]
 pub(crate) struct SheetPart<'a> {
+    /// The line, with its end.
     pub head: String,
+    /// Where the columns are read.
     pub columns: RowSource<'a>,
 }
 
-/// A text of rows: all of it but the lines of the columns is at hand.
+/// A text of rows. All of it but the lines of the columns is made.
 #[derive(Drop)]
 pub(crate) struct Sheet<'a> {
+    /// The names of processes, conditions and edges.
     pub labels: Labels<'a>,
+    /// What comes before the parts.
     pub front: String,
+    /// The rows, in the order of the text.
     pub parts: Vec<SheetPart<'a>>,
 }
 
-/// Puts the lines of the columns of a source.
+/// Puts the lines of the columns of a source. Here and below, `Err` only if the sink meets a fault; `line` is that of any
+/// column before, and `path` is at the root of a tree.
 fn put_source<O: Sink>(
     buffer: &mut Buffer,
     sink: &mut O,
@@ -62,7 +69,7 @@ fn put_source<O: Sink>(
     }
 }
 
-/// Puts a line and the lines of its columns.
+/// Puts a part: its line, and the lines of its columns.
 fn put_part<O: Sink>(
     buffer: &mut Buffer,
     sink: &mut O,
@@ -126,7 +133,7 @@ fn put_sheet<O: Sink>(
     )
 }
 
-/// Writes a sheet through an empty buffer, from the root of each tree on.
+/// Writes a sheet through an empty buffer.
 fn write_through<O: Sink>(
     buffer: &mut Buffer,
     sink: &mut O,
@@ -141,15 +148,15 @@ fn write_through<O: Sink>(
     ensures part { OnErr result (TookPrefix (O.state sink.old).taken (O.state sink.new).taken (sheet_text sheet.now)) }
     ensures cause { HasCause (O.state sink.old).faults (O.state sink.new).faults result }
 {
-    // what the buffer still holds at the end is written behind the parts
     put_sheet(buffer, sink, line, sheet, path)?;
+    // the end of the text is still in the buffer
     buffer.write(sink)
 }
 
 /// Writes a sheet.
 ///
-/// `Failed` only if the sink's count of faults rose. The sink has taken a proper prefix of the text then. The buffer, the line of a
-/// column and the cube of a path are made before the first write, so on `OutOfMemory` the sink is as it was.
+/// `Failed` only if the sink met a fault. It has taken a proper prefix of the text then. The buffer, the line of a column
+/// and the cube of a path are made before the first write, so on `OutOfMemory` the sink is as it was.
 pub(crate) fn write_sheet<O: Sink>(
     alloc: Global,
     sheet: &Sheet<'_>,
@@ -162,7 +169,7 @@ pub(crate) fn write_sheet<O: Sink>(
     ensures same { result ≡ Err WriteFault.OutOfMemory → sink.new ≡ sink.old }
     ensures later { (O.state sink.old).faults ≤ (O.state sink.new).faults }
 {
-    // all memory is asked for here, so that nothing has been written if there is none
+    // all memory is asked for here, before anything is written
     let mut buffer = Buffer::new(alloc)?;
     let mut line = Line::new(alloc)?;
     let mut path = PathCube::whole(alloc)?;

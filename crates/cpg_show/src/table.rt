@@ -1,4 +1,4 @@
-//! The text of tables.
+//! The text of tables. The errors are those of memory, but for the last function.
 ghost use Rattle.std.specs.Prelude.{◌≡◌, ◌<◌, ◌≤◌, ◌++◌, Err, IfOk, OnOk, codes, flat_map, string_bytes};
 ghost use Rattle.cpg_base.specs.Graph.{item_count};
 ghost use Rattle.cpg_base.specs.Numbers.{numbers_below};
@@ -19,7 +19,7 @@ use cpg_rules::Admitted;
 use cpg_tree_columns::{MadeRow, RowSource};
 use std::alloc::{AllocError, Global};
 
-/// Whether an item is started or sent.
+/// Returns whether an item has lines: it is started or sent.
 fn is_shown(problem: &Problem, item: u32) -> bool
     requires { item < item_count problem.now }
     ensures { result ≡ is_shown problem.now item }
@@ -51,7 +51,7 @@ fn write_order(out: &mut String, labels: &Labels<'_>, order: &[u32]) -> Result<(
     out.push_str("\n")
 }
 
-/// Writes the line which says what is done with an item, and on which node.
+/// Writes the line that says what is done with an item, and on which node.
 fn write_head_line(
     out: &mut String,
     problem: &Problem,
@@ -68,7 +68,7 @@ fn write_head_line(
     write!(out, " on {name}\n")
 }
 
-/// The line which says what is done with an item, and where, in a text of its own.
+/// Returns the line that says what is done with an item, and on which node.
 fn head_line_of(
     alloc: Global,
     problem: &Problem,
@@ -84,18 +84,18 @@ fn head_line_of(
     Ok(line)
 }
 
-/// Where the columns of an item are read; there are none if it has no row.
+/// Returns where the columns of an item are read; there are none if it has no row.
 fn source_of(rows: &[MadeRow], item: u32) -> RowSource<'_>
     ensures { ShowsSource result (row_for rows.now item).columns }
 {
     match rows.get(item as usize) {
-        // rows stand by the number of their item
+        // each row is at the number of its item
         Some(row) => row.source(),
         None => RowSource::Listed(&[]),
     }
 }
 
-/// The rows of the items that are started or sent, by number.
+/// Returns a part for each item that is started or sent, by number.
 fn parts_of<'a>(
     alloc: Global,
     problem: &Problem,
@@ -108,7 +108,7 @@ fn parts_of<'a>(
 {
     let mut parts = Vec::new(alloc);
     for item in 0..problem.item_count() {
-        // an edge within a node and a condition that isn't broadcast have no part
+        // an edge within a node isn't sent, nor is a broadcast on the only node: they have no part
         if is_shown(problem, item) {
             parts.push(SheetPart {
                 head: head_line_of(alloc, problem, labels, item)?,
@@ -119,7 +119,7 @@ fn parts_of<'a>(
     Ok(parts)
 }
 
-/// The order, and the greatest finish in time units.
+/// Returns the lines of the order and of the greatest finish, which is in time units.
 fn front_of(
     alloc: Global,
     labels: &Labels<'_>,
@@ -135,7 +135,7 @@ fn front_of(
     Ok(front)
 }
 
-/// The sheet of the table text.
+/// Returns the sheet of the text of tables.
 fn sheet_of<'a>(
     alloc: Global,
     problem: &'a Problem,
@@ -155,11 +155,12 @@ fn sheet_of<'a>(
     })
 }
 
-/// Writes the order, the greatest finish in time units, and the rows of what is started and sent, by number of the item: the text of
-/// the tables that have these rows. An item beyond them has no columns, and names that the graph doesn't have are left out.
+/// Writes the text of the tables that have these rows: the order, the greatest finish in time units, and the rows of what is
+/// started and sent, by number of the item. An item beyond the rows has no columns, and a process of the order that isn't
+/// in the graph an empty name.
 ///
-/// `Failed` only if the sink's count of faults rose. The sink has taken a proper prefix of the text then. On
-/// `OutOfMemory` the sink is as it was.
+/// `Failed` only if the sink met a fault. It has taken a proper prefix of the text then. On `OutOfMemory` the sink is as
+/// it was.
 pub fn write_table<O: Sink>(
     alloc: Global,
     admitted: &Admitted,

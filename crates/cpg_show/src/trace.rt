@@ -1,4 +1,4 @@
-//! The text of a trace.
+//! The text of a trace. Here every error says that memory ran out.
 ghost use Rattle.std.specs.Prelude.{◌≡◌, ◌<◌, ◌++◌, All, IfOk, OnOk, flat_map, fold, length, map, max, string_bytes};
 ghost use Rattle.cpg_base.specs.Graph.{process_count};
 ghost use Rattle.cpg_show.specs.TraceEvents.{IsKindWithin};
@@ -13,7 +13,7 @@ use cpg_node::Ended;
 use cpg_rules::Admitted;
 use std::alloc::{AllocError, Global};
 
-/// The value of a process's condition, if it has one.
+/// Writes the value of a process's condition; nothing if it has none.
 fn write_outcome(
     out: &mut String,
     problem: &Problem,
@@ -31,18 +31,18 @@ fn write_outcome(
     write_value(out, u8::from(value))
 }
 
-/// How long an execution ran, if it ended early.
+/// Writes how long an execution ran; nothing if it ran its full duration.
 fn write_ran(out: &mut String, length: u64, full: u64) -> Result<(), AllocError>
     ensures { OnOk result (string_bytes out.new ≡ string_bytes out.old ++ ran_text length full) }
 {
-    // an execution that takes its full length needs no note
+    // no more is said of an execution that didn't end early
     if length < full {
         write!(out, " ran {length}")?;
     }
     Ok(())
 }
 
-/// Writes what a node did.
+/// Writes what a node did, without the time and the node.
 fn write_kind(
     out: &mut String,
     problem: &Problem,
@@ -54,6 +54,7 @@ fn write_kind(
     ensures { OnOk result (string_bytes out.new ≡ string_bytes out.old ++ kind_text problem.now lengths.now kind) }
 {
     match kind {
+        // the item of a start has the number of its process
         EventKind::Start { process } => write_item(out, problem, process),
         EventKind::Send { item } => write_item(out, problem, item),
         EventKind::End {
@@ -70,7 +71,7 @@ fn write_kind(
     }
 }
 
-/// Writes the line of an event.
+/// Writes the line of an event: its time, its node, and what it was.
 fn write_event(
     out: &mut String,
     problem: &Problem,
@@ -105,11 +106,10 @@ fn write_events(
     Ok(())
 }
 
-/// The greatest of a time and of the times of ends.
+/// Returns the greatest of a time and of the times of a node's ends.
 fn last_of(time: u64, ends: &[(u64, Ended)]) -> u64
     ensures { result ≡ fold max time (map (λ e. e.0) ends.now) }
 {
-    // goes over the ends of one node, in any order
     let mut last = time;
     for end in ends {
         last = last.max(end.0);
@@ -117,12 +117,11 @@ fn last_of(time: u64, ends: &[(u64, Ended)]) -> u64
     last
 }
 
-/// The greatest of the ends that all nodes have come to, in time units, and 0 if there is none.
+/// Returns the greatest end that a node has come to, in time units; 0 if there is none.
 pub fn finish(problem: &Problem, cluster: &Cluster) -> u64
     requires { cluster.now.graph ≡ problem.now }
     ensures { result ≡ finish_of problem.now cluster.now.cluster.ends }
 {
-    // goes over the nodes
     let mut last = 0;
     for node in 0..problem.nodes().len() as u32 {
         last = last_of(last, cluster.ends(node));
@@ -130,10 +129,10 @@ pub fn finish(problem: &Problem, cluster: &Cluster) -> u64
     last
 }
 
-/// A line for each start, each message or broadcast and each end that the nodes have come to, then the greatest end in
-/// time units, 0 if there is none. Lines go by time, then by number of the node; then ends come first, sends next and
-/// starts last, each by number of the item. The time of an end is the planned one; if the execution took less, its line
-/// tells the length. The one error is `OutOfMemory`.
+/// Returns the text of a trace: a line for each start, each message or broadcast and each end that the nodes have come to,
+/// then the greatest end in time units, 0 if there is none. Lines go by time, then by number of the node; then ends come
+/// first, sends next and starts last, each by number of the process or item. The time of an end is the planned one; if the
+/// execution took less, its line tells the length. The one error is `OutOfMemory`.
 pub fn trace_text(
     alloc: Global,
     admitted: &Admitted,

@@ -1,4 +1,4 @@
-//! The lines of a tree's columns, put as they are found.
+//! Putting the lines of a tree's columns as they are found; the twin for a pack is in cpg_packing.
 ghost use Rattle.std.specs.Prelude.{◌≡◌, ℕ, Option, OnOk};
 ghost use Rattle.cpg_codec.specs.Writing.{Puts};
 ghost use Rattle.cpg_io.specs.Causes.{HasCause};
@@ -19,7 +19,9 @@ use cpg_label::{Labels, Line};
 use cpg_tree::{Top, TreeItem, top_of};
 use cpg_tree_columns::PathCube;
 
-/// Puts the lines of the columns on from a path. The path is narrowed on the way down and restored on the way up.
+/// Puts the lines of the columns that the tree has below a path: the time of each is a leaf, and its cube is the path to
+/// there. `k` is the most faults. The path is narrowed on the way down and restored on the way up. `Err` only if the sink
+/// meets a fault; the path is then anywhere.
 pub(crate) fn put_paths<O: Sink>(
     buffer: &mut Buffer,
     sink: &mut O,
@@ -39,6 +41,7 @@ pub(crate) fn put_paths<O: Sink>(
     ensures cause { HasCause (O.state sink.old).faults (O.state sink.new).faults result }
 {
     match top_of(items) {
+        // no time: no column is for these scenarios
         Top::Value(None) => Ok(()),
         Top::Value(Some(time)) => put_next(buffer, sink, labels, line, time, path.literals()),
         Top::Cut {
@@ -47,6 +50,7 @@ pub(crate) fn put_paths<O: Sink>(
             below,
             above,
         } => {
+            // the numbers above the cut, and below those up to it
             let upper = Literal {
                 variable,
                 low: cut + 1,
@@ -58,7 +62,7 @@ pub(crate) fn put_paths<O: Sink>(
                 high: cut,
             });
             put_paths(buffer, sink, labels, line, below, k, path)?;
-            // in place, which is less work than the way back and down again
+            // the upper range takes the place of the lower, which is less work than to restore and narrow again
             path.exchange(step, upper);
             put_paths(buffer, sink, labels, line, above, k, path)?;
             path.restore(step);

@@ -1,4 +1,4 @@
--- The broadcasts of a node, process by process.
+-- The numbers of the broadcasts that a test of their processes wants, process by process, as a loop lists them.
 use Rattle.std.proofs.Common.{◌≡◌, ℕ, ◌+◌, ◌<◌, ◌≤◌, Bool, true, false, cond, ◌&&◌, List, [], ◌∷◌, ◌++◌, length, get_or}
 use Rattle.std.proofs.Common.{drop, filter, refl, sym, ap, ap₂, ◌∙◌, append_assoc, append-nil, arith}
 use Rattle.std.proofs.Common.{add-one, drop-cons}
@@ -9,12 +9,13 @@ use Rattle.cpg_table.specs.Items.{numbers_where}
 abbrev has_condition : HeadProcess → Bool
 has_condition p = p.condition
 
--- the number of the next condition stays within the conditions of the processes so far
+-- the number of the next condition is at most the first one and how many processes were passed; one process more keeps this
 pub few_on : (c : Bool) (i n k : ℕ) → i ≤ n + k → cond c (i + 1) i ≤ n + (k + 1)
 few_on true i n k h = omega arith
 few_on false i n k h = omega arith
 
--- a broadcast that is wanted moves from the rest to those listed, and the rest goes on
+-- a process with a condition (c) that is wanted (b) puts its number i at the end of those listed, instead of at the front
+-- of the rest; the rest counts on if it has a condition
 either : (c b : Bool) (i : ℕ) (front : List ℕ) (more : ℕ → List ℕ) →
     (front ++ cond (c && b) (i ∷ []) []) ++ more (cond c (i + 1) i) ≡ front
     ++ cond c (cond b (i ∷ more (i + 1)) (more (i + 1)))
@@ -24,23 +25,25 @@ either true false i front more = ap (λ (t : List ℕ). t ++ more (i + 1)) (appe
 either false b i front more = ap (λ (t : List ℕ). t ++ more i) (append-nil front)
 
 module _ (test : HeadProcess → Bool) where
-  -- the numbers, from i on, of the condition processes that pass the test
+  -- the numbers of the conditions whose processes pass the test, if the first condition has the number i
   abbrev numbers : ℕ → List HeadProcess → List ℕ
   numbers i ps = numbers_where test i (filter has_condition ps)
 
-  -- the numbers of the conditions begin with that of the first process, if it has one and passes
+  -- the same, opened at the first process x: its number comes first if it has a condition (c) and passes
   opened : (i : ℕ) (x : HeadProcess) (rest : List HeadProcess) (c : Bool) →
       numbers_where test i (cond c (x ∷ filter has_condition rest) (filter has_condition rest)) ≡ cond c
       (cond (test x) (i ∷ numbers (i + 1) rest) (numbers (i + 1) rest)) (numbers i rest)
   opened i x rest true = refl
   opened i x rest false = refl
 
-  -- the processes from a place on are the one there and those behind
+  -- the processes from a place on are the one there and those after it
   drop_is : (ps : List HeadProcess) (k : ℕ) (x : HeadProcess) → k < length ps →
       drop k ps ≡ get_or ps k x ∷ drop (k + 1) ps
   drop_is ps k x h = rw (add-one, drop-cons ps k x) refl
 
-  -- after one more process its broadcast is in the list, if it has a condition and passes the test
+  -- if what is listed (`front`) and the numbers from place k on are all, so are what is listed after the process at k
+  -- (`after`), and the numbers from the next place on: the number at k, if there is one, goes from the numbers to what
+  -- is listed
   pub broadcasts_on : (ps : List HeadProcess) (k i j : ℕ) (x : HeadProcess) (w : Bool) (front after total : List ℕ) →
       x ≡ get_or ps k x → k < length ps →
       w ≡ (x.condition && test x) →

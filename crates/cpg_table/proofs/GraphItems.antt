@@ -26,7 +26,8 @@ use Rattle.cpg_head.proofs.HeadWithin.{has_condition}
 
 -- ---- lists
 
--- the numbers of elements that pass in a list made by a function, counted from s on
+-- the numbers of the elements that pass a test, in the list of f from a on, are the numbers x from i on that pass for
+-- f (x - s), if i is s + a; by induction on the length
 where_from : {X : Type 0} (test : X → Bool) (f : ℕ → X) (s a n i : ℕ) → i ≡ s + a →
     numbers_where test i (map f (range_with_len a n)) ≡ filter (λ x. test (f (x - s))) (range_with_len i n)
 where_from test f s a zero i e = refl
@@ -37,12 +38,12 @@ where_from test f s a (suc n) i e =
     ∙ ap (λ b. cond b (i ∷ filter (λ x. test (f (x - s))) (range_with_len (i + 1) n))
     (filter (λ x. test (f (x - s))) (range_with_len (i + 1) n))) (ap (λ k. test (f k)) (sym at))
 
--- the numbers of the elements that pass a test, as a filter of numbers
+-- the same for the list of f from 0 on, counted from s on
 pub where_is : {X : Type 0} (test : X → Bool) (f : ℕ → X) (s n : ℕ) →
     numbers_where test s (map f (numbers_below n)) ≡ filter (λ x. test (f (x - s))) (range_with_len s n)
 where_is test f s n = where_from test f s 0 n s (omega arith)
 
--- a range of numbers is its first part and then the rest
+-- a range of m + n numbers is its first m and then the other n
 pub range-append : (a m n : ℕ) → range_with_len a (m + n) ≡ range_with_len a m ++ range_with_len (a + m) n
 range-append a zero n = ap₂ range_with_len (let e : a ≡ a + 0 = omega arith in e) (let e : 0 + n ≡ n = omega arith in e)
 range-append a (suc m) n =
@@ -50,12 +51,13 @@ range-append a (suc m) n =
     ∙ ap (λ xs. a ∷ xs) (range-append (a + 1) m n
     ∙ ap (λ b. range_with_len (a + 1) m ++ range_with_len b n) (let e : a + 1 + m ≡ a + suc m = omega arith in e))
 
--- testing what is mapped is mapping what passes
+-- to test what is mapped is to map what passes
 filter-map : {X Y : Type 0} (p : Y → Bool) (f : X → Y) (xs : List X) →
     filter p (map f xs) ≡ map f (filter (λ x. p (f x)) xs)
 filter-map p f [] = refl
 filter-map p f (x ∷ xs) = step (p (f x)) (filter-map p f xs)
   where
+    -- by whether the first element passes once it is mapped
     step : (b : Bool) → filter p (map f xs) ≡ map f (filter (λ x. p (f x)) xs) →
         cond b (f x ∷ filter p (map f xs)) (filter p (map f xs)) ≡ map f
         (cond b (x ∷ filter (λ x. p (f x)) xs) (filter (λ x. p (f x)) xs))
@@ -67,25 +69,25 @@ map-map : {X Y Z : Type 0} (g : Y → Z) (f : X → Y) (xs : List X) → map g (
 map-map g f [] = refl
 map-map g f (x ∷ xs) = ap (λ ys. g (f x) ∷ ys) (map-map g f xs)
 
--- a list is the list of its elements by place
+-- a list is the list of its elements at the places 0, 1, ..
 pub by_place : {X : Type 0} (xs : List X) (d : X) → xs ≡ map (λ k. get_or xs k d) (numbers_below (length xs))
 by_place xs d = fill_by_all (λ k. get_or xs k d) xs (length xs) d refl (λ k l. refl)
 
 -- ---- tests
 
--- an edge leaves a node: it goes to another one and comes from this one
+-- an edge from node a to node b is a message that n sends exactly if it leaves n
 leaves_is : (a b n : ℕ) → (not (a == b) && (a == n)) ≡ ((a == n) && not (b == n))
 leaves_is a b n = grind (arith, nat_tests)
 
--- an edge enters a node: it comes from another one and goes to this one
+-- an edge from node a to node b is a message that n hears exactly if it enters n
 enters_is : (a b n : ℕ) → (not (a == b) && (b == n)) ≡ (not (a == n) && (b == n))
 enters_is a b n = grind (arith, nat_tests)
 
--- an edge between two nodes needs more than one node
+-- if a and b are different nodes, there are two nodes or more
 one_node : (a b n : ℕ) → a < n → b < n → not (a == b) ≡ (ltb 1 n && not (a == b))
 one_node a b n h k = grind (arith, nat_tests)
 
--- a test of all is a part of the test of each
+-- to filter only if b holds is to filter with b as a part of the test
 cond-filter : (b : Bool) (p : ℕ → Bool) (xs : List ℕ) → cond b (filter p xs) [] ≡ filter (λ x. b && p x) xs
 cond-filter true p xs = refl
 cond-filter false p [] = refl
@@ -119,9 +121,9 @@ module _ (g : Graph) (w : IsWithinLimits g) where
       (λ p c. has_condition g p (numbers-Contains (process_count g) p c)) ∙ by_place (disjunctions g) 0)
       ∙ map-map (head_process g) (process_of g) (numbers_below (condition_count g))
 
-  -- the items of a node, each kind in its part of the numbers
+  -- given a node. Items are in three parts of the numbers: starts, messages, broadcasts
   module _ (node : ℕ) where
-    -- the messages that pass a test of their ends are those whose edges pass it in the graph
+    -- the messages whose ends pass a test under the head are those whose edges pass it in the graph
     messages_are : (test : ℕ × ℕ → Bool) →
         numbers_where test (first_message (head_of g)) (head_of g).edges
         ≡ filter (λ x. test (source g (x - process_count g), target g (x - process_count g)))
@@ -129,7 +131,7 @@ module _ (g : Graph) (w : IsWithinLimits g) where
     messages_are test = ap₂ (numbers_where test) process_number edges_are
         ∙ where_is test (λ e. (source g e, target g e)) (process_count g) (edge_count g)
 
-    -- the broadcasts that pass a test of their processes are those whose processes pass it in the graph
+    -- the broadcasts whose processes pass a test under the head are those whose processes pass it in the graph
     broadcasts_are : (test : HeadProcess → Bool) →
         numbers_where test (first_broadcast (head_of g)) (conditioned (head_of g))
         ≡ filter (λ x. test (head_process g (process_of g (x - (process_count g + edge_count g)))))
@@ -139,7 +141,8 @@ module _ (g : Graph) (w : IsWithinLimits g) where
         (ap₂ ◌+◌ process_number (length-map {B = ℕ × ℕ} g.edges (λ e. (e.from, e.to)))) conditioned_are
         ∙ where_is test (λ c. head_process g (process_of g c)) (process_count g + edge_count g) (condition_count g)
 
-    -- the items that pass a test are those among the starts, among the messages and among the broadcasts
+    -- the items that pass a test are those among the starts, among the messages and among the broadcasts: the numbers
+    -- of all items are cut at the first message and at the first broadcast, and the filter goes to each part
     pub parts_are : (p : ℕ → Bool) → filter p (numbers_below (item_count g))
         ≡ filter p (numbers_below (process_count g)) ++ (filter p (range_with_len (process_count g) (edge_count g))
         ++ filter p (range_with_len (process_count g + edge_count g) (condition_count g)))
@@ -164,7 +167,7 @@ module _ (g : Graph) (w : IsWithinLimits g) where
         same_filter (λ x. node_of g (x - 0) == node) (λ x. node_of g x == node) (numbers_below (process_count g))
         (λ x c. ap (λ k. node_of g k == node) (omega arith))
 
-    -- the items after the processes are the messages
+    -- an item after the starts and before the broadcasts is a message, of an edge of the graph
     at_message : (x : ℕ) → Contains (range_with_len (process_count g) (edge_count g)) x →
         (x - process_count g < edge_count g) × (item_at g x ≡ Message (x - process_count g))
     at_message x c =
@@ -173,7 +176,7 @@ module _ (g : Graph) (w : IsWithinLimits g) where
         let is : x ≡ message_item g (x - process_count g) = omega (arith, r.0) in
         (l, ap (item_at g) is ∙ item_at-message g (x - process_count g) l)
 
-    -- the items after the messages are the broadcasts
+    -- an item after the messages is a broadcast, of a condition of the graph
     at_broadcast : (x : ℕ) → Contains (range_with_len (process_count g + edge_count g) (condition_count g)) x →
         (x - (process_count g + edge_count g) < condition_count g) ×
         (item_at g x ≡ Broadcast (x - (process_count g + edge_count g)))
@@ -183,7 +186,7 @@ module _ (g : Graph) (w : IsWithinLimits g) where
         let is : x ≡ broadcast_item g (x - (process_count g + edge_count g)) = omega (arith, r.0) in
         (l, ap (item_at g) is ∙ item_at-broadcast g (x - (process_count g + edge_count g)))
 
-    -- the head of a graph gives a node the messages that it sends in the graph
+    -- the messages that a node sends under the head are those that it sends in the graph: the two tests agree (`leaves_is`)
     pub sent_messages : numbers_where (leaves (head_of g) node) (first_message (head_of g)) (head_of g).edges
         ≡ filter (λ x. is_sent g x && (home g x == node))
         (range_with_len (process_count g) (edge_count g))
@@ -197,7 +200,8 @@ module _ (g : Graph) (w : IsWithinLimits g) where
         ∙ sym (leaves_is (node_of g (source g (x - process_count g))) (node_of g (target g (x - process_count g))) node)
         ∙ ap (λ i. is_sent_item g i && (node_of g (producer_of_item g i) == node)) (sym at.1))
 
-    -- the head of a graph gives a node the broadcasts that it sends in the graph
+    -- the broadcasts that a node sends under the head are those that it sends in the graph: they are the same numbers
+    -- (`broadcasts_are`), and pass the same test, as item x is the broadcast of condition x - base (`at_broadcast`)
     pub sent_broadcasts : cond (ltb 1 (length g.nodes))
         (numbers_where (λ p. p.node == node) (first_broadcast (head_of g)) (conditioned (head_of g))) []
         ≡ filter (λ x. is_sent g x && (home g x == node))
@@ -211,7 +215,8 @@ module _ (g : Graph) (w : IsWithinLimits g) where
         (λ x. is_sent g x && (home g x == node)) (range_with_len base (condition_count g))
         (λ x c. ap (λ i. is_sent_item g i && (node_of g (producer_of_item g i) == node)) (sym (at_broadcast x c).1))
 
-    -- the items that a node sends under the head of a graph are those it sends in the graph
+    -- the items that a node sends under the head are those that it sends in the graph: no start, then messages and
+    -- broadcasts as above
     pub sends_are : sends_of (head_of g) node ≡ sent_from g node
     sends_are =
         ap₂ (λ xs ys. xs ++ ys) sent_messages sent_broadcasts
@@ -222,7 +227,7 @@ module _ (g : Graph) (w : IsWithinLimits g) where
         (filter_none (λ x. is_sent g x && (home g x == node)) (numbers_below (process_count g))
         (λ x c. ap (λ b. b && (home g x == node)) (start_not_sent g x (numbers-Contains (process_count g) x c)))))
 
-    -- the messages that a node hears under the head of a graph are those it hears in the graph
+    -- the messages that a node hears under the head are those that it hears in the graph: the two tests agree (`enters_is`)
     heard_messages : numbers_where (enters (head_of g) node) (first_message (head_of g)) (head_of g).edges
         ≡ filter (λ x. is_heard_by g node (item_at g x))
         (range_with_len (process_count g) (edge_count g))
@@ -236,13 +241,14 @@ module _ (g : Graph) (w : IsWithinLimits g) where
         ∙ sym (enters_is (node_of g (source g (x - process_count g))) (node_of g (target g (x - process_count g))) node)
         ∙ ap (is_heard_by g node) (sym at.1))
 
-    -- a process on another node shows that there are two nodes or more
+    -- if a process isn't on this node, there are two nodes or more
     others_need_two : (p : ℕ) → p < process_count g → node < length g.nodes →
         not (node_of g p == node) ≡ (ltb 1 (length g.nodes) && not (node_of g p == node))
     others_need_two p l inside = one_node (node_of g p) node (length g.nodes)
         (All-get_or (IsProcessWithin (length g.nodes)) g.processes p _ l w.processes).node inside
 
-    -- the items that a node hears under the head of a graph are those it hears in the graph
+    -- the items that a node hears under the head are those that it hears in the graph: no start, then messages as above
+    -- and broadcasts
     pub hears_are : node < length g.nodes → hears_of (head_of g) node ≡ heard_by g node
     hears_are inside =
         let base : ℕ = process_count g + edge_count g in

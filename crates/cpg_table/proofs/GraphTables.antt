@@ -1,4 +1,5 @@
--- Lawful tables for a graph have the shape that the laws on tables ask for, and each node knows its own processes.
+-- Lawful tables under the head for a graph have the shape that the laws on tables ask for (`has_shape`), and say of each
+-- node what the graph says (`suits_graph`).
 use Rattle.std.proofs.Common.{◌≡◌, ◌<◌, ◌+◌, ◌-◌, ◌==◌, ℕ, zero, suc, Bool, true, false, cond, List, [], ◌∷◌, ◌++◌}
 use Rattle.std.proofs.Common.{Option, Some, None, is_some, All, length, map, filter, get_or, refl, sym, ap, ap₂}
 use Rattle.std.proofs.Common.{◌∙◌, subst, arith, inl, inr, true≢false, length-append, append_assoc}
@@ -41,7 +42,7 @@ module _ (g : Graph) (w : IsWithinLimits g) where
       (λ c k. All-weaker (IsLawfulLiteral (space_of (head_of g)))
       (λ (l : Literal). IsVariable g l.variable) variable_there c.cube k.literals) row.columns r.columns) rows h
 
-  -- tables under the head of a graph have the shape of the graph's tables
+  -- lawful tables under the head of a graph have its shape: their items are those of the graph, and rows are lawful
   pub has_shape : (tables : List NodeTable) → AreTablesOf (head_of g) tables → HasShape g tables
   has_shape tables t = record {
     count = t.count;
@@ -53,7 +54,8 @@ module _ (g : Graph) (w : IsWithinLimits g) where
         (t.each node l).lawful));
   }
 
-  -- the condition of a process is numbered by the processes with conditions before it
+  -- the condition of a process p that has one is numbered by how many processes before p have one: in the list of these
+  -- p comes after those before it
   condition_is : (p : ℕ) → p < process_count g → is_disjunction g p ≡ true →
       condition_of g p ≡ Some (length (filter (is_disjunction g) (numbers_below p)))
   condition_is p l t =
@@ -81,13 +83,14 @@ module _ (g : Graph) (w : IsWithinLimits g) where
       none_of None e = refl
       none_of (Some c) e = absurd (true≢false e)
 
-  -- the number of conditions before the next process
+  -- how many processes before p + 1 have a condition: one more than before p if p has one
   count_next : (p : ℕ) →
       cond (is_disjunction g p) (length (filter (is_disjunction g) (numbers_below p)) + 1)
       (length (filter (is_disjunction g) (numbers_below p))) ≡ length
       (filter (is_disjunction g) (numbers_below (p + 1)))
   count_next p = step (is_disjunction g p) ∙ sym (ap length (filter_below_push (is_disjunction g) p))
     where
+      -- by whether process p is a disjunction
       step : (b : Bool) →
           cond b (length (filter (is_disjunction g) (numbers_below p)) + 1)
           (length (filter (is_disjunction g) (numbers_below p))) ≡ length
@@ -95,14 +98,15 @@ module _ (g : Graph) (w : IsWithinLimits g) where
       step true = sym (length-append (filter (is_disjunction g) (numbers_below p)) (p ∷ []))
       step false = sym (length-append (filter (is_disjunction g) (numbers_below p)) [] ∙ omega arith)
 
-  -- the condition that a node knows of a process is that of the graph
+  -- the condition that the head gives a process, if c processes before it have one, is that of the graph
   flag_if : (p : ℕ) → p < process_count g → (c : ℕ) → c ≡ length (filter (is_disjunction g) (numbers_below p)) →
       (b : Bool) → is_disjunction g p ≡ b →
       cond b (Some c) None ≡ condition_of g p
   flag_if p l c e true t = ap Some e ∙ sym (condition_is p l t)
   flag_if p l c e false t = sym (condition_none p l t)
 
-  -- from a process on, the own processes of a node under the head are those in the graph
+  -- from process p on, the own processes of a node under the head are those in the graph, if c processes before p have a
+  -- condition; by induction on how many are left
   own_are_from : (node p n c : ℕ) → p + n ≡ process_count g → c ≡ length (filter (is_disjunction g) (numbers_below p))
       → own_from node p c (map (head_process g) (range_with_len p n))
       ≡ map (own_process g) (filter (λ q. node_of g q == node) (range_with_len p n))
@@ -120,6 +124,7 @@ module _ (g : Graph) (w : IsWithinLimits g) where
       (record { process = p; condition = o; times = (head_process g p).times } ∷ []) [] ++ os) is rest
       ∙ step (node_of g p == node)
     where
+      -- by whether process p is on the node
       step : (b : Bool) →
           cond b (own_process g p ∷ []) []
           ++ map (own_process g) (filter (λ q. node_of g q == node) (range_with_len (p + 1) n))

@@ -1,4 +1,5 @@
--- How many columns the rows of all nodes have: no more than the loads of the items.
+-- The rows of all nodes together have no more columns than the loads of the items: each item's columns times the rows
+-- that it may have.
 use Rattle.std.proofs.Common.{◌≡◌, ℕ, ◌+◌, ◌*◌, ◌<◌, ◌≤◌, Bool, true, false, not, ◌&&◌, ◌==◌, nat_lt, cond, List, []}
 use Rattle.std.proofs.Common.{◌∷◌, ◌++◌, length, map, filter, sum_by, refl, sym, ap, ap₂, ◌∙◌, subst, arith}
 use Rattle.std.proofs.Common.{inl, inr, lt-ltb, le-ltb, append-nil}
@@ -34,15 +35,15 @@ use Rattle.cpg_table.proofs.GraphItems.{range-append, starts_are, sends_are, hea
 
 -- ---- what a node has of each item
 
--- whether it starts the item
+-- whether the node starts item x
 abbrev is_started_on : Graph → ℕ → ℕ → Bool
 is_started_on g node x = nat_lt x (process_count g) && (node_of g x == node)
 
--- whether it sends it
+-- whether the node sends item x
 abbrev is_sent_from : Graph → ℕ → ℕ → Bool
 is_sent_from g node x = is_sent g x && (home g x == node)
 
--- whether it hears it
+-- whether the node hears item x
 abbrev is_heard_at : Graph → ℕ → ℕ → Bool
 is_heard_at g node x = is_heard_by g node (item_at g x)
 
@@ -87,7 +88,8 @@ module _ (g : Graph) (node : ℕ) where
       is_heard_at g node (broadcast_item g c) ≡ (nat_lt 1 (length g.nodes) && not (node_of g (process_of g c) == node))
   broadcast_heard c = ap (is_heard_by g node) (item_at-broadcast g c)
 
-  -- the items that a node starts are the processes on it
+  -- the items that a node starts are the processes on it: among the processes the tests are the same, and no later item
+  -- is started (`late_start`)
   starts_whole : filter (is_started_on g node) (numbers_below (item_count g)) ≡ processes_on g node
   starts_whole =
       ap (filter (is_started_on g node)) (ap numbers_below
@@ -113,13 +115,13 @@ swapped f (x ∷ xs) ys = sum_by-cons (λ z. sum_by (f z) ys) x xs ∙ ap (λ n.
     ∙ same_sum_by (λ y. f x y + sum_by (λ z. f z y) xs) (λ y. sum_by (λ z. f z y) (x ∷ xs)) ys
     (λ y c. sym (sum_by-cons (λ z. f z y) x xs))
 
--- how many columns rows have, if it is known of each item
+-- how many columns the rows of some items have, if it is known of each item's row
 count_rows : (row : ℕ → Row) (columns : ℕ → ℕ) (xs : List ℕ) → ((x : ℕ) → length (row x).columns ≡ columns x) →
     column_count (map row xs) ≡ sum_by columns xs
 count_rows row columns xs each = sum_by-map (λ (r : Row). length r.columns) row xs
     ∙ same_sum_by (λ x. length (row x).columns) columns xs (λ x c. each x)
 
--- a sum over the nodes with a number at one of them is at most this number
+-- a sum over n places that has v at the place w and 0 elsewhere is at most v
 place_le : (w v n : ℕ) → sum_by (λ node. cond (w == node) v 0) (numbers_below n) ≤ v
 place_le w v n = elim (cases_lt w n) [
   | inl l ↦ omega (arith, sum_of_place w v n l)
@@ -135,12 +137,13 @@ module _ (g : Graph) (within : IsWithinLimits g) (rows : List Row) where
   abbrev columns : ℕ → ℕ
   columns x = length (row_for rows x).columns
 
-  -- how many of them a node has in its rows
+  -- how many columns a node has in its rows of item x: as often as it starts, sends or hears it
   abbrev at_node : ℕ → ℕ → ℕ
   at_node node x = cond (is_started_on g node x) (columns x) 0
       + (cond (is_sent_from g node x) (columns x) 0 + cond (is_heard_at g node x) (columns x) 0)
 
-  -- the columns of a node's rows are those that each item has at the node
+  -- the rows of a node have as many columns as the items have at the node in all. Starts, sends and hears are each a filter
+  -- of all items, whose sums are added
   node_count : (node : ℕ) → node < length g.nodes →
       column_count (rows_of_items g rows (lists_of (head_of g) node))
       ≡ sum_by (at_node node) (numbers_below (item_count g))
@@ -169,7 +172,7 @@ module _ (g : Graph) (within : IsWithinLimits g) (rows : List Row) where
 
   -- ---- an item at all nodes
 
-  -- the counts of three tests, which are as others say
+  -- if three tests have the answers x, y and z, so have their counts
   three : (a b d : Bool) (x y z : Bool) (n : ℕ) → a ≡ x → b ≡ y → d ≡ z →
       cond a n 0 + (cond b n 0 + cond d n 0) ≡ cond x n 0 + (cond y n 0 + cond z n 0)
   three a b d x y z n p q r = cc
@@ -178,7 +181,7 @@ module _ (g : Graph) (within : IsWithinLimits g) (rows : List Row) where
   abbrev nodes : List ℕ
   nodes = numbers_below (length g.nodes)
 
-  -- a start has its columns at one node at most
+  -- a start has its columns at one node at most, that of its process
   start_le : (p : ℕ) → p < process_count g → sum_by (λ node. at_node node p) nodes ≤ columns p
   start_le p l = omega (
     arith,
@@ -190,7 +193,7 @@ module _ (g : Graph) (within : IsWithinLimits g) (rows : List Row) where
         (start_heard g node p l) ∙ omega arith),
   )
 
-  -- a message has its columns at most twice among all nodes, and an edge within a node has none
+  -- a message has its columns at most at two nodes, its sender and its receiver; an edge within a node has none
   message_by : (e : ℕ) → e < edge_count g → (b : Bool) → is_message g e ≡ b →
       sum_by (λ node. at_node node (message_item g e)) nodes ≤ columns (message_item g e) * cond b 2 0
   message_by e l true m =
@@ -220,12 +223,12 @@ module _ (g : Graph) (within : IsWithinLimits g) (rows : List Row) where
             (message_heard g node e l ∙ ap (λ b. b && (node_of g (target g e) == node)) m)),
       )
 
-  -- an item counts once, by one test or by its opposite
+  -- a number counts once, by a test or by its opposite
   either : (b : Bool) (n : ℕ) → 0 + (cond b n 0 + cond (not b) n 0) ≡ n
   either true n = omega arith
   either false n = omega arith
 
-  -- a broadcast has its columns at most once at each node
+  -- a broadcast has its columns once at each node, where it is sent or heard; on a single node it has none
   broadcast_by : (k : ℕ) (b : Bool) → nat_lt 1 (length g.nodes) ≡ b →
       sum_by (λ node. at_node node (broadcast_item g k)) nodes
       ≤ columns (broadcast_item g k) * cond b (length g.nodes) 0
@@ -254,7 +257,8 @@ module _ (g : Graph) (within : IsWithinLimits g) (rows : List Row) where
             (broadcast_heard g node k ∙ ap (λ b. b && not (node_of g (process_of g k) == node)) m)),
       )
 
-  -- an item has its columns in at most as many rows as it may have
+  -- the columns that an item has at all nodes are at most its columns times the rows that it may have, by its kind: one
+  -- row for a start, and as many as nodes start, send or hear it otherwise
   item_le : (x : ℕ) → x < item_count g → ItemCases g x →
       sum_by (λ node. at_node node x) nodes ≤ columns x * rows_of_item g (item_at g x)
   item_le x l (inl c) = subst (λ i. sum_by (λ node. at_node node x) nodes ≤ columns x * rows_of_item g i) (sym c.1)
@@ -268,7 +272,7 @@ module _ (g : Graph) (within : IsWithinLimits g) (rows : List Row) where
       (subst (λ y. sum_by (λ node. at_node node y) nodes ≤ columns y * rows_of_item g (Broadcast c.0)) (sym c.2)
       (broadcast_by c.0 (nat_lt 1 (length g.nodes)) refl))
 
-  -- the columns of all nodes' rows are at most those of each item in all rows that it may have
+  -- the rows of all nodes have at most the columns of each item times its rows: sum by item instead of by node
   pub rows_le : sum_by (λ node. column_count (rows_of_items g rows (lists_of (head_of g) node))) nodes
       ≤ sum_by (λ x. columns x * rows_of_item g (item_at g x)) (numbers_below (item_count g))
   rows_le = omega (
@@ -276,20 +280,24 @@ module _ (g : Graph) (within : IsWithinLimits g) (rows : List Row) where
     same_sum_by (λ node. column_count (rows_of_items g rows (lists_of (head_of g) node)))
         (λ node. sum_by (at_node node) (numbers_below (item_count g))) nodes
         (λ node c. node_count node (numbers-Contains (length g.nodes) node c)),
+    -- the sum by node and then item is that by item and then node
     swapped at_node nodes (numbers_below (item_count g)),
     sum_by-le_each (λ x. sum_by (λ node. at_node node x) nodes) (λ x. columns x * rows_of_item g (item_at g x))
         (numbers_below (item_count g))
         (λ x c. let l = numbers-Contains (item_count g) x c in item_le x l (item_cases g x l)),
   )
 
-  -- the tables with writable rows have no more columns than tables may have
+  -- tables with writable rows have no more columns than tables may have: they have as many as the rows of their items,
+  -- at most what `rows_le` says, and that is within the load of writable rows
   pub tables_le : (tables : List NodeTable) → AreNodeTables g rows (length g.nodes) tables → AreWritable g rows →
       sum_by (λ t. column_count (rows_of t)) tables ≤ MOST_LOAD
   tables_le tables are w = omega (
     arith,
+    -- the tables are one for each node
     ap (sum_by (λ t. column_count (rows_of t)))
         (fill_by_all (table_at tables) tables (length g.nodes) empty_table are.long (λ k l. refl)),
     sum_by-map (λ t. column_count (rows_of t)) (table_at tables) nodes,
+    -- the rows of each table are those of its node's items
     same_sum_by (λ node. column_count (rows_of (table_at tables node)))
         (λ node. column_count (rows_of_items g rows (lists_of (head_of g) node))) nodes
         (λ node c. ap column_count (are.each node (numbers-Contains (length g.nodes) node c)).stands),

@@ -1,4 +1,4 @@
--- The rows of a node are those that its table may have.
+-- The rows of a node's items, made of writable rows, are lawful rows of its table (`are_rows`).
 use Rattle.std.proofs.Common.{◌≡◌, ℕ, ◌^◌, ◌<◌, ◌≤◌, Bool, false, ◌==◌, ◌&&◌, List, [], ◌∷◌, ◌++◌, length, get_or, map}
 use Rattle.std.proofs.Common.{filter, All, Contains, refl, sym, ap, ap₂, ◌∙◌, subst, arith, inl, inr, eq-eqb}
 use Rattle.std.proofs.lemmas.Bool.{cases_eq, cases_lt, and_from, both_ways}
@@ -28,7 +28,7 @@ use Rattle.cpg_table.proofs.GraphItems.{starts_are, sends_are, hears_are}
 use Rattle.cpg_head.proofs.HeadWithin.{conditions_counted}
 use Rattle.cpg_table.specs.Writing.{row_for, heard_row, rows_of_items, IsWritable, AreWritable}
 
--- a row for places behind the list
+-- the row that is taken if a list has none at a place
 abbrev pub no_row : Row
 no_row = record { item = 0; columns = [] }
 
@@ -52,8 +52,9 @@ module _ (g : Graph) (rows : List Row) (w : AreWritable g rows) where
   pub few_columns : (x : ℕ) → x < item_count g → length (row_for rows x).columns ≤ MOST_COLUMNS
   few_columns x l = w.few x no_row (omega (arith, l, long))
 
--- numbers of items
+-- ---- numbers of items
 
+-- a number that a filter of the items lets pass is that of an item
 filter_below : (g : Graph) (p : ℕ → Bool) (x : ℕ) → Contains (filter p (numbers_below (item_count g))) x →
     x < item_count g
 filter_below g p x c = numbers-Contains (item_count g) x (Contains-filter_parts p (numbers_below (item_count g)) x c).0
@@ -79,14 +80,14 @@ module _ (g : Graph) (within : IsWithinLimits g) (node : ℕ) where
   hear_below l x c = filter_below g (λ y. is_heard_by g node (item_at g y)) x
       (subst (λ xs. Contains xs x) (hears_are g within node l) c)
 
--- numbers of items of the graph are all below the number of items
+-- if each element of a list is below m, and the list and m are equal to others, so is each element of those
 pub all_below : (n m : ℕ) (xs ys : List ℕ) → n ≡ m → xs ≡ ys → ((x : ℕ) → Contains ys x → x < m) → All (λ x. x < n) xs
 all_below n m xs ys e is each = rw (e, is) (All-weaker (Contains ys) (λ x. x < m) each ys (All-contains_itself ys))
 
 -- ---- columns
 
 module _ (g : Graph) (within : IsWithinLimits g) where
-  -- a range of fault counts up to the greatest doesn't begin at 0, if it isn't whole
+  -- a range of fault counts that ends at the greatest and isn't whole doesn't begin at 0
   part_of_count : (l : Literal) → l.variable < process_count g → is_whole g.faults l ≡ false → l.high ≡ g.faults →
       0 < l.low
   part_of_count l v part e = elim (cases_lt 0 l.low) [
@@ -97,7 +98,7 @@ module _ (g : Graph) (within : IsWithinLimits g) where
         (e ∙ sym (top_of_count g.faults l.variable (omega (arith, v, within.few_processes)))))))
   ]
 
-  -- a range of values that isn't whole is one value
+  -- a range of values that isn't whole has one value
   one_value : (l : Literal) → 128 ≤ l.variable → l.low ≤ l.high → l.high ≤ 1 → is_whole g.faults l ≡ false →
       l.low ≡ l.high
   one_value l v some high part = elim (cases_eq l.low l.high) [
@@ -108,7 +109,8 @@ module _ (g : Graph) (within : IsWithinLimits g) where
         e ∙ sym (top_of_value g.faults l.variable v)))))
   ]
 
-  -- a literal on a variable of the graph, with a range that isn't whole, is lawful
+  -- a literal on a variable of the graph, with a range within that of the variable but not whole, is lawful under the
+  -- head: the variable is a fault count, or a condition's value, whose range of 0 to 1 has one number if it isn't whole
   lawful_literal : (l : Literal) → IsVariable g l.variable → l.low ≤ l.high → l.high ≤ top g.faults l.variable →
       is_whole g.faults l ≡ false →
       IsLawfulLiteral (space_of (head_of g)) l
@@ -122,16 +124,16 @@ module _ (g : Graph) (within : IsWithinLimits g) where
       let most : l.high ≤ 1 = omega (arith, high, top_of_value g.faults l.variable v.0) in
       inr (record { value = v.0; known = omega (arith, v.1, conditions_counted g); one = one_value l v.0 some most part; within = most })
 
-  -- the literals of a writable column are lawful
+  -- the literals of a writable column are lawful under the head
   lawful_literals : (c : Column) → IsWritable g c → All (IsLawfulLiteral (space_of (head_of g))) c.cube
   lawful_literals c w = λ i d h.
       lawful_literal (get_or c.cube i d) (w.cube.known i d h) (w.some i d h) (w.within i d h) (w.not_whole i d h)
 
-  -- a column that can be written is lawful under the head
+  -- a writable column is lawful under the head
   lawful_column : (c : Column) → IsWritable g c → IsLawfulColumn (space_of (head_of g)) c
   lawful_column c w = record { time = omega (arith, w.time); literals = lawful_literals c w; rising = w.cube.rising }
 
-  -- a writable column is lawful, also if it is later by a slot
+  -- a writable column is lawful also when it is later by less than 2^59, since its own time is below that
   later_column : (delay : ℕ) → delay < 2 ^ 59 → (c : Column) → IsWritable g c →
       IsLawfulColumn (space_of (head_of g)) (later_by delay c)
   later_column delay short c w =
@@ -161,7 +163,7 @@ module _ (g : Graph) (within : IsWithinLimits g) where
               (later_column delay (slot_short (home g x))) (row_for rows x).columns (writable g rows w x l));
         }
 
-    -- if the row of each item is lawful, all rows of some items are
+    -- if a row for each item of the graph is lawful, so are all rows for some of the items
     all_rows : (row : ℕ → Row) → ((x : ℕ) → x < item_count g → IsLawfulRow (space_of (head_of g)) (row x)) →
         (xs : List ℕ) →
         ((x : ℕ) → Contains xs x → x < item_count g) →
@@ -170,7 +172,7 @@ module _ (g : Graph) (within : IsWithinLimits g) where
         (All-weaker (Contains xs) (λ x. IsLawfulRow (space_of (head_of g)) (row x)) (λ x c. each x (below x c)) xs
         (All-contains_itself xs))
 
-    -- rows that are made for items are of these items
+    -- rows for some items are of these items, if each row is of its item
     items_are : (row : ℕ → Row) → (xs : List ℕ) → ((x : ℕ) → Contains xs x → (row x).item ≡ x) →
         items_of (map row xs) ≡ xs
     items_are row [] each = refl
@@ -186,11 +188,11 @@ module _ (g : Graph) (within : IsWithinLimits g) where
       abbrev sent : List ℕ
       sent = sends_of (head_of g) node
 
-      -- the items that it hears
+      -- the items that the node hears
       abbrev heard : List ℕ
       heard = hears_of (head_of g) node
 
-      -- the rows of the node are of what it starts, sends and hears
+      -- the rows for the items of the node are of what it starts, sends and hears, in this order
       node_items : items_of (rows_of_items g rows (lists_of (head_of g) node)) ≡ started ++ (sent ++ heard)
       node_items =
           map-append (λ (row : Row). row.item) (map (row_for rows) started)
@@ -202,7 +204,7 @@ module _ (g : Graph) (within : IsWithinLimits g) where
           (items_are (row_for rows) sent (λ x c. item_is g rows w x (send_below g within node x c)))
           (items_are (heard_row g rows) heard (λ x c. refl)))
 
-      -- the rows of a node's items, with what it hears later by a slot, are lawful rows of its table
+      -- and they are lawful rows of its table; what it hears is later by a slot
       pub are_rows : AreRowsOf (head_of g) node (rows_of_items g rows (lists_of (head_of g) node))
       are_rows = record {
         items = node_items;

@@ -1,4 +1,4 @@
--- Rows parted by node: those of what a node starts and sends stand as in its table.
+-- Rows for all items, parted by node: those of what a node starts and sends are the first ones of its table (`node_rows`).
 use Rattle.std.proofs.Common.{◌≡◌, ◌≢◌, ℕ, ◌+◌, ◌<◌, ◌≤◌, Bool, true, false, not, cond, ◌==◌, ◌&&◌, ◌||◌, List, [], ◌∷◌}
 use Rattle.std.proofs.Common.{◌++◌, length, get_or, map, filter, drop, All, refl, sym, ap, ap₂, ◌∙◌, subst}
 use Rattle.std.proofs.Common.{arith, inl, inr, ltb, lt-ltb, le-ltb, ne_eqb, true≢false, append_assoc}
@@ -23,12 +23,12 @@ use Rattle.cpg_table.proofs.NodeRows.{no_row, long, item_is}
 
 -- ---- tests
 
--- what is of the first kind is of one of both
+-- if t holds, so does t or s
 first_kind : (b t s : Bool) → t ≡ true → (b && (t || s)) ≡ b
 first_kind true t s e = ap (λ u. u || s) e
 first_kind false t s e = refl
 
--- what isn't of the first kind has to be of the other
+-- if t doesn't hold, t or s is s
 later_kind : (b t s : Bool) → t ≡ false → (b && (t || s)) ≡ (s && b)
 later_kind true true s e = absurd (true≢false e)
 later_kind true false true e = refl
@@ -36,7 +36,7 @@ later_kind true false false e = refl
 later_kind false t true e = refl
 later_kind false t false e = refl
 
--- an item that one node starts or sends is started or sent by no other
+-- an item with the node h that n starts or sends (h is n, and s) isn't started or sent by another node m
 one_home : (h m n : ℕ) (s : Bool) → m ≢ n → not ((h == n) && s) ≡ false → ((h == m) && s) ≡ false
 one_home h m n s apart e = elim (cases_eq h n) [
   | inl here ↦ ap (λ b. b && s) (ne_eqb h m (λ there. apart (sym there ∙ here)))
@@ -45,8 +45,9 @@ one_home h m n s apart e = elim (cases_eq h n) [
 
 -- ---- lists
 
+-- given two tests of which q holds wherever p does
 module _ {X : Type 0} (p q : X → Bool) (none : (x : X) → q x ≡ false → p x ≡ false) where
-  -- what passes the stronger test passes both
+  -- what passes q and then p is what passes p
   passes_both : (xs : List X) → filter p (filter q xs) ≡ filter p xs
   passes_both [] = refl
   passes_both (x ∷ xs) = elim (cases_Bool (q x)) [
@@ -56,27 +57,27 @@ module _ {X : Type 0} (p q : X → Bool) (none : (x : X) → q x ≡ false → p
         ∙ sym (ap (λ b. cond b (x ∷ filter p xs) (filter p xs)) (none x off))
   ]
 
--- an element is moved from the rest of a list to those that passed, or it is left out
+-- given a list of which `out` are those that passed so far, and x is the first of those left
 module _ {X : Type 0} (p : X → Bool) (all out left rest : List X) (x : X) (is : left ≡ x ∷ rest)
     (e : filter p all ≡ out ++ filter p left) where
-  -- an element that passes is moved to those that passed
+  -- if x passes, it is moved to those that passed
   pub filter_moved : p x ≡ true → (more : List X) → more ≡ out ++ x ∷ [] → filter p all ≡ more ++ filter p rest
   filter_moved on more m =
       e ∙ ap (λ ls. out ++ filter p ls) is ∙ ap (λ b. out ++ cond b (x ∷ filter p rest) (filter p rest)) on
       ∙ sym (ap (λ ms. ms ++ filter p rest) m ∙ append_assoc out (x ∷ []) (filter p rest))
 
-  -- an element that fails is left out
+  -- if x fails, it is left out
   pub filter_left : p x ≡ false → filter p all ≡ out ++ filter p rest
   filter_left off =
       e ∙ ap (λ ls. out ++ filter p ls) is ∙ ap (λ b. out ++ cond b (x ∷ filter p rest) (filter p rest)) off
 
--- lists seen as what a function makes
+-- given that the elements of a list, seen by `view`, are what f makes of numbers
 module _ {X Y : Type 0} (view : X → Y) (f : ℕ → Y) where
-  -- there are as many elements as numbers
+  -- if these are the numbers below n, there are n elements
   pub view_count : (n : ℕ) (xs : List X) → map view xs ≡ map f (numbers_below n) → length xs ≡ n
   view_count n xs e = sym (length-map xs view) ∙ ap length e ∙ length-map-range_with_len f 0 n
 
-  -- with one more element at the end the views are still what the function makes
+  -- with an element seen as f n at the end, they are what f makes of the numbers below n + 1
   pub view_more : (n : ℕ) (xs more : List X) (x : X) → map view xs ≡ map f (numbers_below n) → view x ≡ f n →
       more ≡ xs ++ x ∷ [] →
       map view more ≡ map f (numbers_below (n + 1))
@@ -86,7 +87,7 @@ module _ {X Y : Type 0} (view : X → Y) (f : ℕ → Y) where
       ap (map view) is ∙ map-append view xs (x ∷ []) ∙ ap₂ (λ ys zs. ys ++ zs) e (ap (λ y. y ∷ []) new)
       ∙ sym (ap (map f) next ∙ map-append f (numbers_below n) (n ∷ []))
 
-  -- the first element has the first view, and the rest have the others
+  -- if these are the numbers from n on, the first element is seen as f n, and the rest as f from n + 1 on
   pub view_first : (n : ℕ) (left rest : List X) (x : X) → left ≡ x ∷ rest →
       map view left ≡ map f (range_with_len n (length left)) →
       (view x ≡ f n) ×
@@ -98,41 +99,41 @@ module _ {X Y : Type 0} (view : X → Y) (f : ℕ → Y) where
 
 -- ---- the rows of a node
 
--- the rows of another node are still there after those of one node are taken out
+-- if the rows of node n are taken out, all rows of another node m are still there
 pub still_there : (g : Graph) (m n : ℕ) (rows : List Row) → m ≢ n →
     own_rows g m (other_rows g n rows) ≡ own_rows g m rows
 still_there g m n rows apart =
     passes_both (λ (row : Row). has_own g m row.item) (λ (row : Row). not (has_own g n row.item))
     (λ row e. one_home (home g row.item) m n (ltb row.item (process_count g) || is_sent g row.item) apart e) rows
 
--- writable rows are of items of the graph
+-- writable rows are all of items of the graph
 pub all_known : (g : Graph) (rows : List Row) → AreWritable g rows → All (λ row. row.item < item_count g) rows
 all_known g rows w k d l =
     let m : k < item_count g = omega (arith, l, long g rows w) in
     subst (λ (row : Row). row.item < item_count g) (get_or_default rows k no_row d l)
     (subst (λ n. n < item_count g) (sym (item_is g rows w k m)) m)
 
--- the rows of the other nodes are of items of the graph
+-- if rows are of items of the graph, so are those that a node neither starts nor sends
 pub still_known : (g : Graph) (node : ℕ) (rows : List Row) → All (λ row. row.item < item_count g) rows →
     All (λ row. row.item < item_count g) (other_rows g node rows)
 still_known g node rows h =
     All-filter (λ (row : Row). not (has_own g node row.item)) (λ (row : Row). row.item < item_count g) rows h
 
 module _ (g : Graph) (within : IsWithinLimits g) (node : ℕ) where
-  -- whether the node sends an item
+  -- whether the node sends item x
   abbrev is_sent_here : ℕ → Bool
   is_sent_here x = is_sent g x && (home g x == node)
 
-  -- a process is a node's own exactly if it is on the node
+  -- a node starts or sends the item of a process exactly if the process is on it
   own_start : (x : ℕ) → x < process_count g → has_own g node x ≡ (node_of g x == node)
   own_start x l = first_kind (home g x == node) (ltb x (process_count g)) (is_sent g x) (lt-ltb x (process_count g) l)
       ∙ ap (λ i. node_of g (producer_of_item g i) == node) (item_at-start g x l)
 
-  -- another item is a node's own exactly if the node sends it
+  -- a node starts or sends another item exactly if it sends it
   own_later : (x : ℕ) → process_count g ≤ x → has_own g node x ≡ is_sent_here x
   own_later x l = later_kind (home g x == node) (ltb x (process_count g)) (is_sent g x) (le-ltb x (process_count g) l)
 
-  -- the items that a node starts or sends are its starts and then its sends
+  -- the items that a node starts or sends, by number, are its starts and then its sends: part by part of the numbers
   own_items : filter (has_own g node) (numbers_below (item_count g)) ≡ starts_of (head_of g) node
       ++ sends_of (head_of g) node
   own_items =
@@ -154,7 +155,7 @@ module _ (g : Graph) (within : IsWithinLimits g) (node : ℕ) where
     by_item : rows ≡ map (row_for rows) (numbers_below (item_count g))
     by_item = by_place rows no_row ∙ ap (λ n. map (row_for rows) (numbers_below n)) (long g rows w)
 
-    -- the rows that a node starts and sends are the given rows of its starts and then of its sends
+    -- the rows of what a node starts and sends are the given rows of its starts and then of its sends
     own_are : own_rows g node rows ≡ map (row_for rows) (starts_of (head_of g) node ++ sends_of (head_of g) node)
     own_are =
         ap (own_rows g node) by_item
@@ -163,7 +164,7 @@ module _ (g : Graph) (within : IsWithinLimits g) (node : ℕ) where
         (same_filter (λ x. has_own g node (row_for rows x).item) (has_own g node) (numbers_below (item_count g))
         (λ x c. ap (has_own g node) (item_is g rows w x (numbers-Contains (item_count g) x c))) ∙ own_items)
 
-    -- the rows that a node starts and sends, with those that it hears, are all rows of its table
+    -- the rows of what a node starts and sends, and then those that it hears, are all rows of its items
     pub node_rows : own_rows g node rows ++ hears_at g rows node ≡ rows_of_items g rows (lists_of (head_of g) node)
     node_rows =
         let starts : List Row = map (row_for rows) (starts_of (head_of g) node) in

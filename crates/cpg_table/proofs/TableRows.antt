@@ -9,56 +9,56 @@ use Rattle.cpg_table.specs.Table.{Row}
 use Rattle.cpg_table.specs.Shape.{items_of}
 
 module _ {X : Type 0} (P : X → Type 0) where
-  -- what holds of each element of two lists together holds of those of the first
+  -- what holds of each element of xs and ys holds of each of xs
   pub All-left : (xs ys : List X) → All P (xs ++ ys) → All P xs
   All-left xs ys h = All-weaker (Contains xs) P
       (λ x c. All-contains P (xs ++ ys) x h (Contains-append_left xs ys x c)) xs (All-contains_itself xs)
 
-  -- what holds of each element of two lists together holds of those of the second
+  -- what holds of each element of xs and ys holds of each of ys
   pub All-right : (xs ys : List X) → All P (xs ++ ys) → All P ys
   All-right xs ys h = All-weaker (Contains ys) P
       (λ x c. All-contains P (xs ++ ys) x h (Contains-append_right xs ys x c)) ys (All-contains_itself ys)
 
-  -- tests of three lists, one after another
+  -- given three lists, of which a test says whether P holds of each element
   module _ (xs ys zs : List X) where
-    -- if not all of the first list pass, not all of the three lists do
+    -- if it says no of the first list, P doesn't hold of each element of the three
     pub not_first : (r : Bool) → (IsTrue r ↔ All P xs) → r ≡ false → IsTrue false ↔ All P (xs ++ (ys ++ zs))
     not_first r t e =
         (λ k. absurd (true≢false (sym k)), λ h. absurd (true≢false (sym (t.1 (All-left xs (ys ++ zs) h)) ∙ e)))
 
-    -- if not all of the second list pass, not all of the three lists do
+    -- if it says no of the second list, P doesn't hold of each element of the three
     pub not_second : (r : Bool) → (IsTrue r ↔ All P ys) → r ≡ false → IsTrue false ↔ All P (xs ++ (ys ++ zs))
     not_second r t e = (
       λ k. absurd (true≢false (sym k)),
       λ h. absurd (true≢false (sym (t.1 (All-left ys zs (All-right xs (ys ++ zs) h))) ∙ e)),
     )
 
-    -- if all of the first two lists pass, the third one decides
+    -- if P holds of each element of the first two, the answer of the third decides
     pub if_third : All P xs → All P ys → (r : Bool) → (IsTrue r ↔ All P zs) → IsTrue r ↔ All P (xs ++ (ys ++ zs))
     if_third a b r t = (
       λ k. All-append P xs (ys ++ zs) a (All-append P ys zs b (t.0 k)),
       λ h. t.1 (All-right ys zs (All-right xs (ys ++ zs) h)),
     )
 
--- rows of three lists of items, cut by the lengths of the first two
+-- given rows of three lists of items, one after another, cut at the lengths of the first two
 module _ (rows : List Row) (xs ys zs : List ℕ) (is : items_of rows ≡ xs ++ (ys ++ zs)) where
-  -- the first part of the rows has the items of the first list
+  -- the rows up to the first cut are of the first list
   pub first_items : (n : ℕ) → n ≡ length xs → items_of (take n rows) ≡ xs
   first_items n e = ap (λ k. items_of (take k rows)) e ∙ sym (take-map (λ (r : Row). r.item) (length xs) rows)
       ∙ ap (take (length xs)) is ∙ take-append_seam xs (ys ++ zs)
 
-  -- the rows behind the first are of the items behind
+  -- the rows after it are of the second and third list
   rest_items : (n : ℕ) → n ≡ length xs → items_of (drop n rows) ≡ ys ++ zs
   rest_items n e = ap (λ k. items_of (drop k rows)) e ∙ sym (drop-map (λ (r : Row). r.item) (length xs) rows)
       ∙ ap (drop (length xs)) is ∙ drop-append_seam xs (ys ++ zs)
 
-  -- the second part of the rows has the items of the second list
+  -- the rows between the cuts are of the second list
   pub second_items : (n m : ℕ) → n ≡ length xs → m ≡ length ys → items_of (take m (drop n rows)) ≡ ys
   second_items n m e f =
       ap (λ k. items_of (take k (drop n rows))) f ∙ sym (take-map (λ (r : Row). r.item) (length ys) (drop n rows))
       ∙ ap (take (length ys)) (rest_items n e) ∙ take-append_seam ys zs
 
-  -- the rest of the rows has the items of the third list
+  -- the rows after the second cut are of the third list
   pub third_items : (n m : ℕ) → n ≡ length xs → m ≡ length ys → items_of (drop m (drop n rows)) ≡ zs
   third_items n m e f =
       ap (λ k. items_of (drop k (drop n rows))) f ∙ sym (drop-map (λ (r : Row). r.item) (length ys) (drop n rows))

@@ -1,4 +1,4 @@
--- The tables of all nodes with given rows.
+-- Tables of all nodes that have given rows: each item has the columns of its row, and hear rows are those of V10.
 use Rattle.std.proofs.Common.{◌≡◌, ℕ, ◌+◌, ◌<◌, ◌≤◌, true, false, List, [], ◌∷◌, ◌++◌, Some, length, take, drop, map}
 use Rattle.std.proofs.Common.{slice_get, Contains, refl, sym, ap, ap₂, ◌∙◌, subst, arith, inl, inr, ◌⊎◌}
 use Rattle.std.proofs.Common.{true≢false, length-append}
@@ -26,13 +26,13 @@ use Rattle.cpg_table.specs.Writing.{row_for, heard_row, AreWritable, IsTableWith
 use Rattle.cpg_table.proofs.NodeRows.{no_row, long, item_is, start_below, send_below}
 use Rattle.cpg_table.proofs.Loads.{tables_le}
 
--- three lists of given lengths, one after another
+-- given that a, b and d, one after another, are x, y and z, and that a is as long as x
 module _ {X : Type 0} (a b d x y z : List X) (is : a ++ (b ++ d) ≡ x ++ (y ++ z)) (p : length a ≡ length x) where
   -- the first lists are equal
   first_of : a ≡ x
   first_of = sym (take-append_seam a (b ++ d)) ∙ ap₂ take p is ∙ take-append_seam x (y ++ z)
 
-  -- behind the first lists, the second and third together are equal
+  -- what comes after the first lists is equal
   rest_of : b ++ d ≡ y ++ z
   rest_of = sym (drop-append_seam a (b ++ d)) ∙ ap₂ drop p is ∙ drop-append_seam x (y ++ z)
 
@@ -45,7 +45,7 @@ module _ {X : Type 0} (a b d x y z : List X) (is : a ++ (b ++ d) ≡ x ++ (y ++ 
     third_of : d ≡ z
     third_of = sym (drop-append_seam b d) ∙ ap₂ drop q rest_of ∙ drop-append_seam y z
 
--- a list in which nothing is is empty
+-- a list that contains nothing is empty
 nothing : (cs : List Column) → ((c : Column) → Contains cs c → ⊥) → cs ≡ []
 nothing [] h = refl
 nothing (c ∷ cs) h = absurd (h c (Contains-first c cs))
@@ -69,7 +69,7 @@ module _ (g : Graph) (within : IsWithinLimits g) (formed : WellFormed g) (rows :
   items node = lists_of (head_of g) node
 
   module _ (node : ℕ) (l : node < length g.nodes) where
-    -- rows of some items are as many as rows made for these items
+    -- rows of some items are as many as the rows that are made for these items
     count_by_items : (row : ℕ → Row) (rs : List Row) (xs : List ℕ) → items_of rs ≡ xs → length rs ≡ length (map row xs)
     count_by_items row rs xs e = sym (length-map rs (λ (r : Row). r.item)) ∙ ap length e ∙ sym (length-map xs row)
 
@@ -95,13 +95,13 @@ module _ (g : Graph) (within : IsWithinLimits g) (formed : WellFormed g) (rows :
         (map (row_for rows) (items node).starts) (map (row_for rows) (items node).sends)
         (map (heard_row g rows) (items node).hears) (are.each node l).stands start_count send_count
 
-    -- the hear rows of a node are the rows that are heard of the items that it hears
+    -- the hear rows of a node are those that are made for the items that it hears
     pub hears : (table_at tables node).hears ≡ map (heard_row g rows) (items node).hears
     hears = third_of (table_at tables node).starts (table_at tables node).sends (table_at tables node).hears
         (map (row_for rows) (items node).starts) (map (row_for rows) (items node).sends)
         (map (heard_row g rows) (items node).hears) (are.each node l).stands start_count send_count
 
-    -- a row that is made for an item has the columns of the item's given row
+    -- a row among the given rows of some items has the columns of the given row of its item
     from_rows : (xs : List ℕ) → ((x : ℕ) → Contains xs x → x < item_count g) → (rs : List Row) (row : Row) →
         rs ≡ map (row_for rows) xs →
         Contains rs row →
@@ -111,19 +111,19 @@ module _ (g : Graph) (within : IsWithinLimits g) (formed : WellFormed g) (rows :
         let same : row.item ≡ m.0 = ap (λ (r : Row). r.item) (sym m.2) ∙ item_is g rows w m.0 (below m.0 m.1) in
         ap (λ (r : Row). r.columns) (sym m.2) ∙ ap (λ x. (row_for rows x).columns) (sym same)
 
-    -- each of these rows has the columns of its item's row
+    -- each start or send row of the node has the columns of the given row of its item
     row_is : (row : Row) → Contains (rows_at tables node) row → row.columns ≡ (row_for rows row.item).columns
     row_is row k = elim (Contains-append_cases (table_at tables node).starts (table_at tables node).sends row k) [
       | inl m ↦ from_rows (items node).starts (start_below g within node) (table_at tables node).starts row starts m
       | inr m ↦ from_rows (items node).sends (send_below g within node) (table_at tables node).sends row sends m
     ]
 
-  -- an item that is no process and isn't sent has no row at its node
+  -- an item that is no process and isn't sent is of neither kind
   neither : (x : ℕ) → process_count g ≤ x → is_sent g x ≡ false → (x < process_count g) ⊎ (is_sent g x ≡ true) → ⊥
   neither x later unsent (inl start) = absurd (omega arith)
   neither x later unsent (inr sent) = true≢false (sym sent ∙ unsent)
 
-  -- an item with a row at its node has the columns of its row
+  -- an item with a row at its node has the columns of its given row
   stands : (x : ℕ) → HasRow g (home g x) x → columns_of tables x ≡ (row_for rows x).columns
   stands x has =
       let l : home g x < length g.nodes = home_within formed shape x has.within in
@@ -131,7 +131,8 @@ module _ (g : Graph) (within : IsWithinLimits g) (formed : WellFormed g) (rows :
       subst (λ y. columns_of tables y ≡ (row_for rows y).columns) r.2
       (row_columns formed shape (home g x) l r.0 r.1 ∙ row_is (home g x) l r.0 r.1)
 
-  -- each item of the graph has those columns
+  -- each item of the graph has those columns: it is a process, or sent, or has no column in the tables and none in its
+  -- given row
   within_count : (x : ℕ) → x < item_count g → columns_of tables x ≡ (row_for rows x).columns
   within_count x l = elim (cases_lt x (process_count g)) [
     | inl start ↦ stands x (record { within = l; home = refl; kind = inl start })
@@ -142,7 +143,7 @@ module _ (g : Graph) (within : IsWithinLimits g) (formed : WellFormed g) (rows :
     ]
   ]
 
-  -- the columns of an item are those of its given row
+  -- any number has them: one that is no item has no columns, and no given row
   pub columns : (x : ℕ) → columns_of tables x ≡ (row_for rows x).columns
   columns x = elim (cases_lt x (item_count g)) [
     | inl l ↦ within_count x l
@@ -151,7 +152,7 @@ module _ (g : Graph) (within : IsWithinLimits g) (formed : WellFormed g) (rows :
         ∙ sym (ap (λ (row : Row). row.columns) (get_or_past rows x no_row (omega (arith, past, long g rows w))))
   ]
 
-  -- the hear rows of a node are those of V10
+  -- the hear rows of a node are those of V10: made for what it hears, with the columns of the given rows
   pub heard_rows : (node : ℕ) (u : NodeTable) → slice_get tables node ≡ Some u → u.hears ≡ hear_rows g tables node
   heard_rows node u e =
       let l : node < length g.nodes = omega (arith, slice_get_within tables node u e, are.long) in
@@ -164,7 +165,7 @@ module _ (g : Graph) (within : IsWithinLimits g) (formed : WellFormed g) (rows :
           (let row : Row = record { item = x; columns = a } in row) ≡ record { item = x; columns = b }
       same_row x a b e = cc
 
-  -- tables under the head of the graph with these node tables are the tables with the given rows
+  -- tables under the head of the graph with these node tables are tables with the given rows, as `AreTablesWith` says
   pub tables_with : (t : Tables) → t.head ≡ head_of g → t.nodes ≡ tables → AreTablesWith g rows t
   tables_with t head is = record {
     head = head;
@@ -174,7 +175,8 @@ module _ (g : Graph) (within : IsWithinLimits g) (formed : WellFormed g) (rows :
         (sym is) heard_rows;
   }
 
--- with one table more, the tables of the nodes so far have the given rows
+-- if the tables of the first n nodes have the given rows, and t is one of node n with them, so are n + 1 with t at the
+-- end: before the place n the tables are what they were, and at n it is t
 pub table_pushed : (g : Graph) (rows : List Row) (n : ℕ) (tables more : List NodeTable) (t : NodeTable) →
     AreNodeTables g rows n tables → IsTableWith g rows n t →
     more ≡ tables ++ t ∷ [] →

@@ -1,10 +1,10 @@
--- The numbers that name the rules of valid tables.
+-- The numbers by which the rules of valid tables are named.
 use Rattle.std.specs.Prelude.{ℕ}
 use Rattle.cpg_table.specs.declared.rule.Rule.{Rule}
 use Rattle.cpg_table.specs.declared.rule.Rule.TheVariants.{Activity, Single, Present, Heard, Inputs, Processor, Slot}
 use Rattle.cpg_table.specs.declared.rule.Rule.TheVariants.{Frozen, Due, Hears}
 
--- V1 to V10
+-- the number after the V: from 1 for V1 to 10 for V10
 abbrev pub number_of_rule : Rule → ℕ
 number_of_rule Activity = 1
 number_of_rule Single = 2

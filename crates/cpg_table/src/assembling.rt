@@ -1,4 +1,4 @@
-//! Tables of given rows.
+//! Making the tables of all nodes of one row for each item. Every error here is `OutOfMemory`.
 ghost use Rattle.std.specs.Prelude.{◌≡◌, ◌<◌, ◌^◌, ◌++◌, All, IfOk, length, map};
 ghost use Rattle.cpg_base.specs.Graph.{item_count};
 ghost use Rattle.cpg_base.specs.Numbers.{numbers_below};
@@ -15,7 +15,7 @@ use cpg_cube::Column;
 use cpg_head::{Head, head_of};
 use std::alloc::Global;
 
-/// The columns, each later by a delay.
+/// Returns copies of the columns, each later by a delay.
 fn later(alloc: Global, columns: &[Column], delay: u64) -> Result<Vec<Column>, OutOfMemory>
     requires times { All (λ e. e.time < 2 ^ 59) columns.now }
     requires delay { delay < 2 ^ 59 }
@@ -32,21 +32,21 @@ fn later(alloc: Global, columns: &[Column], delay: u64) -> Result<Vec<Column>, O
     Ok(later)
 }
 
-/// The row that is heard of an item: its own row, later by the sender's slot.
+/// Returns the row of an item at a node that hears it: its columns, each later by the sender's slot.
 fn heard(alloc: Global, problem: &Problem, rows: &[Row], item: u32) -> Result<Row, OutOfMemory>
     requires formed { WellFormed problem.now }
     requires rows { AreWritable problem.now rows.now }
     requires item { item < item_count problem.now }
     ensures { IfOk result (λ row. row ≡ heard_row problem.now rows.now item) }
 {
-    // called for its contract: the graph is within its limits
+    // called for its contract: the graph keeps its limits
     let _nodes = problem.nodes();
     let delay = problem.slot_length(problem.home(item));
     let columns = later(alloc, rows[item as usize].columns(), delay)?;
     Ok(Row::new(item, columns))
 }
 
-/// The rows that are heard of these items.
+/// Returns the rows of these items at a node that hears them.
 fn all_heard(
     alloc: Global,
     problem: &Problem,
@@ -67,7 +67,7 @@ fn all_heard(
     Ok(all)
 }
 
-/// The rows that a node hears.
+/// Returns the rows of all that a node hears.
 fn node_hears(
     alloc: Global,
     problem: &Problem,
@@ -81,14 +81,14 @@ fn node_hears(
     requires node { node < length problem.now.nodes }
     ensures { IfOk result (λ heard. heard.items ≡ hears_at problem.now rows.now node) }
 {
-    // called for its contract: the graph is within its limits
+    // called for its contract: the graph keeps its limits
     let _nodes = problem.nodes();
     let items = NodeItems::of(alloc, head, node)?;
     let heard = all_heard(alloc, problem, rows, items.hears())?;
     Ok(heard)
 }
 
-/// The rows that each node hears.
+/// Returns for each node the rows of all that it hears.
 fn hears_of(
     alloc: Global,
     problem: &Problem,
@@ -110,7 +110,7 @@ fn hears_of(
     Ok(all)
 }
 
-/// Whether a node starts or sends an item.
+/// Returns whether a node starts or sends an item.
 fn has_own(problem: &Problem, node: u32, item: u32) -> bool
     requires { item < item_count problem.now }
     ensures { result ≡ has_own problem.now node item }
@@ -118,20 +118,23 @@ fn has_own(problem: &Problem, node: u32, item: u32) -> bool
     if problem.home(item) != node {
         return false;
     }
+    // items are numbered from the processes on, and a node starts all of its own
     if (item as usize) < problem.processes().len() {
         return true;
     }
     problem.is_sent(item)
 }
 
-/// Rows in two groups: those of the items that a node starts and sends, and the others.
+/// Rows in two groups: those of the items that a node starts or sends, and the others.
 #[derive(Drop)]
 struct RowParts {
+    /// The rows of the items that the node starts or sends.
     own: Vec<Row>,
+    /// The rows of all other items.
     others: Vec<Row>,
 }
 
-/// Puts the rows of the items that a node starts and sends apart from the others.
+/// Parts the rows of the items that a node starts or sends from the others.
 fn parted(
     alloc: Global,
     problem: &Problem,
@@ -154,7 +157,7 @@ fn parted(
     Ok(RowParts { own, others })
 }
 
-/// The table of a node.
+/// Returns the table of a node: `own` are the rows of what it starts and sends, `hears` those of what it hears.
 fn node_table(
     alloc: Global,
     head: &Head,
@@ -179,7 +182,7 @@ fn node_table(
     NodeTable::of(alloc, head, node, counts, rows)
 }
 
-/// The tables of the nodes, each with the rows that it hears.
+/// Returns the tables of the nodes. Each takes its own rows out of `rows`, and its hear rows from `hears`.
 fn node_tables(
     alloc: Global,
     problem: &Problem,
@@ -193,10 +196,11 @@ fn node_tables(
     requires hears { map (λ heard. heard.items) hears.items ≡ map (hears_at problem.now rows.items) (numbers_below (length problem.now.nodes)) }
     ensures { IfOk result (λ tables. AreNodeTables problem.now rows.items (length problem.now.nodes) tables.items) }
 {
-    // called for its contract: the graph is within its limits
+    // called for its contract: the graph keeps its limits
     let _nodes = problem.nodes();
     let mut tables = Vec::new(alloc);
     tables.reserve(hears.len())?;
+    // the rows that no node so far starts or sends
     let mut left = rows;
     let mut node: u32 = 0;
     for heard in hears {
@@ -209,14 +213,14 @@ fn node_tables(
     Ok(tables)
 }
 
-/// The tables of all nodes with these rows, one for each item by number. Each node hears what others send to it, later by
-/// the sender's slot.
+/// Returns the tables of all nodes with these rows, one for each item by number. The hear row of an item has its columns,
+/// each later by the sender's slot.
 pub fn tables_of(alloc: Global, problem: &Problem, rows: Vec<Row>) -> Result<Tables, OutOfMemory>
     requires formed { WellFormed problem.now }
     requires rows { AreWritable problem.now rows.items }
     ensures { IfOk result (AreTablesWith problem.now rows.items) }
 {
-    // called for its contract: the graph is within its limits
+    // called for its contract: the graph keeps its limits
     let _nodes = problem.nodes();
     let head = head_of(alloc, problem)?;
     let hears = hears_of(alloc, problem, &head, rows.as_slice())?;

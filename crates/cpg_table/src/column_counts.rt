@@ -4,7 +4,7 @@ ghost use Rattle.cpg_table.specs.Lawful.{column_count, rows_of};
 
 use crate::{NodeTable, Row};
 
-/// How many columns rows have, with those before them; `None` exactly if the number doesn't fit a machine word.
+/// Returns how many columns rows have, and the `before` of earlier ones, or `None` if the number is 2^64 or more.
 pub fn count_columns(rows: &[Row], before: usize) -> Option<usize>
     ensures count { IfSome result (λ count. count ≡ before + column_count rows.now) }
     ensures many { IfNone result (2 ^ 64 ≤ before + column_count rows.now) }
@@ -16,7 +16,7 @@ pub fn count_columns(rows: &[Row], before: usize) -> Option<usize>
     Some(count)
 }
 
-/// How many columns a table has, with those before it; `None` exactly if the number doesn't fit a machine word.
+/// Returns how many columns a table has, and the `before` of earlier ones, or `None` if the number is 2^64 or more.
 pub fn count_table(table: &NodeTable, before: usize) -> Option<usize>
     ensures count { IfSome result (λ count. count ≡ before + column_count (rows_of table.now)) }
     ensures many { IfNone result (2 ^ 64 ≤ before + column_count (rows_of table.now)) }

@@ -1,4 +1,4 @@
-//! How the rows of a node fall into those that it starts, sends and hears.
+//! How the rows of a node divide into those of what it starts, sends and hears.
 ghost use Rattle.std.specs.Prelude.{◌≡◌, ◌≢◌, ◌↔◌, ◌++◌, IsTrue, IfSome, IfNone, length};
 ghost use Rattle.cpg_table.specs.Shape.{items_of};
 ghost use Rattle.cpg_table.specs.Items.{starts_of, sends_of, hears_of};
@@ -7,16 +7,17 @@ use crate::Row;
 use crate::items::{after_hears, after_sends, after_starts};
 use cpg_head::Head;
 
-/// How many rows a node has of each kind but the last.
+/// How many rows a node has of what it starts and sends. The others are of what it hears.
 #[derive(Clone, Copy, Debug)]
 pub struct RowCounts {
-    /// How many it starts.
+    /// How many are of what it starts.
     pub starts: usize,
-    /// How many it sends.
+    /// How many are of what it sends.
     pub sends: usize,
 }
 
-/// How many rows a node starts and sends; `None` exactly if the rows aren't those of its items.
+/// Returns how many of a node's rows are of what it starts and sends, or `None` if the rows aren't those of its items
+/// in their order: starts, sends, hears.
 pub fn counts_of(head: &Head, node: u32, rows: &[Row]) -> Option<RowCounts>
     ensures items { IfSome result (λ _. items_of rows.now ≡ starts_of head.now node ++ (sends_of head.now node ++ hears_of head.now node)) }
     ensures starts { IfSome result (λ c. c.starts ≡ length (starts_of head.now node)) }
@@ -32,6 +33,7 @@ pub fn counts_of(head: &Head, node: u32, rows: &[Row]) -> Option<RowCounts>
     let Some(rest) = after_hears(head, node, hears) else {
         return None;
     };
+    // rows after those of the node's items
     if !rest.is_empty() {
         return None;
     }
@@ -41,7 +43,7 @@ pub fn counts_of(head: &Head, node: u32, rows: &[Row]) -> Option<RowCounts>
     })
 }
 
-/// Whether these are the rows of what a node starts.
+/// Returns whether these are the rows of what a node starts, by number and no others.
 pub fn have_starts(head: &Head, node: u32, rows: &[Row]) -> bool
     ensures { IsTrue result ↔ (items_of rows.now ≡ starts_of head.now node) }
 {
@@ -51,7 +53,7 @@ pub fn have_starts(head: &Head, node: u32, rows: &[Row]) -> bool
     }
 }
 
-/// Whether these are the rows of what a node sends.
+/// Returns whether these are the rows of what a node sends, by number and no others.
 pub fn have_sends(head: &Head, node: u32, rows: &[Row]) -> bool
     ensures { IsTrue result ↔ (items_of rows.now ≡ sends_of head.now node) }
 {
@@ -61,7 +63,7 @@ pub fn have_sends(head: &Head, node: u32, rows: &[Row]) -> bool
     }
 }
 
-/// Whether these are the rows of what a node hears.
+/// Returns whether these are the rows of what a node hears, by number and no others.
 pub fn have_hears(head: &Head, node: u32, rows: &[Row]) -> bool
     ensures { IsTrue result ↔ (items_of rows.now ≡ hears_of head.now node) }
 {

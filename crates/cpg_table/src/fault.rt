@@ -1,4 +1,4 @@
-//! What a violation of the rules of valid tables shows.
+//! A violation of the rules of valid tables.
 
 use cpg_base::Scenario;
 
@@ -9,8 +9,9 @@ pub struct Fault {
     pub rule: u8,
     /// The number of the item.
     pub item: u32,
-    /// The number of the column in the item's row, counting from 0; `None` if the rule misses one.
+    /// The number of the column in the item's row, counted from 0; `None` if what breaks the rule is that no column is
+    /// there or matches.
     pub column: Option<u32>,
-    /// The least scenario that shows it.
+    /// The least scenario in which the rule is broken so.
     pub scenario: Scenario,
 }

@@ -5,7 +5,7 @@ ghost use Rattle.cpg_table.specs.Found.{row_columns};
 use crate::Row;
 use cpg_cube::Column;
 
-/// The columns of the first row of an item, and `None` exactly if there is no row of it.
+/// Returns the columns of the first row of an item, or `None` if no row is of it.
 pub fn row_columns(rows: &[Row], item: u32) -> Option<&[Column]>
     ensures { option_map (λ c. c.now) result ≡ row_columns rows.now item }
 {

@@ -1,4 +1,5 @@
-//! Which items a node starts, sends and hears by a head.
+//! Whether rows begin with those of the items that a node starts, sends or hears under a head. Items are numbered: first
+//! the processes, then the edges (messages), then the conditions (broadcasts).
 ghost use Rattle.std.specs.Prelude.{◌≡◌, ◌<◌, ◌≤◌, ◌+◌, ◌∷◌, [], ◌==◌, ◌&&◌, not, if◌then◌else◌, length, option_map, option_and_then, ℕ};
 ghost use Rattle.cpg_head.specs.Head.{IsHead};
 ghost use Rattle.cpg_table.specs.Items.{numbers_where, head_node_of, leaves, enters, first_message, first_broadcast, conditioned, starts_of, sends_of, hears_of, after_items};
@@ -6,7 +7,8 @@ ghost use Rattle.cpg_table.specs.Items.{numbers_where, head_node_of, leaves, ent
 use crate::Row;
 use cpg_head::{Head, HeadProcess};
 
-/// The rows after the one of an item if it is wanted; `None` exactly if a wanted one doesn't come first.
+/// Returns the rows after that of an item, or all of them if its row isn't wanted, or `None` if it is wanted and
+/// doesn't come first.
 fn after_row(rows: &[Row], item: u32, wanted: bool) -> Option<&[Row]>
     ensures { option_map (λ r. r.now) result ≡ after_items (if wanted then item ∷ [] else []) rows.now }
 {
@@ -19,7 +21,7 @@ fn after_row(rows: &[Row], item: u32, wanted: bool) -> Option<&[Row]>
     if row.item() == item { Some(rest) } else { None }
 }
 
-/// The rows after those of the items that a node starts; `None` exactly if other rows stand there.
+/// Returns the rows after those of the items that a node starts, or `None` if the rows don't begin with these.
 pub fn after_starts<'a>(head: &Head, node: u32, rows: &'a [Row]) -> Option<&'a [Row]>
     ensures { option_map (λ r. r.now) result ≡ after_items (starts_of head.now node) rows.now }
 {
@@ -35,7 +37,7 @@ pub fn after_starts<'a>(head: &Head, node: u32, rows: &'a [Row]) -> Option<&'a [
     Some(rest)
 }
 
-/// Whether an edge leads from a node to another, or to it from another.
+/// Returns whether an edge crosses between a node and another: from the node if `out`, to it if not.
 pub fn is_crossing(head: &Head, node: u32, edge: (u32, u32), out: bool) -> bool
     requires from { edge.0 < length head.now.processes }
     requires to { edge.1 < length head.now.processes }
@@ -50,12 +52,14 @@ pub fn is_crossing(head: &Head, node: u32, edge: (u32, u32), out: bool) -> bool
     }
 }
 
-/// The rows after those of the messages from a node to others, or to it from others.
+/// Returns the rows after those of the messages from a node to others (`out`) or to it from others, or `None` if the
+/// rows don't begin with these.
 fn after_messages<'a>(head: &Head, node: u32, out: bool, rows: &'a [Row]) -> Option<&'a [Row]>
     ensures { option_map (λ r. r.now) result ≡ after_items (numbers_where (λ e.
         if out then leaves head.now node e else enters head.now node e) (first_message head.now) head.now.edges) rows.now }
 {
     let mut rest = rows;
+    // the number of the first message
     let mut item = head.processes().len() as u32;
     for edge in head.edges() {
         let Some(next) = after_row(rest, item, is_crossing(head, node, *edge, out)) else {
@@ -67,28 +71,28 @@ fn after_messages<'a>(head: &Head, node: u32, out: bool, rows: &'a [Row]) -> Opt
     Some(rest)
 }
 
-/// The item of the first condition.
+/// Returns the item number of the first condition's broadcast.
 pub fn first_broadcast(head: &Head) -> u32
     ensures { result ≡ first_broadcast head.now }
 {
     (head.processes().len() + head.edges().len()) as u32
 }
 
-/// Whether a process is on a node, or on another.
+/// Returns whether a process at `place` is on a node (`own`), or whether it is on another.
 fn is_chosen(place: u32, node: u32, own: bool) -> bool
     ensures { result ≡ (if own then place == node else not (place == node)) }
 {
     if own { place == node } else { place != node }
 }
 
-/// Whether a process has a condition, and is on a node or on another.
+/// Returns whether a process has a condition, and is on a node (`own`) or on another.
 pub fn is_wanted(process: &HeadProcess, node: u32, own: bool) -> bool
     ensures { result ≡ (process.now.condition && (if own then process.now.node == node else not (process.now.node == node))) }
 {
     process.condition && is_chosen(process.node, node, own)
 }
 
-/// The number of the next condition after a process.
+/// Returns the number that the next condition gets after a process, which takes `number` if it has a condition.
 pub fn next_number(number: u32, condition: bool) -> u32
     requires { number < 1000 }
     ensures { result ≡ (if condition then number + 1 else number) }
@@ -96,7 +100,8 @@ pub fn next_number(number: u32, condition: bool) -> u32
     if condition { number + 1 } else { number }
 }
 
-/// The rows after those of the broadcasts of a node's own conditions, or of the other nodes'.
+/// Returns the rows after those of the broadcasts of a node's own conditions (`own`) or of all others; `None` exactly if
+/// the rows don't begin with these.
 fn after_broadcasts<'a>(head: &Head, node: u32, own: bool, rows: &'a [Row]) -> Option<&'a [Row]>
     ensures { option_map (λ r. r.now) result ≡ after_items (numbers_where (λ p.
         if own then p.node == node else not (p.node == node)) (first_broadcast head.now) (conditioned head.now)) rows.now }
@@ -113,20 +118,21 @@ fn after_broadcasts<'a>(head: &Head, node: u32, own: bool, rows: &'a [Row]) -> O
     Some(rest)
 }
 
-/// The rows after those of the items that a node sends; `None` exactly if other rows stand there.
+/// Returns the rows after those of the items that a node sends, or `None` if the rows don't begin with these.
 pub fn after_sends<'a>(head: &Head, node: u32, rows: &'a [Row]) -> Option<&'a [Row]>
     ensures { option_map (λ r. r.now) result ≡ after_items (sends_of head.now node) rows.now }
 {
     let Some(rest) = after_messages(head, node, true, rows) else {
         return None;
     };
+    // a node that is alone sends no broadcasts
     if head.nodes().len() > 1 {
         return after_broadcasts(head, node, true, rest);
     }
     Some(rest)
 }
 
-/// The rows after those of the items that a node hears; `None` exactly if other rows stand there.
+/// Returns the rows after those of the items that a node hears, or `None` if the rows don't begin with these.
 pub fn after_hears<'a>(head: &Head, node: u32, rows: &'a [Row]) -> Option<&'a [Row]>
     ensures { option_map (λ r. r.now) result ≡ after_items (hears_of head.now node) rows.now }
 {

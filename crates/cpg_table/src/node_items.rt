@@ -1,4 +1,4 @@
-//! What a node starts, sends and hears, by number.
+//! What a node starts, sends and hears, by item number. The errors are those of memory.
 ghost use Rattle.std.specs.Prelude.{◌≡◌, ◌==◌, not, ◌++◌, ◌∷◌, [], IfOk, OnOk, if◌then◌else◌};
 ghost use Rattle.cpg_table.specs.Items.{numbers_where, leaves, enters, first_message, first_broadcast, conditioned, starts_of, sends_of, hears_of, lists_of};
 
@@ -13,6 +13,7 @@ use std::marker::Model;
 #[derive(Drop)]
 pub struct NodeItems {
     items: Vec<u32>,
+    // how many of the items are started, and how many after these are sent
     starts: usize,
     sends: usize,
 }
@@ -32,7 +33,7 @@ impl Model for NodeItems {
     ghost invariant = { λ n. n.starts + n.sends ≤ length n.items.items };
 }
 
-/// Adds an item if it is wanted.
+/// Adds an item if it is wanted. Here and below, `Err` only if memory runs out.
 fn push_if(items: &mut Vec<u32>, item: u32, wanted: bool) -> Result<(), OutOfMemory>
     ensures { OnOk result (items.new.items ≡ items.old.items ++ (if wanted then item ∷ [] else [])) }
 {
@@ -42,7 +43,7 @@ fn push_if(items: &mut Vec<u32>, item: u32, wanted: bool) -> Result<(), OutOfMem
     Ok(())
 }
 
-/// Adds the processes of a node.
+/// Adds what a node starts: its own processes.
 fn push_starts(items: &mut Vec<u32>, head: &Head, node: u32) -> Result<(), OutOfMemory>
     ensures { OnOk result (items.new.items ≡ items.old.items ++ starts_of head.now node) }
 {
@@ -54,11 +55,12 @@ fn push_starts(items: &mut Vec<u32>, head: &Head, node: u32) -> Result<(), OutOf
     Ok(())
 }
 
-/// Adds the messages from a node to others, or to it from others.
+/// Adds the messages from a node to others (`out`), or to it from others.
 fn push_messages(items: &mut Vec<u32>, head: &Head, node: u32, out: bool) -> Result<(), OutOfMemory>
     ensures { OnOk result (items.new.items ≡ items.old.items ++ numbers_where (λ e.
         if out then leaves head.now node e else enters head.now node e) (first_message head.now) head.now.edges) }
 {
+    // the number of the first message
     let mut item = head.processes().len() as u32;
     for edge in head.edges() {
         push_if(items, item, is_crossing(head, node, *edge, out))?;
@@ -67,7 +69,7 @@ fn push_messages(items: &mut Vec<u32>, head: &Head, node: u32, out: bool) -> Res
     Ok(())
 }
 
-/// Adds the broadcasts of a node's own conditions, or of the other nodes'.
+/// Adds the broadcasts of a node's own conditions (`own`), or of all others.
 fn push_broadcasts(
     items: &mut Vec<u32>,
     head: &Head,
@@ -96,7 +98,7 @@ fn push_sends(items: &mut Vec<u32>, head: &Head, node: u32) -> Result<(), OutOfM
     Ok(())
 }
 
-/// Adds the items that a node hears.
+/// Adds the items that a node hears: messages from other nodes, and the broadcasts of their conditions.
 fn push_hears(items: &mut Vec<u32>, head: &Head, node: u32) -> Result<(), OutOfMemory>
     ensures { OnOk result (items.new.items ≡ items.old.items ++ hears_of head.now node) }
 {
@@ -106,7 +108,7 @@ fn push_hears(items: &mut Vec<u32>, head: &Head, node: u32) -> Result<(), OutOfM
 }
 
 impl NodeItems {
-    /// The items of a node under a head.
+    /// Returns the items of a node under a head.
     pub fn of(alloc: Global, head: &Head, node: u32) -> Result<NodeItems, OutOfMemory>
         ensures { IfOk result (λ items. items ≡ lists_of head.now node) }
     {
@@ -123,21 +125,21 @@ impl NodeItems {
         })
     }
 
-    /// All items of the node.
+    /// Returns all items of the node: what it starts, then what it sends, then what it hears.
     pub fn all(&self) -> &[u32]
         ensures { result.now ≡ self.now.starts ++ (self.now.sends ++ self.now.hears) }
     {
         self.items.as_slice()
     }
 
-    /// The items that the node starts.
+    /// Returns the items that the node starts.
     pub fn starts(&self) -> &[u32]
         ensures { result.now ≡ self.now.starts }
     {
         self.items.as_slice().split_at(self.starts).0
     }
 
-    /// The items that it sends.
+    /// Returns the items that the node sends.
     pub fn sends(&self) -> &[u32]
         ensures { result.now ≡ self.now.sends }
     {
@@ -145,7 +147,7 @@ impl NodeItems {
         rest.split_at(self.sends).0
     }
 
-    /// The items that it hears.
+    /// Returns the items that the node hears.
     pub fn hears(&self) -> &[u32]
         ensures { result.now ≡ self.now.hears }
     {

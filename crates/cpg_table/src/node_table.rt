@@ -17,16 +17,22 @@ use cpg_head::Head;
 use std::alloc::{AllocError, Global};
 use std::marker::Model;
 
-/// When a node starts, sends and hears its items, with what it needs of the head to act by that: the fault number, the
-/// item of the first broadcast, and its own processes. The times of starts and sends are those of the act, the times of
-/// hears those of the arrival.
+/// When a node starts, sends and hears its items, with what it needs of the head to act by that: the most faults, the
+/// item number of the first broadcast, and its own processes. Starts and sends have the time of the act, hears that of
+/// the arrival.
 #[derive(Drop)]
 pub struct NodeTable {
+    /// The most faults.
     faults: u8,
+    /// The item number of the first broadcast.
     first_broadcast: u32,
+    /// The node's own processes.
     own: Vec<Own>,
+    /// The rows of what it starts.
     starts: Vec<Row>,
+    /// The rows of what it sends.
     sends: Vec<Row>,
+    /// The rows of what it hears.
     hears: Vec<Row>,
 }
 
@@ -56,7 +62,8 @@ impl Model for NodeTable {
 }
 
 impl NodeTable {
-    /// The table of a node with the lawful rows of its items. `counts` says how many of them are starts and sends.
+    /// Returns the table of a node with the lawful rows of its items: `counts.starts` of starts, `counts.sends` of sends,
+    /// and the others of hears. `Err` only if memory runs out.
     pub(crate) fn of(
         alloc: Global,
         head: &Head,
@@ -84,8 +91,9 @@ impl NodeTable {
         })
     }
 
-    /// The table of a node with these rows: for each item that it starts, then for each that it sends, then for each that
-    /// it hears (docs/FORMATS.md). `None` exactly if the rows aren't those of the node's items, or one isn't lawful.
+    /// Returns the table of a node with these rows: for each item that it starts, then for each that it sends, then for
+    /// each that it hears (docs/FORMATS.md). `None` exactly if the rows aren't those of the node's items, or one isn't
+    /// lawful; `Err` only if memory runs out.
     pub fn new(
         alloc: Global,
         head: &Head,
@@ -106,7 +114,8 @@ impl NodeTable {
         Ok(Some(table))
     }
 
-    /// The table of a node with the lawful rows of its items, which were checked before.
+    /// Returns the table of a node with the lawful rows of its items; that they are so was checked before. `Err` only if
+    /// memory runs out.
     pub fn of_rows(
         alloc: Global,
         head: &Head,
@@ -119,11 +128,12 @@ impl NodeTable {
     {
         match counts_of(head, node, rows.as_slice()) {
             Some(counts) => NodeTable::of(alloc, head, node, counts, rows),
+            // the rows are those of the node's items
             None => unreachable!(),
         }
     }
 
-    /// How many faults the table allows.
+    /// Returns the most faults that a cycle may have.
     pub fn faults(&self) -> u8
         ensures faults { result ≡ self.now.faults }
         ensures made { IsTable self.now }
@@ -131,7 +141,7 @@ impl NodeTable {
         self.faults
     }
 
-    /// The item of the first broadcast.
+    /// Returns the item number of the first broadcast.
     pub fn first_broadcast(&self) -> u32
         ensures first_broadcast { result ≡ self.now.first_broadcast }
         ensures made { IsTable self.now }
@@ -139,7 +149,7 @@ impl NodeTable {
         self.first_broadcast
     }
 
-    /// The node's own processes, by number.
+    /// Returns the node's own processes, by number.
     pub fn own(&self) -> &[Own]
         ensures own { result.now ≡ self.now.own }
         ensures made { IsTable self.now }
@@ -147,7 +157,7 @@ impl NodeTable {
         self.own.as_slice()
     }
 
-    /// What the node starts: its own processes, by number.
+    /// Returns the rows of what the node starts: its own processes, by number.
     pub fn starts(&self) -> &[Row]
         ensures starts { result.now ≡ self.now.starts }
         ensures made { IsTable self.now }
@@ -155,7 +165,7 @@ impl NodeTable {
         self.starts.as_slice()
     }
 
-    /// What the node sends, by number.
+    /// Returns the rows of what the node sends, by number.
     pub fn sends(&self) -> &[Row]
         ensures sends { result.now ≡ self.now.sends }
         ensures made { IsTable self.now }
@@ -163,7 +173,7 @@ impl NodeTable {
         self.sends.as_slice()
     }
 
-    /// What the node hears, by number.
+    /// Returns the rows of what the node hears, by number.
     pub fn hears(&self) -> &[Row]
         ensures hears { result.now ≡ self.now.hears }
         ensures made { IsTable self.now }
@@ -171,7 +181,7 @@ impl NodeTable {
         self.hears.as_slice()
     }
 
-    /// The columns of an item that the node hears; none if it doesn't hear it.
+    /// Returns the columns of an item that the node hears; none if it doesn't hear it.
     pub fn heard_columns(&self, item: u32) -> &[Column]
         ensures { result.now ≡ columns_in self.now.hears item }
     {
@@ -181,7 +191,7 @@ impl NodeTable {
         }
     }
 
-    /// An equal table.
+    /// Returns an equal table; `Err` only if memory runs out.
     pub fn copy(&self) -> Result<NodeTable, OutOfMemory>
         ensures { IfOk result (λ table. table ≡ self.now) }
     {
@@ -205,7 +215,7 @@ impl Clone for NodeTable {
     }
 }
 
-/// Whether all rows of a table are lawful.
+/// Returns whether all rows of a table are lawful.
 fn are_table_rows(space: VariableSpace, table: &NodeTable) -> bool
     ensures { IsTrue result ↔ All (IsLawfulRow space) (rows_of table.now) }
 {
@@ -218,7 +228,7 @@ fn are_table_rows(space: VariableSpace, table: &NodeTable) -> bool
     are_rows(space, table.hears())
 }
 
-/// Whether the rows of a table are those of a node's items.
+/// Returns whether the rows of a table are those of what a node starts, sends and hears.
 fn has_items(head: &Head, node: u32, table: &NodeTable) -> bool
     ensures { IsTrue result ↔ ((items_of table.now.starts ≡ starts_of head.now node) × (items_of table.now.sends ≡ sends_of head.now node) ×
         (items_of table.now.hears ≡ hears_of head.now node)) }
@@ -232,7 +242,7 @@ fn has_items(head: &Head, node: u32, table: &NodeTable) -> bool
     have_hears(head, node, table.hears())
 }
 
-/// Whether a table has what its node needs of the head.
+/// Returns whether a table says of the head what its node needs: the most faults, the first broadcast, its processes.
 fn has_numbers(head: &Head, node: u32, table: &NodeTable) -> bool
     ensures { IsTrue result ↔ ((table.now.faults ≡ head.now.faults) × (table.now.first_broadcast ≡ first_broadcast head.now) ×
         (table.now.own ≡ own_of head.now node)) }
@@ -246,7 +256,7 @@ fn has_numbers(head: &Head, node: u32, table: &NodeTable) -> bool
     is_own_of(head, node, table.own())
 }
 
-/// Whether a table is that of a node under a head.
+/// Returns whether a table is one of a node under a head.
 pub fn is_table_of(head: &Head, node: u32, table: &NodeTable) -> bool
     ensures { IsTrue result ↔ IsTableOf head.now node table.now }
 {

@@ -8,19 +8,19 @@ use cpg_base::OutOfMemory;
 use cpg_head::{Durations, Head, HeadProcess};
 use std::alloc::{AllocError, Global};
 
-/// A process of the node that has the table.
+/// What a node needs to know of a process of its own.
 #[derive(Drop)]
 pub struct Own {
     /// The number of the process.
     pub process: u32,
     /// The number of its condition, if it has one.
     pub condition: Option<u32>,
-    /// How long its executions take.
+    /// How long its executions take with 0, 1, .. faults.
     pub times: Durations,
 }
 
 impl Own {
-    /// An equal value.
+    /// Returns an equal value; `Err` only if memory runs out.
     pub fn copy(&self) -> Result<Own, OutOfMemory>
         ensures { IfOk result (λ own. own ≡ self.now) }
     {
@@ -41,14 +41,15 @@ impl Clone for Own {
     }
 }
 
-/// The number of a condition, if the process has one.
+/// Returns the number of a process's condition; `None` if the process has none.
 fn condition_if(condition: u32, has: bool) -> Option<u32>
     ensures { result ≡ (if has then Some condition else None) }
 {
     if has { Some(condition) } else { None }
 }
 
-/// Adds a process if it is on the node.
+/// Adds what a node needs to know of a process, if that is on the node. `condition` is the number of its condition, if it
+/// has one. `Err` only if memory runs out.
 fn push_own(
     own: &mut Vec<Own>,
     node: u32,
@@ -70,12 +71,13 @@ fn push_own(
     Ok(())
 }
 
-/// What a node needs to know of its own processes.
+/// Returns what a node needs to know of its own processes; `Err` only if memory runs out.
 pub fn own_of(alloc: Global, head: &Head, node: u32) -> Result<Vec<Own>, OutOfMemory>
     ensures { IfOk result (λ own. own.items ≡ own_of head.now node) }
 {
     let mut own = Vec::new(alloc);
     let mut number: u32 = 0;
+    // the number that the next condition has
     let mut condition: u32 = 0;
     for process in head.processes() {
         push_own(&mut own, node, number, condition, process)?;
@@ -85,21 +87,21 @@ pub fn own_of(alloc: Global, head: &Head, node: u32) -> Result<Vec<Own>, OutOfMe
     Ok(own)
 }
 
-/// Whether two lists of times are equal.
+/// Returns whether two lists of times are equal.
 fn are_same_times(times: &[u64], others: &[u64]) -> bool
     ensures { IsTrue result ↔ (times.now ≡ others.now) }
 {
     times == others
 }
 
-/// Whether two processes have the same condition, or both have none.
+/// Returns whether two processes have the same condition, or both have none.
 fn is_same_condition(condition: Option<u32>, other: Option<u32>) -> bool
     ensures { IsTrue result ↔ (condition ≡ other) }
 {
     condition == other
 }
 
-/// Whether these facts are the ones that a node needs to know of a process.
+/// Returns whether `own` is what a node needs to know of a process with this number, this condition and these times.
 fn is_own(own: &Own, number: u32, condition: Option<u32>, times: &Durations) -> bool
     ensures { IsTrue result ↔ (own.now ≡ record { process = number; condition = condition; times = times.now }) }
 {
@@ -112,7 +114,8 @@ fn is_own(own: &Own, number: u32, condition: Option<u32>, times: &Durations) -> 
     are_same_times(own.times.times(), times.times())
 }
 
-/// The processes after this one if it is on the node, or `None` exactly if it doesn't come first.
+/// Returns what comes in `own` after a process, or all of `own` if the process isn't on the node, or `None` if it is
+/// on the node and doesn't come first.
 fn after_own<'a>(
     own: &'a [Own],
     node: u32,
@@ -137,12 +140,13 @@ fn after_own<'a>(
     }
 }
 
-/// Whether these facts are the ones that a node needs to know of its own processes.
+/// Returns whether `own` is what a node needs to know of its own processes.
 pub fn is_own_of(head: &Head, node: u32, own: &[Own]) -> bool
     ensures { IsTrue result ↔ (own.now ≡ own_of head.now node) }
 {
     let mut rest = own;
     let mut number: u32 = 0;
+    // the number that the next condition has
     let mut condition: u32 = 0;
     for process in head.processes() {
         let Some(next) = after_own(rest, node, number, condition, process) else {

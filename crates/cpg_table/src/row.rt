@@ -6,10 +6,12 @@ use cpg_cube::Column;
 use std::alloc::AllocError;
 use std::marker::Model;
 
-/// The times of an item, seen as the number of the item and its columns.
+/// A row: the number of an item, and the columns that say when it is started, sent or heard; seen as both.
 #[derive(Drop)]
 pub struct Row {
+    /// The number of the item.
     item: u32,
+    /// When it is started, sent or heard, and in which scenarios.
     columns: Vec<Column>,
 }
 
@@ -22,28 +24,28 @@ impl Model for Row {
 }
 
 impl Row {
-    /// The row of an item with these columns.
+    /// Returns the row of an item with these columns.
     pub fn new(item: u32, columns: Vec<Column>) -> Row
         ensures { result ≡ record { item = item; columns = columns.items } }
     {
         Row { item, columns }
     }
 
-    /// The number of the item.
+    /// Returns the number of the item.
     pub fn item(&self) -> u32
         ensures { result ≡ self.now.item }
     {
         self.item
     }
 
-    /// The columns.
+    /// Returns the columns.
     pub fn columns(&self) -> &[Column]
         ensures { result.now ≡ self.now.columns }
     {
         self.columns.as_slice()
     }
 
-    /// An equal row.
+    /// Returns an equal row; `Err` only if memory runs out.
     pub fn copy(&self) -> Result<Row, OutOfMemory>
         ensures { IfOk result (λ row. row ≡ self.now) }
     {

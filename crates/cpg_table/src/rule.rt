@@ -5,30 +5,30 @@ ghost use Rattle.cpg_table.specs.Rules.{number_of_rule};
 /// A rule of valid tables (docs/RULES.md).
 #[derive(Clone, Copy, Debug, PartialEq, Eq)]
 pub enum Rule {
-    /// V1: a column that matches has an active item, and the processes of its literals are active.
+    /// V1: the item of a column that matches is active, and so are the processes of its literals.
     Activity,
-    /// V2: no two columns of one row match.
+    /// V2: no two columns of one row match in one scenario.
     Single,
     /// V3: an active item has a column that matches.
     Present,
     /// V4: each literal of a column that matches is heard at its node by its time.
     Heard,
-    /// V5: at a start the release has come and the live inputs have arrived; at a send the producer has ended.
+    /// V5: at a start the release has come and the live inputs are there; at a send the producer has ended.
     Inputs,
-    /// V6: no two executions on a processor overlap.
+    /// V6: no two executions on a node overlap.
     Processor,
-    /// V7: each send is at the start of a slot of its own node, and no two items of a node share one.
+    /// V7: each send is at the start of a slot of its own node, and no two items of the node share one.
     Slot,
-    /// V8: the columns of a frozen item that match in any scenario have one time.
+    /// V8: the columns of a frozen item, those that match in some scenario, have one time.
     Frozen,
-    /// V9: every end is at most the process's due.
+    /// V9: each execution of a process ends by the due of the process.
     Due,
-    /// V10: a hear row has the sender's columns, each later by the sender's slot.
+    /// V10: a hear row has the sender's columns, each later by the length of the sender's slot.
     Hears,
 }
 
 impl Rule {
-    /// The number by which it is named, from 1 for V1 to 10 for V10.
+    /// Returns the number by which the rule is named, from 1 for V1 to 10 for V10.
     pub fn number(self) -> u8
         ensures { result ≡ number_of_rule self }
     {

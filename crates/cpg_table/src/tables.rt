@@ -12,7 +12,7 @@ use cpg_cube::Column;
 use cpg_head::Head;
 use std::marker::Model;
 
-/// What a pack holds: a head and the table of each node, seen as both.
+/// What a pack holds: a head, and the table of each node under it; seen as both.
 #[derive(Drop)]
 pub struct Tables {
     head: Head,
@@ -29,7 +29,7 @@ impl Model for Tables {
     ghost invariant = { λ t. AreTablesOf t.head t.nodes.items };
 }
 
-/// Whether each table is that of its node.
+/// Returns whether each table is one of its node.
 fn are_tables_of(head: &Head, nodes: &[NodeTable]) -> bool
     requires { length nodes.now ≤ MOST_NODES }
     ensures { IsTrue result ↔ ((node : ℕ) → node < length nodes.now → IsTableOf head.now node (table_at nodes.now node)) }
@@ -44,13 +44,13 @@ fn are_tables_of(head: &Head, nodes: &[NodeTable]) -> bool
     true
 }
 
-/// Whether the tables don't have too many columns.
+/// Returns whether the tables together have at most 524,288 columns.
 fn are_columns_few(nodes: &[NodeTable]) -> bool
     ensures { IsTrue result ↔ (sum_by (λ t. column_count (rows_of t)) nodes.now ≤ MOST_LOAD) }
 {
     let mut total = 0;
     for table in nodes {
-        // the number doesn't fit a machine word
+        // 2^64 or more are too many
         let Some(count) = count_table(table, total) else {
             return false;
         };
@@ -60,7 +60,7 @@ fn are_columns_few(nodes: &[NodeTable]) -> bool
 }
 
 impl Tables {
-    /// The tables of all nodes under a head, which were checked before.
+    /// Returns a head and the tables of its nodes; that they are so was checked before.
     pub fn of(head: Head, nodes: Vec<NodeTable>) -> Tables
         requires { AreTablesOf head nodes.items }
         ensures { result ≡ record { head = head; nodes = nodes.items } }
@@ -68,14 +68,14 @@ impl Tables {
         Tables { head, nodes }
     }
 
-    /// These tables under this head, and `None` exactly if there isn't one for each node, one isn't that of its node
-    /// under this head, or all together have more than 524,288 columns.
+    /// Returns these tables under this head, or `None` if there isn't one for each node, one isn't of its node under
+    /// this head, or all together have more than 524,288 columns.
     pub fn new(head: Head, nodes: Vec<NodeTable>) -> Option<Tables>
         ensures tables { IfSome result (λ t. t ≡ record { head = head; nodes = nodes.items }) }
         ensures lawful { IfSome result (λ _. AreTablesOf head nodes.items) }
         ensures refused { IfNone result (¬ AreTablesOf head nodes.items) }
     {
-        // each node has one table
+        // there isn't one table for each node
         if nodes.len() != head.nodes().len() {
             return None;
         }
@@ -88,7 +88,7 @@ impl Tables {
         Some(Tables { head, nodes })
     }
 
-    /// What the tables are made for.
+    /// Returns the head that the tables are under.
     pub fn head(&self) -> &Head
         ensures head { result.now ≡ self.now.head }
         ensures lawful { AreTablesOf self.now.head self.now.nodes }
@@ -96,7 +96,7 @@ impl Tables {
         &self.head
     }
 
-    /// The table of a node.
+    /// Returns the table of a node.
     pub fn node(&self, number: u32) -> &NodeTable
         requires { number < length self.now.head.nodes }
         ensures table { result.now ≡ table_at self.now.nodes number }
@@ -105,12 +105,12 @@ impl Tables {
         &self.nodes[number as usize]
     }
 
-    /// The columns of an item's start row or send row; none if it has no row.
+    /// Returns the columns of an item's start row or send row, whichever node has it; none if no node does.
     pub fn columns_of(&self, item: u32) -> &[Column]
         ensures columns { result.now ≡ columns_of self.now.nodes item }
         ensures lawful { AreTablesOf self.now.head self.now.nodes }
     {
-        // the first table that has the item's row
+        // the columns in the first table that has such a row
         for table in self.nodes.as_slice() {
             if let Some(columns) = row_columns(table.starts(), item) {
                 return columns;
@@ -122,14 +122,14 @@ impl Tables {
         &[]
     }
 
-    /// The tables of the nodes, by node.
+    /// Returns the tables of the nodes, by node.
     pub fn into_nodes(self) -> Vec<NodeTable>
         ensures nodes { result.items ≡ self.nodes }
     {
         self.nodes
     }
 
-    /// The head, and the table of a node.
+    /// Returns the head, and the table of a node.
     pub fn into_node(self, number: u32) -> (Head, NodeTable)
         requires { number < length self.head.nodes }
         ensures head { result.0 ≡ self.head }
@@ -137,11 +137,12 @@ impl Tables {
     {
         let Tables { head, nodes } = self;
         let mut tables = nodes;
+        // the others are dropped, so their order doesn't matter
         let table = tables.swap_remove(number as usize);
         (head, table)
     }
 
-    /// Equal tables.
+    /// Returns equal tables; `Err` only if memory runs out.
     pub fn copy(&self) -> Result<Tables, OutOfMemory>
         ensures { IfOk result (λ tables. tables ≡ self.now) }
     {

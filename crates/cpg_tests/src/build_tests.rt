@@ -1,5 +1,5 @@
-//! The pair, built over all scenarios, worked by hand, and both builders on a graph of two nodes with a
-//! choice, two faults, releases, deadlines and frozen items.
+//! The pair, built over a list of all scenarios, against what was worked out by hand; and both builders against each
+//! other on a graph of two nodes with a choice, two faults, releases, deadlines and frozen items.
 
 use crate::claims::{Claim, holds};
 use crate::columns::are_rows;
@@ -14,7 +14,8 @@ use cpg_run::Built;
 use cpg_table::{NodeTable, Row};
 use std::alloc::Global;
 
-/// What is built under the urgency order over all scenarios.
+/// Returns what is built under the urgency order over a list of all scenarios, or `None` if these are too many to list
+/// or memory runs out.
 #[tactic(auto, using(crate::proofs::Unfrozen::urgent_topological))]
 fn built_by_list(alloc: Global, admitted: &Admitted) -> Option<Built> {
     if !has_few_scenarios(admitted.problem()) {
@@ -23,13 +24,14 @@ fn built_by_list(alloc: Global, admitted: &Admitted) -> Option<Built> {
     list(alloc, admitted, admitted.order()).ok()
 }
 
-/// What is built under the urgency order by trees.
+/// Returns what is built under the urgency order by trees, or `None` if the build fails.
 #[tactic(auto, using(crate::proofs::Unfrozen::urgent_topological))]
 fn built_by_trees(alloc: Global, admitted: &Admitted) -> Option<Built> {
     expand(alloc, admitted, admitted.order()).ok()
 }
 
-/// B ends at 105, five too late, after a fault of A.
+/// Whether B (process 1) ends last, at 105, which is 5 past the deadline, in the scenario with a fault in A (process
+/// 0).
 fn has_peaks(built: &Built) -> bool {
     built.worst == 105
         && built.worst_by == Some(1)
@@ -39,7 +41,7 @@ fn has_peaks(built: &Built) -> bool {
         && built.excess_in.total() == 1
 }
 
-/// The tables of two nodes.
+/// Returns the tables of the two nodes, or `None` if there aren't two.
 fn both(built: &Built) -> Option<(&NodeTable, &NodeTable)> {
     if built.tables.head().nodes().len() != 2 {
         return None;
@@ -47,7 +49,7 @@ fn both(built: &Built) -> Option<(&NodeTable, &NodeTable)> {
     Some((built.tables.node(0), built.tables.node(1)))
 }
 
-/// The message is sent at 40 and heard at 50 or, after a fault of A, at 80 and 90.
+/// Whether the message is sent at 40 and heard at 50 or, after a fault of A, sent at 80 and heard at 90.
 fn has_rows(built: &Built) -> bool {
     let Some((first, second)) = both(built) else {
         return false;
@@ -57,7 +59,7 @@ fn has_rows(built: &Built) -> bool {
     are_rows(first.sends(), &[sent.as_slice()]) && are_rows(second.hears(), &[heard.as_slice()])
 }
 
-/// Whether what is built of a graph by lists is what the pair has.
+/// Whether what is built of a graph by lists is what was worked out for the pair.
 pub fn is_pair(alloc: Global, admitted: &Admitted) -> bool {
     match built_by_list(alloc, admitted) {
         Some(built) => has_peaks(&built) && has_rows(&built),
@@ -70,7 +72,7 @@ fn the_pair_is_listed(rt: HostRuntime) {
     assert!(rt; holds(rt.alloc(), PAIR, Claim::Pair));
 }
 
-/// The time that a row has in a scenario.
+/// Returns the time of the first column that matches a scenario, or `None` if none does.
 fn time_in(row: &Row, scenario: &Scenario) -> Option<u64> {
     for column in row.columns() {
         if column.cube.matches(scenario) {
@@ -96,6 +98,7 @@ fn rows_agree(first: &[Row], second: &[Row], scenario: &Scenario) -> bool {
     true
 }
 
+/// Whether two tables of a node agree, row by row, in a scenario.
 fn nodes_agree(first: &NodeTable, second: &NodeTable, scenario: &Scenario) -> bool {
     rows_agree(first.starts(), second.starts(), scenario)
         && rows_agree(first.sends(), second.sends(), scenario)
@@ -112,7 +115,8 @@ fn agree_in(first: &Built, second: &Built, scenario: &Scenario) -> bool {
     }
 }
 
-/// Whether the greatest finish and the greatest excess are equal, and there is an excess.
+/// Whether two builds have the same greatest finish and the same greatest excess, and some process is late. A graph
+/// with no late process would compare less.
 fn are_measured_alike(first: &Built, second: &Built) -> bool {
     first.worst == second.worst
         && first.worst_by == second.worst_by
@@ -121,7 +125,7 @@ fn are_measured_alike(first: &Built, second: &Built) -> bool {
         && first.excess > 0
 }
 
-/// Whether what two builders answer has the same measures, and the same times in each of these scenarios.
+/// Whether two builds have the same measures, and the same times in each of these scenarios.
 fn agree(first: &Built, second: &Built, scenarios: &[Scenario]) -> bool {
     are_measured_alike(first, second)
         && scenarios
@@ -129,7 +133,7 @@ fn agree(first: &Built, second: &Built, scenarios: &[Scenario]) -> bool {
             .all(|scenario| agree_in(first, second, scenario))
 }
 
-/// Whether trees tell the same in these scenarios.
+/// Whether what trees build has the same measures and times as what a list built, in these scenarios.
 fn trees_agree(alloc: Global, admitted: &Admitted, scenarios: &[Scenario], listed: &Built) -> bool {
     match built_by_trees(alloc, admitted) {
         Some(built) => agree(listed, &built, scenarios),
@@ -137,7 +141,7 @@ fn trees_agree(alloc: Global, admitted: &Admitted, scenarios: &[Scenario], liste
     }
 }
 
-/// Whether both builders tell the same in these scenarios.
+/// Whether both builders give the same measures and times in these scenarios.
 fn builders_agree_in(alloc: Global, admitted: &Admitted, scenarios: &[Scenario]) -> bool {
     match built_by_list(alloc, admitted) {
         Some(built) => trees_agree(alloc, admitted, scenarios, &built),
@@ -145,7 +149,7 @@ fn builders_agree_in(alloc: Global, admitted: &Admitted, scenarios: &[Scenario])
     }
 }
 
-/// Whether both builders tell the same of a graph in all scenarios.
+/// Whether both builders give the same measures and times for a graph in all scenarios.
 pub fn builders_agree(alloc: Global, admitted: &Admitted) -> bool {
     match listed(alloc, admitted) {
         Ok(scenarios) => builders_agree_in(alloc, admitted, scenarios.as_slice()),

@@ -1,4 +1,5 @@
-//! What a graph is to have: one function owns the graph of a test, since each that does is long to prove.
+//! What is claimed of a test's graph. One function admits and owns the graph of each test, since such a function is
+//! slow to prove.
 use crate::build_tests::{builders_agree, is_pair};
 use crate::fixtures::admitted;
 use crate::list_tests::{Found, is_found};
@@ -9,25 +10,26 @@ use crate::tracks_tests::have_starts;
 use cpg_rules::Admitted;
 use std::alloc::Global;
 
-/// What is so of a graph.
+/// A claim about a graph.
 #[derive(Clone, Copy)]
 pub enum Claim<'a> {
-    /// Processes have these tails.
+    /// Each process has this length of the longest way to an end.
     Tails(&'a [(u32, u64)]),
-    /// Items have so many views.
+    /// Each item has so many views.
     Views(&'a [(u32, u64)]),
-    /// The schedules of the tracks have these starts.
+    /// The greedy schedule of each track has these starts of the four processes.
     Starts(&'a [[Option<u64>; 4]]),
-    /// Both outcomes of the choice run as worked out.
+    /// Both outcomes of the choice run as worked out by hand.
     Outcomes,
-    /// This is found over all scenarios.
+    /// A list of all scenarios gives this.
     Finds(&'a Found),
-    /// Lists build what the pair has.
+    /// A list builds what was worked out for the pair.
     Pair,
     /// Lists and trees build the same.
     Agreement,
 }
 
+/// Whether a claim is true of an admitted graph.
 fn is_so(alloc: Global, admitted: &Admitted, claim: Claim<'_>) -> bool {
     match claim {
         Claim::Tails(wanted) => have_tails(alloc, admitted, wanted),
@@ -40,7 +42,7 @@ fn is_so(alloc: Global, admitted: &Admitted, claim: Claim<'_>) -> bool {
     }
 }
 
-/// Whether this is so of the graph of a text.
+/// Whether a text is an admitted graph, and the claim is true of it.
 pub fn holds(alloc: Global, text: &str, claim: Claim<'_>) -> bool {
     match admitted(alloc, text) {
         Some(admitted) => is_so(alloc, &admitted, claim),

@@ -1,10 +1,11 @@
-//! Rows as plain data.
+//! Rows as plain numbers, so that tests can write them down.
 use cpg_cube::Column;
 use cpg_table::Row;
 
-/// When a column is, with the low and the high of its first literal, 9 if it has none.
+/// A column's time, with the low and the high of its first literal. Both are 9 if it has none, which no fault count is.
 pub type ColumnParts = (u64, u8, u8);
 
+/// Returns the parts of a column.
 fn parts_of(column: &Column) -> ColumnParts {
     match column.cube.literals().first() {
         Some(literal) => (column.time, literal.low, literal.high),
@@ -12,7 +13,7 @@ fn parts_of(column: &Column) -> ColumnParts {
     }
 }
 
-/// Whether a row has just these columns.
+/// Whether a row has just these columns, in order.
 fn is_row(row: &Row, want: &[ColumnParts]) -> bool {
     let columns = row.columns();
     if columns.len() != want.len() {
@@ -26,7 +27,7 @@ fn is_row(row: &Row, want: &[ColumnParts]) -> bool {
     true
 }
 
-/// Whether the rows have just these columns.
+/// Whether there are as many rows, and each has just its columns, in order.
 pub fn are_rows(rows: &[Row], want: &[&[ColumnParts]]) -> bool {
     if rows.len() != want.len() {
         return false;

@@ -1,11 +1,11 @@
-//! Graphs as files have them, and tables as a pack.
+//! The graphs of the tests, as files have them, and the pair's tables, as a pack has them.
 use cpg_codec::read_pack;
 use cpg_reader::read_problem;
 use cpg_rules::{Admitted, admit};
 use cpg_table::{NodeTable, Tables};
 use std::alloc::Global;
 
-/// A sends B, on another node, a message, which is item 2, and one of them may fail once.
+/// The pair: A (process 0) sends B (process 1), which is on the other node, a message (item 2). One fault may strike.
 pub const PAIR: &str = r#"faults = 1
 deadline = 100
 node = [{ name = "N1" }, { name = "N2" }]
@@ -17,7 +17,7 @@ process = [
 edge = [{ from = "A", to = "B" }]
 "#;
 
-/// The graph of `PAIR` with a frozen message, and in time.
+/// The pair with a frozen message, and with a deadline that is met.
 pub const FROZEN: &str = r#"faults = 1
 deadline = 122
 node = [{ name = "N1" }, { name = "N2" }]
@@ -29,7 +29,7 @@ process = [
 edge = [{ from = "A", to = "B", frozen = true }]
 "#;
 
-/// A decides between B, on the other node, and C, and J joins both.
+/// A decides between B, on the other node, and C; J, on B's node, joins both. No fault may strike.
 pub const CHOICE: &str = r#"faults = 0
 deadline = 95
 node = [{ name = "N1" }, { name = "N2" }]
@@ -48,7 +48,7 @@ edge = [
 ]
 "#;
 
-/// A decides between B, on the other node, and C, and one of them may fail once.
+/// A decides between B, on the other node, and C. One fault may strike.
 pub const FORK: &str = r#"faults = 1
 deadline = 1000000
 node = [{ name = "N1" }, { name = "N2" }]
@@ -61,7 +61,7 @@ process = [
 edge = [{ from = "A", to = "B", when = true }, { from = "A", to = "C", when = false }]
 "#;
 
-/// A graph like that of `FORK`, with two faults, a join, releases, deadlines that are missed, and frozen items.
+/// A graph like `CHOICE`, with two faults, a release, deadlines that aren't all met, frozen items, and K and L after J.
 pub const MIXED: &str = r#"faults = 2
 deadline = 150
 node = [{ name = "N1" }, { name = "N2" }]
@@ -84,7 +84,7 @@ edge = [
 ]
 "#;
 
-/// The graph of a text, if it is one and is admitted.
+/// Returns the graph of a text, or `None` if the text isn't one, it isn't admitted, or memory runs out.
 pub fn admitted(alloc: Global, text: &str) -> Option<Admitted> {
     match read_problem(alloc, text.as_bytes()) {
         Ok(problem) => admit(alloc, problem).ok(),
@@ -92,8 +92,8 @@ pub fn admitted(alloc: Global, text: &str) -> Option<Admitted> {
     }
 }
 
-/// A, of at most one fault, is on the first node, and B on the second. The message is sent at 40 if A has no fault and at 80
-/// if it has one, and B starts when it comes, 10 later.
+/// The pack of the pair: A is on the first node, and B on the second. The message is sent at 40 if A has no fault and
+/// at 80 if it has one, and B starts when it comes, 10 later.
 const PACK: [u8; 147] = [
     67, 80, 71, 84, 1, 1, 2, 2, 78, 49, 2, 78, 50, 2, 1, 65, 0, 0, 0, 0, 0, 0, 0, 0, 0, 35, 0, 0,
     0, 0, 0, 0, 0, 72, 1, 66, 1, 0, 0, 0, 0, 0, 0, 0, 0, 15, 0, 0, 0, 0, 0, 0, 0, 32, 0, 1, 0, 1,
@@ -102,7 +102,7 @@ const PACK: [u8; 147] = [
     1, 0, 2, 0, 0, 0, 0, 0, 0, 0, 50, 1, 0, 0, 0, 0, 0, 0, 0, 0, 0, 0, 90, 1, 0, 1, 1,
 ];
 
-/// The tables of the pack.
+/// Returns the tables of the pack, or `None` if memory runs out.
 fn tables(alloc: Global) -> Option<Tables> {
     match Vec::from_slice(alloc, &PACK) {
         Ok(bytes) => read_pack(alloc, bytes).ok(),
@@ -110,7 +110,7 @@ fn tables(alloc: Global) -> Option<Tables> {
     }
 }
 
-/// The table of the second node.
+/// Returns the table of the second node, which is the last, or `None` if memory runs out.
 pub fn second_table(alloc: Global) -> Option<NodeTable> {
     match tables(alloc) {
         Some(tables) => tables.into_nodes().pop(),

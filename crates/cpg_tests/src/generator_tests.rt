@@ -1,20 +1,22 @@
-//! Generated graphs, against what was worked out from the rule by other means.
+//! Generated graphs, against what another program worked out from the rule of their draws.
 
 use cpg_base::{Problem, Process};
 use cpg_gen::generate;
 use std::alloc::Global;
 
-/// A process, and its worst time, parts and costs.
+/// A process's number, with its wcet, parts, alpha, chi and mu.
 type DrawnCosts = (usize, [u64; 5]);
 
-/// An edge, its ends and its condition.
+/// An edge's number, with its source, its target and its `when`.
 type DrawnEnds = (usize, u32, u32, Option<bool>);
 
+/// Returns the wcet, parts, alpha, chi and mu of a process.
 fn costs_of(process: &Process) -> [u64; 5] {
     let parts = u64::from(process.parts);
     [process.wcet, parts, process.alpha, process.chi, process.mu]
 }
 
+/// Whether there is such a process, with these costs.
 fn has_costs(problem: &Problem, costs: DrawnCosts) -> bool {
     match problem.processes().get(costs.0) {
         Some(process) => costs_of(process) == costs.1,
@@ -22,6 +24,7 @@ fn has_costs(problem: &Problem, costs: DrawnCosts) -> bool {
     }
 }
 
+/// Whether there is such an edge, with these ends and this `when`.
 fn has_edge(problem: &Problem, ends: DrawnEnds) -> bool {
     match problem.edges().get(ends.0) {
         Some(edge) => edge.from == ends.1 && edge.to == ends.2 && edge.when == ends.3,
@@ -29,11 +32,13 @@ fn has_edge(problem: &Problem, ends: DrawnEnds) -> bool {
     }
 }
 
-/// The two edges to the join stand after the 39 edges before them.
+/// Whether edges 39 and 40 lead from p10 to the join, p40, one for each value. The 39 edges before them lead to p1 to
+/// p39.
 fn has_join(problem: &Problem) -> bool {
     has_edge(problem, (39, 10, 40, Some(true))) && has_edge(problem, (40, 10, 40, Some(false)))
 }
 
+/// Whether a graph has the counts, faults and deadline of all generated graphs, and so many conditions.
 fn are_counts(problem: &Problem, conditions: u32) -> bool {
     problem.nodes().len() == 4
         && problem.slots().len() == 4

@@ -1,4 +1,4 @@
-//! Each adapter over a real file or a writer that fails.
+//! The shelf of files over a real file, and the sink over a writer that fails.
 
 ghost use Rattle.cpg_io.specs.Shelf.{SameAccess};
 
@@ -7,7 +7,7 @@ use std::alloc::Global;
 use std::io::{ErrorKind, Write};
 use std::{fs, io};
 
-/// Whether these bytes are all that is read under a name.
+/// Whether a file under a name is read whole, within the limit, and has these bytes.
 fn reads<S: Shelf>(alloc: Global, shelf: &mut S, name: &str, limit: usize, want: &[u8]) -> bool
     requires { S.may_fetch shelf.old name.now }
     ensures { SameAccess (S.may_fetch shelf.old) (S.may_fetch shelf.new) }
@@ -18,7 +18,7 @@ fn reads<S: Shelf>(alloc: Global, shelf: &mut S, name: &str, limit: usize, want:
     }
 }
 
-/// Whether what stands under a name isn't read, for this reason.
+/// Whether the file under a name isn't read, for this reason.
 fn is_fault<S: Shelf>(alloc: Global, shelf: &mut S, name: &str, limit: usize, want: ReadAll) -> bool
     requires { S.may_fetch shelf.old name.now }
     ensures { SameAccess (S.may_fetch shelf.old) (S.may_fetch shelf.new) }
@@ -29,20 +29,25 @@ fn is_fault<S: Shelf>(alloc: Global, shelf: &mut S, name: &str, limit: usize, wa
     }
 }
 
-/// Whether nothing is left to read.
+/// Whether the shelf has nothing left to read.
 fn is_at_end<S: Shelf>(shelf: &mut S) -> bool
     ensures { SameAccess (S.may_fetch shelf.old) (S.may_fetch shelf.new) }
 {
     shelf.read(&mut [0; 1]) == Ok(0)
 }
 
-/// Keeps what it is given, at most `room` bytes a write and none past `end`, and counts its flushes.
+/// A writer that keeps what it takes.
 #[derive(Drop)]
 struct Stream {
+    /// What it has taken.
     bytes: Vec<u8>,
+    /// How many bytes it takes in one write, at most.
     room: usize,
+    /// At how many bytes a write fails.
     end: usize,
+    /// How often it was flushed.
     flushes: usize,
+    /// Whether a flush succeeds.
     can_flush: bool,
 }
 
@@ -65,7 +70,7 @@ impl Write for Stream {
     }
 }
 
-/// A stream that takes four bytes a write.
+/// Returns an empty stream that takes four bytes a write.
 fn empty_stream(alloc: Global, end: usize, can_flush: bool) -> Stream {
     Stream {
         bytes: Vec::new(alloc),
@@ -76,7 +81,7 @@ fn empty_stream(alloc: Global, end: usize, can_flush: bool) -> Stream {
     }
 }
 
-/// Whether an adapter writes a piece, and of a second what there is room for.
+/// Whether the sink over a stream takes a first piece whole and fails in a second.
 fn writes_both(stream: &mut Stream) -> bool {
     let mut sink = StreamSink::new(stream);
     write_all(&mut sink, b"order A\n") == Ok(()) && write_all(&mut sink, b"worst") == Err(Failed)
@@ -87,6 +92,8 @@ fn has_taken(stream: &Stream, bytes: &[u8], flushes: usize) -> bool {
     stream.bytes.as_slice() == bytes && stream.flushes == flushes
 }
 
+/// Whether the sink writes 8 bytes in two writes, and 4 of 5 more in a third, with a flush after each write. The fourth
+/// write fails, since the stream is past its end of 10 bytes.
 fn writes_and_flushes(alloc: Global) -> bool {
     let mut stream = empty_stream(alloc, 10, true);
     writes_both(&mut stream) && has_taken(&stream, b"order A\nwors", 3)
@@ -97,7 +104,7 @@ fn writes_and_flushes_a_stream(rt: HostRuntime) {
     assert!(rt; writes_and_flushes(rt.alloc()));
 }
 
-/// Whether a stream that can't be flushed is a fault.
+/// Whether a write fails if the stream can't be flushed.
 fn fails_without_a_flush(alloc: Global) -> bool {
     let mut stream = empty_stream(alloc, 10, false);
     StreamSink::new(&mut stream).write(b"t") == Err(Failed)
@@ -108,7 +115,8 @@ fn fails_where_a_flush_does(rt: HostRuntime) {
     assert!(rt; fails_without_a_flush(rt.alloc()));
 }
 
-/// Whether a file has these bytes, which come in more than one piece, and no more.
+/// Whether a file with 200,000 bytes, which come in more than one piece, is read at this limit and is too long for one
+/// less. Before it is fetched, nothing is there to read.
 fn is_file<S: Shelf>(alloc: Global, shelf: &mut S, path: &str, bytes: &[u8]) -> bool
     requires { S.may_fetch shelf.old path.now }
 {
@@ -117,7 +125,7 @@ fn is_file<S: Shelf>(alloc: Global, shelf: &mut S, path: &str, bytes: &[u8]) -> 
         && is_fault(alloc, shelf, path, 199_999, ReadAll::TooLong)
 }
 
-/// Whether a path where nothing stands is a fault, after which nothing is left to read, and a folder is one too.
+/// Whether reading a path with no file fails, after which nothing is left to read, and reading a folder fails too.
 fn are_faults<S: Shelf>(alloc: Global, shelf: &mut S, path: &str, folder: &str) -> bool
     requires path { S.may_fetch shelf.old path.now }
     requires folder { S.may_fetch shelf.old folder.now }
@@ -127,7 +135,7 @@ fn are_faults<S: Shelf>(alloc: Global, shelf: &mut S, path: &str, folder: &str) 
         && is_fault(alloc, shelf, folder, 10, ReadAll::Failed)
 }
 
-/// Whether a file is so before it is removed and after.
+/// Whether a file is read before it is removed, and reading it fails after.
 fn is_read_and_missed(rt: &HostRuntime, path: &str, bytes: &[u8]) -> bool {
     let mut shelf = FileShelf::new(rt);
     is_file(rt.alloc(), &mut shelf, path, bytes)
@@ -135,7 +143,7 @@ fn is_read_and_missed(rt: &HostRuntime, path: &str, bytes: &[u8]) -> bool {
         && are_faults(rt.alloc(), &mut shelf, path, "/")
 }
 
-/// Whether a file with so many bytes is so.
+/// Writes a file with so many bytes, and returns whether it is then read, and fails once removed.
 fn is_written_and_read(rt: &HostRuntime, path: &str, count: usize) -> bool {
     match vec![in rt.alloc(); 7u8; count] {
         Ok(bytes) => {

@@ -1,5 +1,5 @@
-//! Tests of what no case of the whole program shows: runs, lists, reaches, tracks, trees and nodes call by call, generated
-//! graphs, and the adapters of files and streams.
+//! Tests of what no case of the whole program shows: runs, lists, reaches, tracks, trees and nodes, call by call;
+//! generated graphs; and the shelf of files and the sink over a stream.
 #![tactic(auto)]
 
 #[cfg(test)]

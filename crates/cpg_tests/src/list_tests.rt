@@ -1,4 +1,4 @@
-//! What is found over a list of all scenarios of the pair, call by call, worked by hand.
+//! What is computed over a list of all scenarios of the pair, call by call, against what was worked out by hand.
 ghost use Rattle.std.specs.Prelude.{◌≡◌, IfOk, length};
 ghost use Rattle.cpg_base.specs.Graph.{item_count};
 ghost use Rattle.cpg_bus.specs.Plan.{plan_of};
@@ -22,7 +22,7 @@ use cpg_run::{FrozenTimes, RunTimes};
 use cpg_table::Row;
 use std::alloc::Global;
 
-/// All scenarios.
+/// Returns all scenarios of a graph. An error is that they are too many to list, or that memory runs out.
 pub fn listed(alloc: Global, admitted: &Admitted) -> Result<Vec<Scenario>, OutOfMemory>
     ensures { IfOk result (λ list. AreScenarios admitted.now.graph list.items) }
 {
@@ -34,18 +34,22 @@ pub fn listed(alloc: Global, admitted: &Admitted) -> Result<Vec<Scenario>, OutOf
     }
 }
 
-/// What a peak tells: its time, its process, how often B fails in its scenario, and how often all processes do.
+/// A peak: its time, its process, and in its scenario the faults of B and those of all processes together.
 pub type Told = (u64, Option<u32>, u8, u32);
 
-/// What is found of a graph.
+/// What is computed of a graph over a list of all its scenarios.
 pub struct Found {
+    /// The frozen time of the message, if it is frozen.
     message: Option<u64>,
+    /// The greatest finish.
     worst: Told,
+    /// The greatest excess.
     excess: Told,
+    /// The columns of the starts of A and of B, and of the message.
     rows: [&'static [ColumnParts]; 3],
 }
 
-/// A of the pair fails in the scenario in which B ends last, 5 too late.
+/// What the pair has: B ends last, 5 past the deadline, in the scenario with a fault in A.
 const OF_PAIR: Found = Found {
     message: None,
     worst: (105, Some(1), 0, 1),
@@ -57,7 +61,7 @@ const OF_PAIR: Found = Found {
     ],
 };
 
-/// If the message is frozen, B starts at one time, and ends last if it fails itself.
+/// What the pair with a frozen message has: B always starts at 90, and ends last with a fault of its own.
 const OF_FROZEN: Found = Found {
     message: Some(80),
     worst: (122, Some(1), 1, 1),
@@ -65,6 +69,7 @@ const OF_FROZEN: Found = Found {
     rows: [&[(0, 9, 9)], &[(90, 9, 9)], &[(80, 9, 9)]],
 };
 
+/// Returns a peak as numbers.
 fn told(peak: &Peak) -> Told {
     (
         peak.time,
@@ -74,7 +79,7 @@ fn told(peak: &Peak) -> Told {
     )
 }
 
-/// Whether the worst peak of runs is this.
+/// Whether the greatest finish of runs is this.
 fn is_worst(
     alloc: Global,
     admitted: &Admitted,
@@ -91,7 +96,7 @@ fn is_worst(
     }
 }
 
-/// Whether the greatest excess of runs is this.
+/// Whether the greatest excess of runs is `want`. False at an error, too.
 fn is_excess(
     alloc: Global,
     admitted: &Admitted,
@@ -108,7 +113,7 @@ fn is_excess(
     }
 }
 
-/// Whether the rows of runs are these.
+/// Whether the rows of runs are those of `want`. False at an error, too.
 #[tactic(auto, using(crate::proofs::Unfrozen::urgent_topological))]
 fn has_rows(
     alloc: Global,
@@ -169,14 +174,14 @@ fn has_runs(
     }
 }
 
-/// Whether the start of A isn't frozen, and the message is at this time.
+/// Whether the start of A (item 0) isn't frozen, and the message (item 2) is frozen at this time, or isn't frozen.
 fn are_times(frozen: &FrozenTimes, message: Option<u64>) -> bool
     requires { length frozen.now ≡ 3 }
 {
     frozen.time_of(0).is_none() && frozen.time_of(2) == message
 }
 
-/// Whether the frozen times under the urgency order and the runs are so.
+/// Whether the frozen times under the urgency order, and the peaks and rows of the runs, are these.
 #[tactic(auto, using(crate::proofs::Unfrozen::urgent_topological))]
 fn is_found_by_plan(
     alloc: Global,
@@ -201,7 +206,8 @@ fn is_found_by_plan(
     }
 }
 
-/// Whether all that is found over these scenarios is so, each of which has a run of its own.
+/// Whether all that is computed over these scenarios is this, and no two of them are alike, so that each has its own
+/// run.
 fn is_found_over(
     alloc: Global,
     admitted: &Admitted,
@@ -222,7 +228,7 @@ fn is_found_over(
     }
 }
 
-/// Whether all that is found over all scenarios is so.
+/// Whether all that is computed over these scenarios is this.
 fn is_found_in(alloc: Global, admitted: &Admitted, scenarios: &[Scenario], want: &Found) -> bool
     requires items { item_count admitted.now.graph ≡ 3 }
     requires scenarios { AreScenarios admitted.now.graph scenarios.now }
@@ -233,7 +239,7 @@ fn is_found_in(alloc: Global, admitted: &Admitted, scenarios: &[Scenario], want:
     }
 }
 
-/// Whether all that is found of a graph is so, if it has three items.
+/// Whether a graph has three items, and all that is computed over its scenarios is `want`. False at an error, too.
 pub fn is_found(alloc: Global, admitted: &Admitted, want: &Found) -> bool {
     if admitted.problem().item_count() != 3 {
         return false;

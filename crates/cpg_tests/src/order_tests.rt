@@ -1,11 +1,11 @@
-//! Tails of a choice, worked by hand.
+//! The lengths of the longest ways from the processes of a choice to an end, against what was worked out by hand.
 use crate::claims::{Claim, holds};
 use crate::fixtures::CHOICE;
 use cpg_order::tail;
 use cpg_rules::Admitted;
 use std::alloc::Global;
 
-/// Whether this is the tail of a process.
+/// Whether there is such a process, and the longest way from it to an end has this length.
 fn is_tail(alloc: Global, admitted: &Admitted, process: u32, want: u64) -> bool {
     if process as usize >= admitted.problem().processes().len() {
         return false;
@@ -13,7 +13,7 @@ fn is_tail(alloc: Global, admitted: &Admitted, process: u32, want: u64) -> bool 
     tail(alloc, admitted.problem(), admitted.order(), process) == Ok(want)
 }
 
-/// Whether processes have these tails.
+/// Whether the longest ways from these processes have these lengths.
 pub fn have_tails(alloc: Global, admitted: &Admitted, wanted: &[(u32, u64)]) -> bool {
     for (process, want) in wanted {
         if !is_tail(alloc, admitted, *process, *want) {

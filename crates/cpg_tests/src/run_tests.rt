@@ -1,4 +1,4 @@
-//! Both outcomes of a choice on two nodes, worked by hand.
+//! The runs of both outcomes of a choice on two nodes, against what was worked out by hand.
 
 ghost use Rattle.std.specs.Prelude.{◌≡◌, IfOk, length};
 ghost use Rattle.cpg_base.specs.Graph.{item_count};
@@ -12,7 +12,7 @@ use cpg_rules::Admitted;
 use cpg_run::{FrozenTimes, RunTimes, run};
 use std::alloc::Global;
 
-/// No frozen times.
+/// Returns the frozen times of a graph without any. The one error is that memory runs out.
 #[tactic(auto, using(crate::proofs::Unfrozen::unfrozen_long, crate::proofs::Unfrozen::unfrozen_early))]
 fn unfrozen(alloc: Global, admitted: &Admitted) -> Result<FrozenTimes, OutOfMemory>
     ensures long { IfOk result (λ frozen. length frozen ≡ item_count admitted.now.graph) }
@@ -21,7 +21,8 @@ fn unfrozen(alloc: Global, admitted: &Admitted) -> Result<FrozenTimes, OutOfMemo
     FrozenTimes::none(alloc, admitted.problem())
 }
 
-/// No faults, and the value of the first condition.
+/// Returns the scenario without faults in which the first condition has this value. An error is that there is no
+/// condition, or that memory runs out.
 #[tactic(auto, using(crate::proofs::Unfrozen::valued_lawful))]
 fn valued(alloc: Global, admitted: &Admitted, value: bool) -> Result<Scenario, OutOfMemory>
     ensures { IfOk result (IsScenario admitted.now.graph) }
@@ -34,7 +35,7 @@ fn valued(alloc: Global, admitted: &Admitted, value: bool) -> Result<Scenario, O
     Ok(scenario)
 }
 
-/// The run of a graph if its condition has a value.
+/// Returns the run of a graph in which its condition has this value.
 #[tactic(auto, using(crate::proofs::Unfrozen::urgent_topological))]
 fn run_where(alloc: Global, admitted: &Admitted, value: bool) -> Result<RunTimes, OutOfMemory> {
     let frozen = unfrozen(alloc, admitted)?;
@@ -42,13 +43,14 @@ fn run_where(alloc: Global, admitted: &Admitted, value: bool) -> Result<RunTimes
     run(alloc, admitted, admitted.order(), &frozen, &scenario)
 }
 
-/// Whether these are the times of the starts and of what goes over the bus, and the finish.
+/// Whether a run has this finish and these times: of the starts of A, B, C and J, of the messages to B (item 4) and to
+/// J (7), and of the broadcast of A (8). Items 5 and 6 are edges within a node.
 fn is_run(run: &RunTimes, times: [Option<u64>; 7], finish: u64) -> bool {
     let of = |item| run.time(item);
     [of(0), of(1), of(2), of(3), of(4), of(7), of(8)] == times && run.finish() == finish
 }
 
-/// Whether they are those if the condition has a value.
+/// Whether the run with this value of the condition has these times and this finish.
 fn runs_so(
     alloc: Global,
     admitted: &Admitted,
@@ -62,7 +64,7 @@ fn runs_so(
     }
 }
 
-/// Whether both outcomes of the choice are so.
+/// Whether the runs of both outcomes of the choice are as worked out by hand.
 pub fn outcomes_are_so(alloc: Global, admitted: &Admitted) -> bool {
     let of_c = [Some(0), None, Some(35), Some(70), None, Some(60), Some(40)];
     let of_b = [Some(0), Some(70), None, Some(85), Some(60), None, Some(40)];

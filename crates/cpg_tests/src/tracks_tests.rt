@@ -1,4 +1,4 @@
-//! The tracks of a choice and their schedules, worked by hand.
+//! The greedy schedules of a choice's tracks, against what was worked out by hand.
 use crate::claims::{Claim, holds};
 use crate::fixtures::CHOICE;
 use cpg_base::OutOfMemory;
@@ -6,7 +6,8 @@ use cpg_rules::Admitted;
 use cpg_tracks::{Starts, greedy, tracks};
 use std::alloc::Global;
 
-/// The schedules of all tracks, in order.
+/// Returns the greedy schedules of all tracks, in order. An error is that the tracks are too many, or that memory runs
+/// out.
 fn schedules(alloc: Global, admitted: &Admitted) -> Result<Vec<Starts>, OutOfMemory> {
     let Some(tracks) = tracks(alloc, admitted)? else {
         return Err(OutOfMemory);
@@ -18,13 +19,13 @@ fn schedules(alloc: Global, admitted: &Admitted) -> Result<Vec<Starts>, OutOfMem
     Ok(schedules)
 }
 
-/// The starts of the four processes.
+/// Returns the starts of the four processes in a schedule.
 fn starts(schedule: &Starts) -> [Option<u64>; 4] {
     let of = |process| schedule.start_of(process);
     [of(0), of(1), of(2), of(3)]
 }
 
-/// Whether the starts of the schedules are these.
+/// Whether there are as many schedules, and they have these starts.
 fn are_starts(schedules: &[Starts], wanted: &[[Option<u64>; 4]]) -> bool {
     if schedules.len() != wanted.len() {
         return false;

@@ -38,7 +38,8 @@ module _ (g : Graph) (o : List Bool) (starts : List (Option ℕ)) where
   pub feeds_none : (p : ℕ) (fed : List FedProcess) → (IsFed g o starts p → ⊥) → Feeds g o starts p fed fed
   feeds_none p fed h = record { each = λ k. k; kept = λ q k. k; added = λ f. absurd (h f) }
 
-  -- a process that can be placed is added, with the time at which it is ready
+  -- A process that can be placed is added, with the time at which it is ready.
+  -- What is in the new list was in the old one, or is the process itself.
   pub feeds_one : (p ready : ℕ) (fed : List FedProcess) → IsFed g o starts p → ready ≡ ready_at g o starts p →
       Feeds g o starts p fed (fed ++ (record { process = p; ready = ready }) ∷ [])
   feeds_one p ready fed is at = record {
@@ -55,6 +56,7 @@ module _ (g : Graph) (o : List Bool) (starts : List (Option ℕ)) where
         (Contains-append_right (processes_of fed) (p ∷ []) p (Contains-first p []));
   }
     where
+      -- the entry that is added
       one : FedProcess
       one = record { process = p; ready = ready }
 
@@ -76,11 +78,12 @@ module _ (g : Graph) (o : List Bool) (starts : List (Option ℕ)) where
   AreTargetsFed es fed = (e : ℕ) → Contains es e → live g o e ≡ true → IsFed g o starts (target g e) →
       Contains (processes_of fed) (target g e)
 
-  -- no edge has a target yet
+  -- of no edges all targets that can be placed are there
   pub no_targets : (fed : List FedProcess) → AreTargetsFed [] fed
   no_targets fed e k is f = absurd (Contains-nil e k)
 
-  -- the target of one more live edge is there, if it can be placed
+  -- The target of one more live edge is there, if it can be placed.
+  -- An edge is one of those before, whose target is kept, or e, whose target is fed now.
   pub target_asked : (es : List ℕ) (e : ℕ) (old new : List FedProcess) → Feeds g o starts (target g e) old new →
       AreTargetsFed es old →
       AreTargetsFed (es ++ e ∷ []) new
@@ -93,7 +96,8 @@ module _ (g : Graph) (o : List Bool) (starts : List (Option ℕ)) where
     ]
   ]
 
-  -- an edge that isn't live needs no target
+  -- An edge that isn't live needs no target.
+  -- A live edge is one of those before.
   pub target_passed : (es : List ℕ) (e : ℕ) (fed : List FedProcess) → live g o e ≡ false → AreTargetsFed es fed →
       AreTargetsFed (es ++ e ∷ []) fed
   target_passed es e fed off h x k is f = elim (Contains-append_cases es (e ∷ []) x k) [
@@ -104,7 +108,8 @@ module _ (g : Graph) (o : List Bool) (starts : List (Option ℕ)) where
     ]
   ]
 
-  -- with the targets of all live outputs of p, the processes that can be placed are complete
+  -- With the targets of all live outputs of p, the processes that can be placed are complete.
+  -- A process that can be placed was in the old list, or is the target of a live output of p.
   pub all_targets_asked : (p : ℕ) (old new : List FedProcess) → AreFedBut g o starts p old →
       ((f : FedProcess) → Contains new f → IsFedAt g o starts f) →
       ((q : ℕ) → Contains (processes_of old) q → Contains (processes_of new) q) → AreTargetsFed (outputs g p) new →
@@ -119,7 +124,8 @@ module _ (g : Graph) (o : List Bool) (starts : List (Option ℕ)) where
 
 -- ---- marks of the active processes
 
--- one more process is marked, and those before it stay marked
+-- One more process is marked, and those before it stay marked.
+-- q is p, which is marked now, or one of those before.
 pub mark_set : (marks : List Bool) (qs : List ℕ) (p : ℕ) → p < length marks →
     ((q : ℕ) → Contains qs q → get_or marks q false ≡ true) → (q : ℕ) →
     Contains (qs ++ p ∷ []) q →
@@ -142,7 +148,8 @@ mark_only marks qs p h q k = elim (cases_eq q p) [
   | inr ne ↦ Contains-append_left qs (p ∷ []) q (h q (sym (get_or-set_other marks p q true false ne) ∙ k))
 ]
 
--- marks for exactly the active processes say of each process whether it is active
+-- Marks for exactly the active processes say of each process whether it is active.
+-- Process by process: a mark is set exactly if the process is listed, and it is listed exactly if it is active.
 pub marks_done : (g : Graph) (t : Track) → IsTrackOf g t → (marks : List Bool) → length marks ≡ process_count g →
     ((q : ℕ) → Contains t.active q → get_or marks q false ≡ true) →
     ((q : ℕ) → get_or marks q false ≡ true → Contains t.active q) →
@@ -167,8 +174,8 @@ module _ (g : Graph) (w : WellFormed g) (o : List Bool) (s : List (Option ℕ)) 
   abbrev is_other : FedProcess → Bool
   is_other f = not (f.process == p)
 
-  -- if p is placed at the time at which it would start and taken off the list, only targets of its live outputs may be
-  -- missing there
+  -- If p is placed at the time at which it would start and taken off the list, only targets of its live outputs may be
+  -- missing there: any other process that can be placed now could be before, and is ready at the same time.
   fed_after : (fed : List FedProcess) → AreFed g o s fed →
       AreFedBut g o (set s p (Some (would_start g o s p))) p (filter is_other fed)
   fed_after fed are = record {
@@ -197,7 +204,7 @@ module _ (g : Graph) (w : WellFormed g) (o : List Bool) (s : List (Option ℕ)) 
     ];
   }
 
-  -- the same of a list and of starts that are known to be these
+  -- after p is placed and taken out of the list, it lacks at most targets of p; for any names of the new starts and list
   pub fed_next : (fed : List FedProcess) (start : ℕ) (starts : List (Option ℕ)) (kept : List FedProcess) →
       AreFed g o s fed → start ≡ would_start g o s p →
       starts ≡ set s p (Some start) →

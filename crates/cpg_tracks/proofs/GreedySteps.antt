@@ -69,11 +69,11 @@ module _ (g : Graph) (t : Timing) (is : IsTiming g t) where
 
 -- ---- cases of options
 
--- what holds of a value that there may be holds of the value that is there
+-- `IfSome` says it of the value that an option has
 pub some_at : {X : Type 0} (P : X → Type 0) (o : Option X) → IfSome o P → (x : X) → o ≡ Some x → P x
 some_at P o h x e = subst (λ z. IfSome z P) e h
 
--- what holds if there is no value holds
+-- `IfNone` says it if an option has no value
 pub none_at : {X : Type 0} (P : Type 0) (o : Option X) → IfNone o P → o ≡ None → P
 none_at P o h e = subst (λ z. IfNone z P) e h
 
@@ -123,7 +123,7 @@ module _ (g : Graph) (o : List Bool) (starts : List (Option ℕ)) (p : ℕ) wher
   next_live i d l = ap (filter (live g o)) (take_more (inputs g p) i d l)
       ∙ filter-append (live g o) (take i (inputs g p)) (get_or (inputs g p) i d ∷ [])
 
-  -- when the first inputs are there
+  -- when the process is ready by its release and the first inputs alone
   abbrev ready_by : ℕ → ℕ
   ready_by i = greatest ((process_at g p).release ∷ map (input_ready g starts) (live_of i))
 
@@ -147,7 +147,8 @@ module _ (g : Graph) (o : List Bool) (starts : List (Option ℕ)) (p : ℕ) wher
         (sym (map-append (input_ready g starts) (live_of i) (e ∷ [])))
         ∙ ap (λ xs. greatest ((process_at g p).release ∷ map (input_ready g starts) xs)) (sym (more_by true is))
 
-    -- the source of a live input is placed too
+    -- The source of a live input is placed too.
+    -- A live input among the first i + 1 is one of the first i, or e.
     pub fed_takes : live g o e ≡ true → has_start starts (source g e) ≡ true → FedBy i → FedBy (i + 1)
     fed_takes is there h f k =
         elim (Contains-append_cases (live_of i) (e ∷ []) f (subst (λ xs. Contains xs f) (more_by true is) k)) [
@@ -162,6 +163,7 @@ module _ (g : Graph) (o : List Bool) (starts : List (Option ℕ)) (p : ℕ) wher
     skipped : live g o e ≡ false → live_of (i + 1) ≡ live_of i
     skipped is = more_by false is ∙ append_none (live_of i)
       where
+        -- an empty list at the end changes nothing
         append_none : (xs : List ℕ) → xs ++ [] ≡ xs
         append_none [] = refl
         append_none (x ∷ xs) = ap (λ ys. x ∷ ys) (append_none xs)
@@ -180,27 +182,31 @@ module _ (g : Graph) (o : List Bool) (starts : List (Option ℕ)) (p : ℕ) wher
     not_fed is there h = true≢false (sym (h.inputs e (Contains-filter (live g o) (inputs g p) e is
         (subst (Contains (inputs g p)) at (contains_at (inputs g p) i d l)))) ∙ there)
       where
+        -- what is at a place of a list is in it
         contains_at : (xs : List ℕ) (i d : ℕ) → i < length xs → Contains xs (get_or xs i d)
         contains_at xs i d l = Contains-get_or xs i d l
 
 -- ---- no start is late
+-- An execution within the limits takes at most 600,000,000,000, a round at most 16,000,000,000, so each process that is
+-- placed starts at most 616,000,000,000 after what is there.
 
 -- given starts that are no later than a bound
 module _ (g : Graph) (within : IsWithinLimits g) (w : WellFormed g) (o : List Bool) (starts : List (Option ℕ)) (b : ℕ)
     (early : AreBy b starts) (some : 1000000000 ≤ b) where
-  -- no end is later than the bound by more than an execution
+  -- no end is later than the bound by more than the longest execution
   end_by : (p : ℕ) → p < process_count g → longest_end g starts p ≤ b + 600000000000
   end_by p l = omega (arith, early p, duration-le g p g.faults within l within.faults)
 
-  -- a live input is there within the next bound
+  -- a live input is there no later than the bound, the longest execution and the longest round
   input_by : (p e : ℕ) → Contains (filter (live g o) (inputs g p)) e → input_ready g starts e ≤ b + 616000000000
   input_by p e k = go (is_message g e)
     where
+      -- by whether the edge is a message: then a round is added, of at most 1.6 * 10^10
       go : (m : Bool) → longest_end g starts (source g e) + cond m (round g) 0 ≤ b + 616000000000
       go true = omega (arith, end_by (source g e) (live_source g w o p e k).0, round-le g within)
       go false = omega (arith, end_by (source g e) (live_source g w o p e k).0)
 
-  -- a process is ready by the bound and what it waits for
+  -- so a process is ready by then: its release is no later than the bound
   ready_at_by : (p : ℕ) → p < process_count g → ready_at g o starts p ≤ b + 616000000000
   ready_at_by p l = let at : IsProcessWithin (length g.nodes) (process_at g p) = within.processes p _ l in
       greatest-le ((process_at g p).release ∷ map (input_ready g starts) (filter (live g o) (inputs g p)))
@@ -211,7 +217,7 @@ module _ (g : Graph) (within : IsWithinLimits g) (w : WellFormed g) (o : List Bo
             omega (arith, input_by p r.0 r.1, r.2)
       ])
 
-  -- a node is free by the bound and an execution
+  -- a node is free no later than the bound and the longest execution
   free_by : (node : ℕ) → free_at g starts node ≤ b + 600000000000
   free_by node =
       elim (free_cases g starts node) [ inl e ↦ omega (arith, e) | inr r ↦ omega (arith, r.3, end_by r.0 (r.1).within) ]
@@ -238,10 +244,12 @@ module _ (g : Graph) (o : List Bool) (starts : List (Option ℕ)) (order : List 
     ]
   ]
 
-  -- the better of the best and one more candidate is the best of all so far
+  -- The better of the best and one more candidate is the best of all so far.
+  -- By which of the two it is: it is sooner than the other one, and the best so far is sooner than all before.
   pub best_more : (qs : List ℕ) (best : Option Candidate) (other better : Candidate) → IsBestOf g o starts qs best →
       IsBetterOf order best other better →
       IsCandidate g o starts other → IsBestOf g o starts (qs ++ other.process ∷ []) (Some better)
+  -- there was none so far: nothing before can be placed, so the candidate is the best
   best_more qs None c better h r is = subst (λ x. IsBestOf g o starts (qs ++ c.process ∷ []) (Some x)) (sym r) (record {
     candidate = is;
     best = λ q k f ne. elim (Contains-append_cases qs (c.process ∷ []) q k) [
@@ -250,7 +258,9 @@ module _ (g : Graph) (o : List Bool) (starts : List (Option ℕ)) (order : List 
           elim (Contains-cases c.process [] q m) [ inl same ↦ absurd (ne same) | inr n ↦ absurd (Contains-nil q n) ]
     ];
   })
+  -- there was one: it stays the best, or the candidate takes its place
   best_more qs (Some b) c better h r is = elim r [
+    -- the best so far stays: it is sooner than all before, and than the candidate
     | inl x ↦ subst (λ x. IsBestOf g o starts (qs ++ c.process ∷ []) (Some x)) (sym x.0) (record {
       candidate = h.candidate;
       best = λ q k f ne. elim (Contains-append_cases qs (c.process ∷ []) q k) [
@@ -262,6 +272,7 @@ module _ (g : Graph) (o : List Bool) (starts : List (Option ℕ)) (order : List 
         ]
       ];
     })
+    -- the candidate is better: it is sooner than the best so far, and so than all before
     | inr x ↦ subst (λ x. IsBestOf g o starts (qs ++ c.process ∷ []) (Some x)) (sym x.0) (record {
       candidate = is;
       best = λ q k f ne. elim (Contains-append_cases qs (c.process ∷ []) q k) [
@@ -304,7 +315,8 @@ is_candidate g o starts free f c are is node process start = record {
       ∙ ap (would_start g o starts) (sym process);
 }
 
--- the better of the best candidate and the next one is the best so far
+-- The better of the best candidate and the next one is the best so far.
+-- `best_more`, since the next one's process is that of the list's next element.
 pub best_after : (g : Graph) (o : List Bool) (starts : List (Option ℕ)) (order : List ℕ) → IsUrgencyOrder g order →
     (free : List ℕ) (fed : List FedProcess) →
     AreFree g starts free →
@@ -377,6 +389,7 @@ module _ (g : Graph) (within : IsWithinLimits g) (w : WellFormed g) (o : List Bo
             ∙ sym (get_or-map-below (free_at g next) (length g.nodes) node 0 m)
       ])
     where
+      -- the schedule with p placed
       next : List (Option ℕ)
       next = set s p (Some (would_start g o s p))
 
@@ -388,7 +401,8 @@ module _ (g : Graph) (within : IsWithinLimits g) (w : WellFormed g) (o : List Bo
       long : length free ≡ length g.nodes
       long = ap length k ∙ length-map-range_with_len (free_at g s) 0 (length g.nodes)
 
-  -- the next process starts within the next bound
+  -- The next process starts within the next bound.
+  -- q is the next process, which starts by that bound, or another one, of which nothing changes.
   pub early_more : (b : ℕ) → 1000000000 ≤ b → AreBy b s →
       AreBy (b + 616000000000) (set s p (Some (would_start g o s p)))
   early_more b some early q = elim (cases_eq q p) [
@@ -419,6 +433,7 @@ module _ (g : Graph) (o : List Bool) where
       get_or-replicate (length g.nodes) node 0 0 m
       ∙ sym (get_or-map-below (free_at g (replicate (process_count g) None)) (length g.nodes) node 0 m ∙ none node))
     where
+      -- nothing is placed, so each node is free from 0 on
       none : (node : ℕ) → free_at g (replicate (process_count g) None) node ≡ 0
       none node = elim (free_cases g (replicate (process_count g) None) node) [
         | inl e ↦ e
@@ -441,9 +456,13 @@ module _ (g : Graph) (o : List Bool) where
 
 -- what is known after n processes are placed: the placing, how many are left, when nodes are free, and a bound
 pub record HavePlaced (g : Graph) (o : List Bool) (starts : List (Option ℕ)) (times : List ℕ) (n : ℕ) : Type 0 where
+  -- the schedule is one on the way to a greedy one
   pub placing : IsPlacing g o starts
+  -- of the processes, n or more are placed
   pub left : unplaced_count starts + n ≤ process_count g
+  -- `times` says when each node has ended all that is placed on it
   pub free : AreFree g starts times
+  -- a start is at most 10^9, the latest release, and for each placed process 616 * 10^9, an execution and a round
   pub early : AreBy (1000000000 + n * 616000000000) starts
 
 -- at the start no process is placed
@@ -478,7 +497,7 @@ module _ (g : Graph) (within : IsWithinLimits g) (w : WellFormed g) (o : List Bo
     within.few_processes,
   )
 
-  -- one more process is placed
+  -- with the next process one more is placed, its node is free when it ends, and one less is left
   pub placed_more : (p start node time : ℕ) → IsNext g o starts p → start ≡ would_start g o starts p →
       node ≡ node_of g p →
       time ≡ duration g p g.faults →

@@ -18,7 +18,8 @@ use Rattle.cpg_tracks.specs.Keys.{AreLow}
 
 -- ---- no key is high
 
--- each start in the schedules is within their bound
+-- Each start in the schedules is within their bound.
+-- It is the start in one of the schedules, each of which keeps the bound.
 start_low : (b : ℕ) (schedules : List (List (Option ℕ))) → All (AreBy b) schedules → (p x : ℕ) →
     Contains (flat_map (λ starts. option_to_list (get_or starts p None)) schedules) x → x ≤ b
 start_low b schedules early p x k =
@@ -26,10 +27,12 @@ start_low b schedules early p x k =
     let is : get_or r.0 p None ≡ Some x = in_option (get_or r.0 p None) x r.2 in
     go r.0 r.1 is
   where
+    -- a start in one of the schedules is at most the bound of all
     go : (starts : List (Option ℕ)) → Contains schedules starts → get_or starts p None ≡ Some x → x ≤ b
     go starts m e = omega (arith, All-contains (AreBy b) schedules starts early m p, ap (λ o. unwrap_or o 0) e)
 
--- a key is at most one more than a bound on the starts and on the keys before it
+-- A key is at most one more than a bound on the starts and on the keys before it.
+-- Each number of which it is the greatest is a start, or one more than a key.
 pub key_low : (g : Graph) (schedules : List (List (Option ℕ))) (keys : List ℕ) (b c p : ℕ) → All (AreBy b) schedules →
     b ≤ c → AreLow c keys →
     key_by g schedules keys p ≤ c + 1
@@ -99,7 +102,8 @@ pub keys_long : (g : Graph) (schedules : List (List (Option ℕ))) (keys : List 
     length keys ≡ process_count g
 keys_long g schedules keys by = ap length by ∙ length-map-range_with_len (key_by g schedules keys) 0 (process_count g)
 
--- the processes sorted by their keys are the track order
+-- The processes sorted by their keys are the track order.
+-- The tracks are all tracks, the keys follow the rule, and the order has each process once.
 pub has_order : (g : Graph) (tracks : List Track) (schedules : List (List (Option ℕ))) (keys order : List ℕ) →
     AreAllTracks g tracks →
     AreSchedules g (map (λ (t : Track). t.outcome) tracks) schedules → AreKeys g schedules keys →

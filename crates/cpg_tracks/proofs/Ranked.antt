@@ -31,7 +31,8 @@ module _ (keys rests order : List ℕ) (are : AreRests keys rests) (ranked : Are
   pub all_ranked : IsPermutation (numbers_below (length keys)) order
   all_ranked = subst (λ n. IsPermutation (numbers_below n) order) are.count ranked.all
 
-  -- a lower key is farther from the greatest number
+  -- A lower key is farther from the greatest number.
+  -- A key and its rest always add up to the same number, so a greater rest is a lower key.
   ahead : (p q : ℕ) → p < length keys → q < length keys →
       (ltb (get_or rests q 0) (get_or rests p 0) || ((get_or rests p 0 == get_or rests q 0) && ltb p q)) ≡ true →
       is_ahead keys p q ≡ true
@@ -54,7 +55,8 @@ module _ (keys rests order : List ℕ) (are : AreRests keys rests) (ranked : Are
       (within (get_or order j d) (Contains-get_or order j d l))
       (ranked.falling i j d h l)
 
--- with one number more, the distances of all numbers so far are known
+-- With one number more, the distances of all numbers so far are known.
+-- p is the new place, or one before it.
 pub rests_more : (keys rests next : List ℕ) (n rest : ℕ) → AreRestsUpTo keys n rests →
     rest + get_or keys n 0 ≡ 2 ^ 64 - 1 → next ≡ rests ++ rest ∷ [] →
     AreRestsUpTo keys (n + 1) next

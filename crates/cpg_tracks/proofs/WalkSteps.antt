@@ -65,7 +65,8 @@ pub walk_skips : (g : Graph) (order : List ℕ) (i : ℕ) (scenarios : List Scen
     outcomes_of scenarios ≡ tracks_over g (conditions_along g (take (i + 1) order)) (all_false g ∷ [])
 walk_skips g order i scenarios l e h = h ∙ sym (over_next g order i None l e)
 
--- a walk that has found too many outcomes shows that there are too many tracks
+-- A walk that has found too many outcomes shows that there are too many tracks.
+-- The walk over the rest of the conditions makes no fewer of them, and at the end they are the tracks.
 pub stopped_at : (g : Graph) (order : List ℕ) → IsUrgencyOrder g order → IsTopological g order → (i : ℕ) →
     most_scheduled_tracks < length (tracks_over g (conditions_along g (take i order)) (all_false g ∷ [])) →
     HasManyTracks g

@@ -13,7 +13,8 @@ use cpg_order::{Links, ordered, ranked};
 use cpg_rules::Admitted;
 use std::alloc::Global;
 
-/// How far each key is from the greatest number, so that a lower key is farther.
+/// Returns how far each key is from the greatest 64-bit number. A lower key is farther, so the rests sort the other way
+/// round.
 fn rests(alloc: Global, keys: &[u64]) -> Result<Vec<u64>, OutOfMemory>
     ensures { IfOk result (λ rests. AreRests keys.now rests.items) }
 {
@@ -25,20 +26,22 @@ fn rests(alloc: Global, keys: &[u64]) -> Result<Vec<u64>, OutOfMemory>
     Ok(rests)
 }
 
-/// The processes by rising key, then by number.
+/// Returns the processes by rising keys, and for equal ones by number.
 fn by_key(alloc: Global, keys: &[u64]) -> Result<Vec<u32>, OutOfMemory>
     requires { length keys.now ≤ 128 }
+    // each process number once, in the order of the keys
     ensures all { IfOk result (λ order. IsPermutation (numbers_below (length keys.now)) order.items) }
     ensures rising { IfOk result (λ order. AllPairs (λ p q. IsTrue (is_ahead keys.now p q)) order.items) }
 {
     let rests = rests(alloc, keys)?;
+    // `ranked` puts the greater number first, which here is that of the lower key
     let order = ranked(alloc, rests.as_slice())?;
     Ok(order)
 }
 
-/// The track order of a graph: by key, then by number. The key of a process is the greatest of its starts in the greedy
-/// schedules of all tracks, and of one more than the key of each predecessor. `None` exactly if there are more than 256
-/// tracks.
+/// Returns the track order of a graph: by key, and for equal keys by number. The key of a process is the greatest of its
+/// starts in the greedy schedules of all tracks and of one more than the key of each predecessor. It is `None` exactly if
+/// there are more than 256 tracks.
 pub fn merged_order(alloc: Global, admitted: &Admitted) -> Result<Option<Order>, OutOfMemory>
     ensures order { IfOk result (λ found. IfSome found (HasTrackOrder admitted.now.graph)) }
     ensures topological { IfOk result (λ found. IfSome found (IsTopological admitted.now.graph)) }
@@ -58,6 +61,7 @@ pub fn merged_order(alloc: Global, admitted: &Admitted) -> Result<Option<Order>,
         schedules.as_slice(),
     )?;
     let processes = by_key(alloc, keys.as_slice())?;
+    // the key of a process is above those of its predecessors, so they come first: the order is topological
     let Some(order) = ordered(alloc, problem, processes.as_slice())? else {
         unreachable!()
     };

@@ -14,12 +14,13 @@ use Rattle.cpg_tree.specs.Paths.{paths_from, up_to, above}
 use Rattle.cpg_tree.proofs.Forks.{value_below, value_above}
 use Rattle.cpg_tree.proofs.Flats.{flat-same}
 
--- given: a list of items, the tree that it is of, and a scenario
+-- given: the list of a tree, and a scenario
 module _ {T : Type 0} (items : List (TreeItem T)) (n : TreeNode T) (are : items ≡ flat n) (s : Scenario) where
   -- if the list is of a leaf, the leaf's value is that of the scenario
   pub at_leaf : (x : T) → items ≡ flat (Leaf x) → x ≡ value_at n s
   at_leaf x is = ap (λ (m : TreeNode T). value_at m s) (flat-same (Leaf x) n (sym is ∙ are))
 
+  -- given: the items are the list of a fork
   module _ (v cut : ℕ) (x y : TreeNode T) (is : items ≡ flat (Fork v cut x y)) (z : T) where
     -- the scenario's value on the side it goes to, below or above, is its value in the whole tree
     pub at_below : number_of s v ≤ cut → z ≡ value_at x s → z ≡ value_at n s
@@ -34,6 +35,8 @@ module _ {T : Type 0} (items : List (TreeItem T)) (n : TreeNode T) (are : items 
 -- a list has an item for each leaf, and one for each fork: one fewer
 pub length-flat : {T : Type 0} (n : TreeNode T) (k : ℕ) (cube : List Literal) →
     length (flat n) + 1 ≡ 2 * length (paths_from k cube n)
+-- by induction on the tree: a leaf is one item and one path; a fork has the items of both sides and one more, and the
+-- paths of both
 length-flat (Leaf x) k cube = refl
 length-flat {T} (Fork v cut x y) k cube =
     let last : List (TreeItem T) = Cut v cut (length (flat x)) ∷ [] in

@@ -22,13 +22,14 @@ module _ {A : Type 0} (P : A → Type 0) (front back : List A) (all : All P (fro
   all_back = subst (All P) (drop-append_seam front back) (All-drop P (length front) (front ++ back) all)
 
 module _ (least : ℕ) where
-  -- a path has a time, and one no earlier than the least
+  -- the path has a time, and it is no earlier than `least`
   abbrev pub IsFrom : Path (Option ℕ) → Type 0
   IsFrom p = p.1 ≡ Some (max (time_later 0 p.1) least)
 
-  -- if each leaf is a time of at least this, so is the time of each path
+  -- if each leaf has a time that is at least `least`, each path has
   pub at_least_paths : (k : ℕ) (node : TreeNode (Option ℕ)) (cube : List Literal) → AreAtLeast least node →
       All IsFrom (paths_from k cube node)
+  -- by induction on the tree: a leaf, then a fork by its two sides
   at_least_paths k (Leaf x) cube h = All-cons IsFrom (cube, x) [] h (All-nil IsFrom)
   at_least_paths k (Fork v cut below upper) cube h =
       All-append IsFrom (paths_from k (narrowed_by (up_to v cut) cube) below)
@@ -36,8 +37,9 @@ module _ (least : ℕ) where
       (at_least_paths k below (narrowed_by (up_to v cut) cube) h.0)
       (at_least_paths k upper (narrowed_by (above k v cut) cube) h.1)
 
-  -- if each item of a list is a cut or a time of at least this, so is each leaf of its tree
+  -- if each item of a tree's list is a fork or has a time that is at least `least`, each leaf has such a time
   pub at_least_listed : (n : TreeNode (Option ℕ)) → All (IsItemFrom least) (flat n) → AreAtLeast least n
+  -- by induction on the tree: a leaf, then a fork by its two sides
   at_least_listed (Leaf x) h = All-head (IsItemFrom least) (Value x) [] h
   at_least_listed (Fork v cut x y) h =
       let sides = all_front (IsItemFrom least) (flat x ++ flat y) (Cut v cut (length (flat x)) ∷ []) h in (

@@ -15,7 +15,7 @@ use Rattle.cpg_cube.proofs.CubeLows.{holds-low}
 use Rattle.cpg_cube.proofs.Ranges.{rising_rest, rising_first}
 use Rattle.cpg_tree.specs.Space.{Space, IsInSpace, beyond, faults_of, asked_beyond}
 
--- the numbers of a function, with 0 for one variable
+-- the function f with 0 for the variable v
 abbrev pub without : ℕ → (ℕ → ℕ) → ℕ → ℕ
 without v f u = cond (u == v) 0 (f u)
 
@@ -32,6 +32,7 @@ without_other v u f n = cond-false (u == v) 0 (f u) (ne_eqb u v n)
 pub weights_le : (g : Literal → ℕ) (n : ℕ) (f : ℕ → ℕ) (ls : List Literal) → IsRising ls →
     ((l : Literal) → Contains ls l → l.variable < n → g l ≤ f l.variable) →
     ((l : Literal) → n ≤ l.variable → g l ≤ 0) → sum_by g ls ≤ sum_by f (numbers_below n)
+-- by induction on the literals, and by whether `l.variable` is below `n`
 weights_le g n f [] rising each none = omega arith
 weights_le g n f (l ∷ ls) rising each none = elim (cases_lt l.variable n) [
   | inl few ↦
@@ -46,6 +47,7 @@ weights_le g n f (l ∷ ls) rising each none = elim (cases_lt l.variable n) [
 ]
 
 module _ (space : Space) where
+  -- given: a scenario of the space that matches literals on rising variables
   module _ (s : Scenario) (lies : IsInSpace space s) (ls : List Literal) (rising : IsRising ls)
       (all : matches ls s ≡ true) where
     -- a matching literal on a count asks for no more beyond the low than the scenario has beyond it

@@ -10,7 +10,7 @@ use Rattle.cpg_tree.specs.TreeNode.{TreeNode, Leaf, Fork}
 use Rattle.cpg_tree.specs.Space.{Space, IsWhole, is_open_below, is_open_above, below_cut, above_cut, faults_of}
 use Rattle.cpg_tree.specs.Decision.{IsFit}
 
--- another space with the same lows, highs that are no lower, and no fewer faults left
+-- the other space has the same lows, highs that are no lower, and no fewer faults left
 record IsHigher (space other : Space) : Type 0 where
   pub low : space.low ≡ other.low
   pub left : space.left ≤ other.left
@@ -22,12 +22,14 @@ higher_set : (highs others : List ℕ) (v cut u : ℕ) → length highs ≡ leng
     get_or highs u 0 ≤ get_or others u 0 →
     (u ≡ v) ⊎ (u ≢ v) →
     get_or (slice_set highs v cut) u 0 ≤ get_or (slice_set others v cut) u 0
+-- another variable keeps its highs; v itself gets the cut in both, or 0 if it is behind both lists
 higher_set highs others v cut u long h (inr n) =
     omega (arith, get_or-set_other highs v u cut 0 n, get_or-set_other others v u cut 0 n, h)
 higher_set highs others v cut u long h (inl e) =
     subst (λ w. get_or (slice_set highs v cut) w 0 ≤ get_or (slice_set others v cut) w 0) (sym e)
     (by_length (cases_lt v (length highs)))
   where
+    -- at v itself both have the cut, or 0 if the lists end before v
     by_length : (v < length highs) ⊎ (length highs ≤ v) →
         get_or (slice_set highs v cut) v 0 ≤ get_or (slice_set others v cut) v 0
     by_length (inl l) =
@@ -51,6 +53,7 @@ allows_more v cut low a b l h = elim (or_cases (nat_le 128 v) (nat_lt cut (low +
 module _ (space other : Space) (h : IsHigher space other) (v cut : ℕ) where
   -- below a cut one space is still the higher
   higher_below : IsHigher (below_cut space v cut) (below_cut other v cut)
+  -- the high of v is the cut in both, and the highs of other variables stay
   higher_below = record {
     low = h.low;
     left = h.left;
@@ -69,7 +72,7 @@ module _ (space other : Space) (h : IsHigher space other) (v cut : ℕ) where
     high = h.high;
   }
 
-  -- a cut that one space has open below is so in the other
+  -- a cut that is open below in one space is open below in the other
   open_below : is_open_below space v cut ≡ true → is_open_below other v cut ≡ true
   open_below o = subst (λ (lows : List ℕ). nat_le (get_or lows v 0) cut ≡ true) h.low o
 
@@ -86,6 +89,7 @@ module _ (space other : Space) (h : IsHigher space other) (v cut : ℕ) where
 -- a tree that fits a space fits any that is higher
 fits_higher : {T : Type 0} (node : TreeNode T) (space other : Space) → IsHigher space other → IsFit space node →
     IsFit other node
+-- by induction on the tree: a leaf, then a fork by its two sides
 fits_higher (Leaf x) space other h fit = fit
 fits_higher (Fork v cut below above) space other h fit = (
   fit.0,
@@ -102,6 +106,7 @@ pub fits_uncut : {T : Type 0} (node : TreeNode T) (space : Space) (v cut : ℕ) 
 fits_uncut node space v cut o fit = fits_higher node (below_cut space v cut) space
     (record { low = refl; left = omega arith; long = length-set space.high v cut; high = lower }) fit
   where
+    -- the cut is below the high, since the space is open above it
     below_high : cut < get_or space.high v 0
     below_high = ltb-true cut (get_or space.high v 0) (and_parts (nat_lt cut (get_or space.high v 0)) _ o).0
 
@@ -113,6 +118,7 @@ fits_uncut node space v cut o fit = fits_higher node (below_cut space v cut) spa
 
     -- setting the high to the cut makes no high greater
     lower : (u : ℕ) → get_or (slice_set space.high v cut) u 0 ≤ get_or space.high u 0
+    -- at v the new high is the cut, which isn't above the old one; elsewhere the highs stay
     lower u = elim (cases_eq u v) [
       | inr n ↦ omega (arith, get_or-set_other space.high v u cut 0 n)
       | inl e ↦ subst (λ w. get_or (slice_set space.high v cut) w 0 ≤ get_or space.high w 0) (sym e)
@@ -124,6 +130,7 @@ fits_uncut node space v cut o fit = fits_higher node (below_cut space v cut) spa
 -- a number that is set is there, or past the list
 at_set : (xs : List ℕ) (v y : ℕ) →
     (get_or (slice_set xs v y) v 0 ≡ y) ⊎ ((get_or (slice_set xs v y) v 0 ≡ 0) × (get_or xs v 0 ≡ 0))
+-- within the list the number is set; past its end both lists give 0
 at_set xs v y = elim (cases_lt v (length xs)) [
   | inl l ↦ inl (get_or-set_same xs v y 0 l)
   | inr past ↦
@@ -133,6 +140,7 @@ at_set xs v y = elim (cases_lt v (length xs)) [
 -- a list with a lower number put at v has nowhere a higher number
 set_lower : (highs : List ℕ) (v cut far u : ℕ) → cut < far →
     get_or (slice_set highs v cut) u 0 ≤ get_or (slice_set highs v far) u 0
+-- at v the lower number is read in place of the higher one, or 0 in both past the end; elsewhere the lists are equal
 set_lower highs v cut far u less = elim (cases_eq u v) [
   | inr n ↦ omega (arith, get_or-set_other highs v u cut 0 n, get_or-set_other highs v u far 0 n)
   | inl e ↦ subst (λ w. get_or (slice_set highs v cut) w 0 ≤ get_or (slice_set highs v far) w 0) (sym e)
@@ -179,8 +187,9 @@ module _ (space : Space) (v cut far : ℕ) (less : cut < far) (below : is_open_b
   joined_open_below : is_open_below space v far ≡ true
   joined_open_below = le-leb (get_or space.low v 0) far (omega (arith, low_under, less))
 
-  -- if numbers above the higher cut are open after the lower cut, they are open before it; by kind of variable
+  -- if the space above the lower cut is open above the higher one, so is the space itself
   joined_open_above : is_open_above (above_cut space v cut) v far ≡ true → is_open_above space v far ≡ true
+  -- a value takes no faults; for a count, the faults left without the lower cut allow what those left after it do
   joined_open_above o =
       let parts = and_parts (nat_lt far (get_or space.high v 0)) _ o in
       and_from (nat_lt far (get_or space.high v 0)) _ parts.0 (elim (cases_lt v 128) [
@@ -208,6 +217,7 @@ module _ (space : Space) (v cut far : ℕ) (less : cut < far) (below : is_open_b
   joined_left : (space.left - faults_of v (cut + 1 - get_or space.low v 0))
       - faults_of v (far + 1 - get_or (slice_set space.low v (cut + 1)) v 0) ≤ space.left - faults_of v
       (far + 1 - get_or space.low v 0)
+  -- a count takes the faults of both steps, which are those of the one step; a value takes none
   joined_left = elim (cases_lt v 128) [
     | inl count ↦ omega (
       arith,
@@ -225,13 +235,15 @@ module _ (space : Space) (v cut far : ℕ) (less : cut < far) (below : is_open_b
   joined_above =
       record { low = set-set space.low v (cut + 1) (far + 1); left = joined_left; long = refl; high = λ u. omega arith }
 
--- a fork with a fork on the same variable above it, whose side below is left out
+-- If `above` is a fork on the same variable at a greater cut, the fork at that cut with `below` and its far side fits the space
+-- too. So `below` can take the place of the side in between.
 pub fits_joined : {T : Type 0} (below near far_above above : TreeNode T) (space : Space) (v cut next far : ℕ) →
     above ≡ Fork next far near far_above → next ≡ v →
     cut < far →
     is_open_below space v cut ≡ true → IsFit (below_cut space v cut) below → IsFit (above_cut space v cut) above →
     (v < 256) × (is_open_below space v far ≡ true) × (is_open_above space v far ≡ true) ×
     IsFit (below_cut space v far) below × IsFit (above_cut space v far) far_above
+-- the cut at `far` is open on both sides, and each side's space is higher than the one that the tree is known to fit
 fits_joined {T} below near far_above above space v cut next far is same less under fit_below fit_above =
     let fit = subst (λ (u : ℕ). IsFit (above_cut space v cut) (Fork u far near far_above)) same
     (subst (λ (n : TreeNode T). IsFit (above_cut space v cut) n) is fit_above) in (
@@ -248,6 +260,7 @@ fits_joined {T} below near far_above above space v cut next far is same less und
 module _ (k : ℕ) (space other : Space) (one : IsWhole k space) (two : IsWhole k other) where
   -- no high of the first whole space is above that of the second
   whole_high : (v : ℕ) → get_or space.high v 0 ≤ get_or other.high v 0
+  -- both have k for a count and 1 for a value; past the 256 variables both give 0
   whole_high v = elim (cases_lt v 256) [
     | inl there ↦ elim (cases_lt v 128) [
       | inl count ↦ omega (arith, one.counts v count, two.counts v count)

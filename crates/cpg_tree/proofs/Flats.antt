@@ -127,6 +127,8 @@ pub shows_cut : {T : Type 0} (n : TreeNode T) (items sides : List (TreeItem T)) 
     items ≡ sides ++ (Cut v cut m ∷ []) →
     (x : TreeNode T) × (y : TreeNode T) × (take (min m (length sides)) sides ≡ flat x) ×
     (drop (min m (length sides)) sides ≡ flat y) × (items ≡ flat (Fork v cut x y))
+-- A leaf's last item is a value, so the tree is a fork. The last item is the fork's own, and the others are those of its
+-- sides, of which the first is as long as the item says.
 shows_cut {T} (Leaf z) items sides v cut m is last =
     absurd (cut_is_no_value (last_same sides [] (Cut v cut m) (Value z) (sym last ∙ is)))
 shows_cut {T} (Fork u far below above) items sides v cut m is last =

@@ -1,4 +1,4 @@
--- What a fork of two trees is, and that of the trees at the end of a list.
+-- What may take the place of a fork of two trees, and what of the trees that a list ends in.
 use Rattle.std.proofs.Common.{ℕ, ◌+◌, ◌-◌, ◌<◌, ◌≤◌, ◌≡◌, List, [], ◌∷◌, ◌++◌, length, take, drop, arith, refl, sym, ap}
 use Rattle.std.proofs.Common.{◌∙◌, subst, append_assoc}
 use Rattle.std.proofs.lemmas.List.{length-append}
@@ -17,6 +17,7 @@ use Rattle.cpg_tree.proofs.Flats.{flat-same, last_same, rest_same, take_front, d
 module _ {T : Type 0} (v cut : ℕ) (below above : TreeNode T) where
   -- if both sides are the same tree, that tree is a fork of them
   pub forked_same : IsForked v cut below below below
+  -- each scenario finds on either side what it finds in the tree, so only the clause on spaces needs a lemma
   forked_same = record {
     made = record {
       value_below = λ s h. refl;
@@ -34,6 +35,7 @@ module _ {T : Type 0} (v cut : ℕ) (below above : TreeNode T) where
 
   -- the plain fork of two trees is a fork of them
   pub forked_plain : v < 256 → IsForked v cut below above (Fork v cut below above)
+  -- each clause is what a scenario finds at a fork
   forked_plain small = record {
     made = record {
       value_below = λ s h. forks.value_below v cut below above s h;
@@ -57,6 +59,8 @@ module _ {T : Type 0} (v cut : ℕ) (below above : TreeNode T) where
     -- if the side above is itself a fork on the variable, farther up, with the same side below, it is a fork of both
     -- sides
     pub forked_met : IsForked v cut below (Fork v far below above) (Fork v far below above)
+    -- A scenario up to the cut is also up to the farther one, and finds the side below there. One above the cut finds the side
+    -- above, which is the tree itself.
     forked_met = record {
       made = record {
         value_below = λ s h. forks.value_below v far below above s (farther s h);
@@ -78,6 +82,8 @@ module _ {T : Type 0} (v cut : ℕ) (below above : TreeNode T) where
 pub met_is : {T : Type 0} (a b : TreeNode T) (rest : List (TreeItem T)) (v far : ℕ) →
     flat a ≡ flat b ++ rest ++ (Cut v far (length (flat b)) ∷ []) →
     (y : TreeNode T) × (a ≡ Fork v far b y)
+-- a leaf's list doesn't end in a cut; the last items of both lists are equal, so the fork is on v at `far`, and the items
+-- before them begin with those of b
 met_is (Leaf x) b rest v far e = absurd (cut_is_no_value (sym (last_same [] (flat b ++ rest) (Value x) _ e)))
 met_is {T} (Fork u cut x y) b rest v far e =
     let same : Cut u cut (length (flat x)) ≡ Cut v far (length (flat b)) =
@@ -139,6 +145,7 @@ module _ {T : Type 0} (start middle : ℕ) (old before : List (TreeItem T)) (bel
     pub forks_repeated : RepeatsBelow (drop start (take middle old)) (drop middle old) v cut →
         new ≡ take start old ++ drop (start + (middle - start)) old
         → AddsTree (IsForked v cut below above) before new
+    -- the tree above is a fork at `far` with the tree below as its own side below (`met_is`), so it is a fork of both
     forks_repeated (far, rest, less, ends) taken =
         let whole : flat above ≡ flat below ++ rest ++ (Cut v far (length (flat below)) ∷ []) =
         sym above_is ∙ ends ∙ ap (λ (xs : List (TreeItem T)). xs ++ rest ++ (Cut v far (length xs) ∷ [])) below_is in

@@ -12,6 +12,7 @@ use Rattle.cpg_tree.specs.Results.{IsForkOf, IsJoinIn, IsJoinOf, IsPickOf, IsRes
 
 -- ---- what a scenario finds
 
+-- given: a fork and a scenario
 module _ {T : Type 0} (v cut : ℕ) (below : TreeNode T) (above : TreeNode T) (s : Scenario) where
   -- a scenario whose number is at most the cut finds the value and the ranges of the side below; the variable's own
   -- range ends at the cut
@@ -101,6 +102,7 @@ module _ {T : Type 0} (domain : Scenario → Type 0) (fact : Scenario → T → 
     -- the low that the fork gives u is not above the wanted low: by the side that s goes to, and by whether u is v
     low_is : (s : Scenario) (u : ℕ) → domain s → (cut < number_of s v) ⊎ (number_of s v ≤ cut) → (u ≡ v) ⊎ (u ≢ v) →
         low_at r s u ≤ low s u
+    -- s goes below (inr) or above (inl); u is v (inl) or another variable (inr)
     low_is s u d (inr h) (inl e) = let side = first s d h in
         subst (λ w. low_at r s w ≤ low s w) (sym e)
         (omega (arith, fork.low_below s v h, of_lo.lows s v side.lies, first_low s d h))
@@ -116,6 +118,7 @@ module _ {T : Type 0} (domain : Scenario → Type 0) (fact : Scenario → T → 
     high_is : (k : ℕ) (s : Scenario) (u : ℕ) → domain s → (cut < number_of s v) ⊎ (number_of s v ≤ cut) →
         (u ≡ v) ⊎ (u ≢ v) →
         high k s u ≤ high_at k r s u
+    -- s goes below (inr) or above (inl); u is v (inl) or another variable (inr)
     high_is k s u d (inr h) (inl e) = let side = first s d h in
         subst (λ w. high k s w ≤ high_at k r s w) (sym e)
         (omega (arith, fork.high_here k s h, of_lo.highs k s v side.lies, first_high k s d h))
@@ -173,12 +176,14 @@ pub pick_whole : {T : Type 0} (space : Space) (chooser : TreeNode Bool) (on off 
     IsTreeWithin space on on_part →
     IsTreeWithin space off off_part →
     IsPickOf space chooser on_part off_part r → IsPickOf space chooser on off r
+-- in the scenarios of the space the part that is picked has the value of its tree, and no narrower ranges
 pick_whole {T} space chooser on off on_part off_part r same_on same_off made =
     made_weaker (IsInSpace space) _ _ _ _ _ _ r made
     (λ s z d t. t ∙ same_value (value_at chooser s) s d)
     (λ s u d. omega (arith, same_low (value_at chooser s) s u d))
     (λ k s u d. omega (arith, same_high (value_at chooser s) k s u d))
   where
+    -- what is picked of the parts has the value of what is picked of the trees
     same_value : (b : Bool) (s : Scenario) → IsInSpace space s →
         value_at (picked b on_part off_part) s ≡ value_at (picked b on off) s
     same_value true s d = same_on.value s d
@@ -203,6 +208,7 @@ module _ {T U : Type 0} (fact : Scenario → T → U → Type 0) where
   abbrev pub IsOne : (Scenario → Type 0) → TreeNode T → TreeNode U → Type 0
   IsOne domain a r = IsResultTree domain (λ s z. fact s (value_at a s) z) (low_at a) (λ k. high_at k a) r
 
+  -- given: the scenarios that count, a fork, and the tree that is made of it
   module _ (domain : Scenario → Type 0) (v cut : ℕ) (below : TreeNode T) (above : TreeNode T) (r : TreeNode U) where
     -- the fork
     abbrev whole : TreeNode T
@@ -211,6 +217,7 @@ module _ {T U : Type 0} (fact : Scenario → T → U → Type 0) where
     -- if all scenarios go below, a result tree of the side below is one of the fork
     pub one_below : IsOne domain below r → ((s : Scenario) → domain s → number_of s v ≤ cut) →
         IsOne domain (Fork v cut below above) r
+    -- by `made_weaker`: the fork's high of v is at most that of the side, by the cut; all else is what the side has
     one_below made only = made_weaker domain _ _ _ _ _ _ r made
         (λ s z d t. subst (λ x. fact s x z) (sym (value_below v cut below above s (only s d))) t)
         (λ s u d. omega (arith, low_below v cut below above s (only s d) u))
@@ -223,6 +230,7 @@ module _ {T U : Type 0} (fact : Scenario → T → U → Type 0) where
     -- if all scenarios go above, a result tree of the side above is one of the fork
     pub one_above : IsOne domain above r → ((s : Scenario) → domain s → cut < number_of s v) →
         IsOne domain (Fork v cut below above) r
+    -- by `made_weaker`: the fork's low of v is at least that of the side, by the cut; all else is what the side has
     one_above made only = made_weaker domain _ _ _ _ _ _ r made
         (λ s z d t. subst (λ x. fact s x z) (sym (value_above v cut below above s (only s d))) t)
         (λ s u d. elim (cases_eq u v) [
@@ -237,6 +245,7 @@ module _ {T U : Type 0} (fact : Scenario → T → U → Type 0) where
         IsForkOf v cut lo hi r →
         ((s : Scenario) → domain s → number_of s v ≤ cut → one s) →
         ((s : Scenario) → domain s → cut < number_of s v → two s) → IsOne domain (Fork v cut below above) r
+    -- by `made_of_sides`: what a scenario finds at the fork is what it finds on its side, below and then above
     one_fork one two lo hi of_lo of_hi fork goes_one goes_two =
         made_of_sides domain (λ s z. fact s (value_at whole s) z) (low_at whole) (λ k. high_at k whole) v cut
         one _ _ _ two _ _ _ lo hi r fork of_lo of_hi
@@ -267,6 +276,7 @@ module _ {T U : Type 0} (fact : Scenario → T → U → Type 0) (more_low : Sce
       IsResultTree domain (λ s z. fact s (value_at a s) z) (λ s u. max (low_at a s u) (more_low s (value_at a s) u))
       (λ k s u. min (high_at k a s u) (more_high k s (value_at a s) u)) r
 
+  -- given: the scenarios that count, a fork, and the tree that is made of it
   module _ (domain : Scenario → Type 0) (v cut : ℕ) (below : TreeNode T) (above : TreeNode T) (r : TreeNode U) where
     -- the fork
     abbrev both : TreeNode T
@@ -275,6 +285,8 @@ module _ {T U : Type 0} (fact : Scenario → T → U → Type 0) (more_low : Sce
     -- if all scenarios go below, a result tree of the side below is one of the fork
     pub two_below : IsTwo domain below r → ((s : Scenario) → domain s → number_of s v ≤ cut) →
         IsTwo domain (Fork v cut below above) r
+    -- By `made_weaker`: the fork finds the value of the side below, no lower lows and no higher highs. Its high of v, by the cut,
+    -- may be less than that of the side.
     two_below made only = made_weaker domain _ _ _ _ _ _ r made
         (λ s z d t. subst (λ x. fact s x z) (sym (value_below v cut below above s (only s d))) t)
         (λ s u d. omega (
@@ -300,6 +312,8 @@ module _ {T U : Type 0} (fact : Scenario → T → U → Type 0) (more_low : Sce
     -- if all scenarios go above, a result tree of the side above is one of the fork
     pub two_above : IsTwo domain above r → ((s : Scenario) → domain s → cut < number_of s v) →
         IsTwo domain (Fork v cut below above) r
+    -- By `made_weaker`: the fork finds the value of the side above, no lower lows and no higher highs. Its low of v, by the cut,
+    -- may be greater than that of the side.
     two_above made only = made_weaker domain _ _ _ _ _ _ r made
         (λ s z d t. subst (λ x. fact s x z) (sym (value_above v cut below above s (only s d))) t)
         (λ s u d. elim (cases_eq u v) [
@@ -327,6 +341,8 @@ module _ {T U : Type 0} (fact : Scenario → T → U → Type 0) (more_low : Sce
         IsForkOf v cut lo hi r →
         ((s : Scenario) → domain s → number_of s v ≤ cut → one s) →
         ((s : Scenario) → domain s → cut < number_of s v → two s) → IsTwo domain (Fork v cut below above) r
+    -- by `made_of_sides`: what a scenario finds at the fork is what it finds on its side, below and then above; the other
+    -- ranges go by the value, which is the same there
     two_fork one two lo hi of_lo of_hi fork goes_one goes_two = made_of_sides domain _ _ _ v cut
         one _ _ _ two _ _ _ lo hi r fork of_lo of_hi
         (λ s d h. record {

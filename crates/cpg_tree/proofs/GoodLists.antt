@@ -12,7 +12,7 @@ use Rattle.cpg_tree.proofs.PathLaws.{one_path}
 use Rattle.cpg_tree.proofs.Publics.{state}
 use Rattle.cpg_tree.proofs.TidyPaths.{tidy_all}
 
--- the state of a tree, as its list gives it back
+-- what callers see of a tree, given the list of its items
 abbrev pub state_in : {T : Type 0} → ℕ → List (TreeItem T) → TreeState T
 state_in k items = record { faults = k; paths = paths_in k items }
 

@@ -37,10 +37,11 @@ module _ {T : Type 0} (space : Space) (v cut : ℕ) (x y n : TreeNode T) (items 
 
   -- ---- parts
 
-  -- if all scenarios of the space go one way, the part of that side is the part of the whole tree
+  -- if all scenarios of the space go above, the part of the side above is the part of the whole tree
   pub part_above : (part : List (TreeItem T)) → ((s : Scenario) → IsInSpace space s → cut < number_of s v) →
       IsPartList space y part →
       IsPartList space n part
+  -- p: the tree that was added, how its list stands in the new one, and what is known of it, which carries over
   part_above part only p = (
     p.0,
     p.1,
@@ -54,6 +55,7 @@ module _ {T : Type 0} (space : Space) (v cut : ℕ) (x y n : TreeNode T) (items 
   pub part_below : (part : List (TreeItem T)) → ((s : Scenario) → IsInSpace space s → number_of s v ≤ cut) →
       IsPartList space x part →
       IsPartList space n part
+  -- p: the tree that was added, how its list stands in the new one, and what is known of it, which carries over
   part_below part only p = (
     p.0,
     p.1,
@@ -65,11 +67,13 @@ module _ {T : Type 0} (space : Space) (v cut : ℕ) (x y n : TreeNode T) (items 
 
   -- ---- a value and a tree
 
+  -- given: a function's answers to the value `a` and the values of a tree, and the list before and after they are added
   module _ {A V : Type 0} (answers : A → T → V → Type 0) (a : A) (old new : List (TreeItem V)) where
-    -- if all scenarios of the space go one way, the answers added for that side are those of the whole tree
+    -- if all scenarios of the space go above, the answers added for the side above are those of the whole tree
     pub fills_above : ((s : Scenario) → IsInSpace space s → cut < number_of s v) →
         AddsTree (IsFilled answers space a y) old new →
         AddsTree (IsFilled answers space a n) old new
+    -- p: the tree that was added, how its list stands in the new one, and what is known of it, which carries over
     fills_above only p = (
       p.0,
       p.1,
@@ -84,6 +88,7 @@ module _ {T : Type 0} (space : Space) (v cut : ℕ) (x y n : TreeNode T) (items 
     pub fills_below : ((s : Scenario) → IsInSpace space s → number_of s v ≤ cut) →
         AddsTree (IsFilled answers space a x) old new →
         AddsTree (IsFilled answers space a n) old new
+    -- p: the tree that was added, how its list stands in the new one, and what is known of it, which carries over
     fills_below only p = (
       p.0,
       p.1,
@@ -106,6 +111,8 @@ module _ {T : Type 0} (space : Space) (v cut : ℕ) (x y n : TreeNode T) (items 
       -- the answers for both sides, joined by a fork, are those of the whole tree
       pub fills_fork : AddsTree (IsFilled answers shut a x) old low → AddsTree (IsFilled answers upper a y) low high →
           AddsTree (IsFilled answers space a n) old new
+      -- fork: the tree that takes the place of both; its values are those of the sides (`made`), it fits the space, as the sides
+      -- fit their parts of it (`fit`), and its variables are v and those of the sides (`pass`)
       fills_fork one two =
           let fork =
           forks old one.0 two.0 (split_of start middle old low high one.0 two.0 one.1 two.1 first second) in (
@@ -124,11 +131,13 @@ module _ {T : Type 0} (space : Space) (v cut : ℕ) (x y n : TreeNode T) (items 
 
   -- ---- two trees
 
+  -- given: a function's answers to the values of two trees, the second of which is m, and the list before and after they are added
   module _ {U V : Type 0} (answers : T → U → V → Type 0) (m : TreeNode U) (old new : List (TreeItem V)) where
-    -- if all scenarios of the space go one way, the answers added for that side are those of the whole tree
+    -- if all scenarios of the space go above, the answers added for the side above are those of the whole tree
     pub joins_above : ((s : Scenario) → IsInSpace space s → cut < number_of s v) →
         AddsTree (IsJoined answers space y m) old new →
         AddsTree (IsJoined answers space n m) old new
+    -- p: the tree that was added, how its list stands in the new one, and what is known of it, which carries over
     joins_above only p = (
       p.0,
       p.1,
@@ -144,6 +153,7 @@ module _ {T : Type 0} (space : Space) (v cut : ℕ) (x y n : TreeNode T) (items 
     pub joins_below : ((s : Scenario) → IsInSpace space s → number_of s v ≤ cut) →
         AddsTree (IsJoined answers space x m) old new →
         AddsTree (IsJoined answers space n m) old new
+    -- p: the tree that was added, how its list stands in the new one, and what is known of it, which carries over
     joins_below only p = (
       p.0,
       p.1,
@@ -167,6 +177,8 @@ module _ {T : Type 0} (space : Space) (v cut : ℕ) (x y n : TreeNode T) (items 
       -- the answers for both sides, joined by a fork, are those of the whole tree
       pub joins_fork : AddsTree (IsJoined answers shut x m) old low → AddsTree (IsJoined answers upper y m) low high →
           AddsTree (IsJoined answers space n m) old new
+      -- fork: the tree that takes the place of both; its values are those of the sides (`made`), it fits the space, as the sides
+      -- fit their parts of it (`fit`), and its variables are v and those of the sides (`pass`)
       joins_fork one two =
           let fork =
           forks old one.0 two.0 (split_of start middle old low high one.0 two.0 one.1 two.1 first second) in (
@@ -209,6 +221,7 @@ pub joins_leaf : {T U V : Type 0} (answers : T → U → V → Type 0) (space : 
     (m : TreeNode U) (items : List (TreeItem T)) (old new : List (TreeItem V)) → items ≡ flat
     (Leaf x) → items ≡ flat n →
     AddsTree (IsFilled answers space x m) old new → AddsTree (IsJoined answers space n m) old new
+-- p: the tree that was added, how its list stands in the new one, and what is known of it, which carries over
 joins_leaf answers space x n m items old new leaf are p = (
   p.0,
   p.1,
@@ -224,6 +237,7 @@ joins_leaf answers space x n m items old new leaf are p = (
 pub joins_whole : {T U V : Type 0} (answers : T → U → V → Type 0) (space : Space) (n : TreeNode T) (m part : TreeNode U)
     (old new : List (TreeItem V)) → IsPartInSpace space m part → AddsTree
     (IsJoined answers space n part) old new → AddsTree (IsJoined answers space n m) old new
+-- p: the tree that was added, how its list stands in the new one, and what is known of it, which carries over
 joins_whole answers space n m part old new is p = (
   p.0,
   p.1,

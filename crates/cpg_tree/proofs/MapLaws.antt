@@ -34,7 +34,7 @@ module _ {T U : Type 0} (answers : T → U → Type 0) where
     pass = λ test pass. fork.pass test pass.0 (one.pass test pass.1) (two.pass test pass.2);
   }
 
-  -- a value's answer is added
+  -- if the tree is one value, its answer is added
   pub maps_leaf : (x : T) (y : U) (n : TreeNode T) (items : List (TreeItem T)) (old new : List (TreeItem U)) →
       answers x y → items ≡ flat (Leaf x) → items ≡ flat n → new ≡ old ++
       (Value y ∷ []) → AddsTree (IsMapped answers n) old new
@@ -51,6 +51,7 @@ module _ {T U : Type 0} (answers : T → U → Type 0) where
       AddsTree (IsMapped answers x) old low → AddsTree (IsMapped answers y) low high → start ≡ length old →
       middle ≡ length low →
       ForksEnd start middle v cut high new → AddsTree (IsMapped answers n) old new
+  -- the list ends in the lists of the answers of both sides, so the fork made of them has the answers of the fork
   maps_fork v cut start middle x y n items old low high new is are one two first second forks =
       let fork = forks old one.0 two.0 (record {
         is = two.1 ∙ ap (λ (xs : List (TreeItem U)). xs ++ flat two.0) one.1;

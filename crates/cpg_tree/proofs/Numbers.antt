@@ -25,6 +25,7 @@ leaf_only v x = record { low = λ s u n. omega arith; high = λ k s u n. omega a
 -- a fork on a variable has no forks on others if its sides have none
 fork_only : {T : Type 0} (v cut : ℕ) (below above r : TreeNode T) → ForksOnly v below → ForksOnly v above →
     IsForkOf v cut below above r → ForksOnly v r
+-- a scenario finds for another variable what it finds on its side of the cut, which has no fork on it
 fork_only v cut below above r one two fork = record {
   low = λ s u n. elim (cases_lt cut (number_of s v)) [
     | inl gt ↦ omega (arith, fork.low_above s u gt n, two.low s u n)
@@ -44,6 +45,7 @@ last_count p k = record { value = λ s low high. omega (arith, low, high); only 
 pub more_counts : (p first k : ℕ) (above r : TreeNode ℕ) → AreCountsFrom p (first + 1) k above →
     IsForkOf p first (Leaf first) above r →
     AreCountsFrom p first k r
+-- a scenario up to `first` finds `first`, and any other finds its count above; the forks of both sides are on p
 more_counts p first k above r rest fork = record {
   value = λ s low high. elim (cases_lt first (number_of s p)) [
     | inl gt ↦ fork.value_above s gt ∙ rest.value s (omega (arith, gt)) high
@@ -52,6 +54,7 @@ more_counts p first k above r rest fork = record {
   only = fork_only p first (Leaf first) above r (leaf_only p first) rest.only fork;
 }
 
+-- given: a space that leaves the count p the numbers from `first` to k, of which there are several
 module _ (space : Space) (p first k : ℕ) (count : p < 128) (leaves : LeavesCounts space p first k)
     (less : first < k) where
   -- the count is left on both sides of the cut, and only higher counts are left above it
@@ -66,6 +69,7 @@ module _ (space : Space) (p first k : ℕ) (count : p < 128) (leaves : LeavesCou
 
   -- closed below the first count, the space leaves the counts from the next one to k
   pub counts_above : LeavesCounts (above_cut space p first) p (first + 1) k
+  -- the low rises by one, and so the faults left are one fewer
   counts_above = record {
     long = search rules;
     low = get_or-set_same space.low p (first + 1) 0 (omega (arith, leaves.long, count));
@@ -92,6 +96,7 @@ whole_counts k space p count whole = record {
 
 -- a fork of false and true is the value of a condition
 pub value_is : (v : ℕ) (r : TreeNode Bool) → IsForkOf v 0 (Leaf false) (Leaf true) r → IsValueNode v r
+-- a scenario whose number of v is 1 finds true above the cut, and one whose number is 0 finds false below it
 value_is v r fork = record {
   value = λ s few. elim (cases_lt 0 (number_of s v)) [
     | inl gt ↦ ap number_of_value (fork.value_above s gt) ∙ omega (arith, few, gt)
@@ -129,6 +134,7 @@ number_paths v k number node good value only = record {
 
 -- there is a space of all scenarios of at most k faults
 pub some_whole : (k : ℕ) → (space : Space) × IsWhole k space
+-- lows of 0; highs of k for counts and 1 for values; k faults left
 some_whole k = (
   record { low = replicate 256 0; high = map tops (numbers_below 256); left = k },
   record {
@@ -141,9 +147,11 @@ some_whole k = (
   },
 )
   where
+    -- the most that each variable can be in a scenario of k faults: k for a count, 1 for a value
     tops : ℕ → ℕ
     tops v = cond (nat_lt v 128) k 1
 
+-- given: a scenario of at most k faults, and a variable
 module _ (k : ℕ) (s : Scenario) (few : HasAtMostFaults k s) (v : ℕ) where
   -- a scenario of at most k faults has counts of at most k, and values of at most 1
   pub count_at_most : v < 128 → number_of s v ≤ k

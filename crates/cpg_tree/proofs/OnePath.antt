@@ -16,6 +16,7 @@ use Rattle.cpg_tree.specs.Tree.{Path, TreeState, is_on, IsOnPath, IsAsWide, IsMa
 
 -- the first n numbers of a list sum to no more than the whole list
 few_sum : (xs : List ℕ) (n : ℕ) → sum_by (λ p. get_or xs p 0) (numbers_below n) ≤ sum xs
+-- by induction on the numbers
 few_sum [] n = omega (arith, sum_by_zeros (λ p. get_or [] p 0) (numbers_below n) (λ p c. refl))
 few_sum (x ∷ xs) zero = omega arith
 few_sum (x ∷ xs) (suc n) = omega (
@@ -26,6 +27,7 @@ few_sum (x ∷ xs) (suc n) = omega (
   sum_by-cons (λ n. n) x xs,
 )
   where
+    -- behind the first number come those of the rest
     next : (i : ℕ) → get_or (x ∷ xs) (i + 1) 0 ≡ get_or xs i 0
     next i = grind (arith, common_steps)
 
@@ -69,10 +71,11 @@ same_path k paths each s few x y on_x on_y =
     same_of_one (filter (is_on s) paths) (each s few) x y (Contains-filter (is_on s) paths x on_x.matched on_x.stands)
     (Contains-filter (is_on s) paths y on_y.matched on_y.stands)
 
--- a tree whose values are answers to themselves
+-- if each value of a tree is an answer to itself, the tree has the answers to its own values
 pub own_map : {T : Type 0} (answers : T → T → Type 0) (t : TreeState T) → HasOnePathEach t.faults t.paths →
     All (λ (p : Path T). answers p.1 p.1) t.paths →
     IsMap answers t t
+-- the two paths of a scenario in one tree are the same
 own_map {T} answers t each own = record {
   faults = refl;
   value = λ s x z few on_x on_z.

@@ -16,12 +16,14 @@ use Rattle.cpg_tree.specs.Space.{Space, IsWhole, is_open_below, is_open_above, b
 use Rattle.cpg_tree.specs.Paths.{up_to, above}
 use Rattle.cpg_cube.proofs.Narrowed.{low-other, low-same, high-other, high-same}
 
--- each range has a number, and the lows are no more faults than there may be
+-- some scenario of at most k faults lies in the space: no range is empty, and the lows are few enough faults
 pub record IsOpenSpace (k : ℕ) (space : Space) : Type 0 where
   pub lows : length space.low ≡ 256
   pub highs : length space.high ≡ 256
   pub opens : (v : ℕ) → v < 256 → get_or space.low v 0 ≤ get_or space.high v 0
+  -- no high is above what its variable can be
   pub tops : (v : ℕ) → v < 256 → get_or space.high v 0 ≤ top k v
+  -- the lows and the faults left are at most k
   pub budget : sum_by (λ p. get_or space.low p 0) (numbers_below 128) + space.left ≤ k
 
 -- a cube's range of each variable contains the space's
@@ -29,6 +31,7 @@ pub record CoversSpace (k : ℕ) (space : Space) (cube : List Literal) : Type 0 
   pub rising : IsRising cube
   pub low : (v : ℕ) → v < 256 → low_in cube v ≤ get_or space.low v 0
   pub high : (v : ℕ) → v < 256 → get_or space.high v 0 ≤ high_in k cube v
+  -- no range of the cube goes past the whole one
   pub within : (v : ℕ) → high_in k cube v ≤ top k v
 
 -- raising a low above a cut asks for no more faults than there are, if what is left covers it
@@ -76,6 +79,7 @@ module _ (k : ℕ) (space : Space) (is : IsOpenSpace k space) (v cut : ℕ) (the
 
   -- the space stays open on either side of the cut
   pub opens_below : IsOpenSpace k (below_cut space v cut)
+  -- the high of v is the cut, at least its low and at most its top; the ranges of other variables and the faults left stay
   opens_below = record {
     lows = is.lows;
     highs = length-set space.high v cut ∙ is.highs;
@@ -100,6 +104,8 @@ module _ (k : ℕ) (space : Space) (is : IsOpenSpace k space) (v cut : ℕ) (the
 
   -- an open space stays open above the cut; by kind: a count spends the faults up to the cut, and a value none
   pub opens_above : IsOpenSpace k (above_cut space v cut)
+  -- The low of v becomes `cut + 1`, and those of other variables stay. For the budget: if v is a count, the lows grow by as many
+  -- as are taken from the faults left; if it is a value, both stay.
   opens_above = record {
     lows = length-set space.low v (cut + 1) ∙ is.lows;
     highs = is.highs;
@@ -129,12 +135,14 @@ module _ (k : ℕ) (space : Space) (is : IsOpenSpace k space) (v cut : ℕ) (the
     ];
   }
     where
+      -- as many faults are asked for as before, and none of those left is taken, so the sum is still at most k
       as_before : (new old left k : ℕ) → new ≡ old → old + left ≤ k → new + (left - 0) ≤ k
       as_before new old left k e h = omega arith
 
   module _ (cube : List Literal) (covers : CoversSpace k space cube) where
-    -- a cube that covers the space covers it on either side of the cut, once it is narrowed
+    -- a cube that covers the space, narrowed to the numbers up to the cut, covers the part of the space below the cut
     pub covers_below : CoversSpace k (below_cut space v cut) (narrowed_by (up_to v cut) cube)
+    -- v itself has the cut as its high in both the cube and the space; the ranges of each other variable stay
     covers_below = record {
       rising = rising-narrowed (up_to v cut) cube covers.rising;
       low = λ u l. elim (cases_eq v u) [
@@ -172,8 +180,9 @@ module _ (k : ℕ) (space : Space) (is : IsOpenSpace k space) (v cut : ℕ) (the
       ];
     }
 
-    -- a cube that covers the space covers its part above the cut, once it is narrowed
+    -- a cube that covers the space, narrowed to the numbers above the cut, covers the part of the space above the cut
     pub covers_above : CoversSpace k (above_cut space v cut) (narrowed_by (above k v cut) cube)
+    -- v itself has its low raised to `cut + 1` in both the cube and the space; the ranges of each other variable stay
     covers_above = record {
       rising = rising-narrowed (above k v cut) cube covers.rising;
       low = λ u l. elim (cases_eq v u) [
@@ -214,6 +223,7 @@ module _ (k : ℕ) (space : Space) (is : IsOpenSpace k space) (v cut : ℕ) (the
 
 -- the space of all scenarios is open
 pub whole_opens : (k : ℕ) (space : Space) → IsWhole k space → IsOpenSpace k space
+-- all lows are 0, so no fault is asked for; the high of a count is k, and that of a value 1, which are their tops
 whole_opens k space whole = record {
   lows = whole.long;
   highs = whole.longer;

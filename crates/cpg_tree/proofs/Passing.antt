@@ -26,7 +26,9 @@ SpeaksOf cube v = (l : Literal) × Contains cube l × (l.variable ≡ v)
 
 -- a cube narrowed by a literal has a literal on the variable of that one
 speaks_of_new : (l : Literal) (cube : List Literal) → SpeaksOf (narrowed_by l cube) l.variable
+-- by induction on the literals
 speaks_of_new l [] = (l, Contains-first l [], refl)
+-- the literal meets m, or is put before it, or is left to the later ones
 speaks_of_new l (m ∷ ms) = elim (cases_order l.variable m.variable) [
   | inl e ↦ (
     meet_literal l m,
@@ -48,7 +50,9 @@ speaks_of_new l (m ∷ ms) = elim (cases_order l.variable m.variable) [
 -- a cube narrowed by a literal still has a literal on each variable that it had one on
 speaks_of_old : (l : Literal) (cube : List Literal) (x : Literal) → Contains cube x →
     SpeaksOf (narrowed_by l cube) x.variable
+-- by induction on the literals
 speaks_of_old l [] x c = absurd (Contains-nil x c)
+-- the literal meets m, which stays on its variable, or is put before it, or is left to the later ones
 speaks_of_old l (m ∷ ms) x c = elim (cases_order l.variable m.variable) [
   | inl e ↦ subst (λ (n : List Literal). SpeaksOf n x.variable) (sym (narrowed-here l m ms e))
       (elim (Contains-cases m ms x c) [
@@ -73,6 +77,7 @@ IsSpoken {T} paths v = (p : Path T) × Contains paths p × SpeaksOf p.0 v
 -- if a cube has a literal on v, some path from this cube on has one: the path that always goes below
 some_path : {T : Type 0} (k : ℕ) (node : TreeNode T) (cube : List Literal) (v : ℕ) → SpeaksOf cube v →
     IsSpoken (paths_from k cube node) v
+-- by induction on the tree: a leaf, then a fork by its two sides
 some_path k (Leaf x) cube v speaks = ((cube, x), Contains-first (cube, x) [], speaks)
 some_path k (Fork u cut below upper) cube v speaks =
     let old = speaks_of_old (up_to u cut) cube speaks.0 speaks.1 in
@@ -92,6 +97,7 @@ module _ (test : ℕ → Bool) where
   forks_from : {T : Type 0} (k : ℕ) (node : TreeNode T) (cube : List Literal) →
       ((p : Path T) → Contains (paths_from k cube node) p → Passes p.0) →
       DoForksPass test node
+  -- by induction on the tree: a leaf, then a fork by its two sides
   forks_from k (Leaf x) cube h = tt
   forks_from k (Fork v cut below upper) cube h =
       let lower = paths_from k (narrowed_by (up_to v cut) cube) below in
@@ -105,7 +111,7 @@ module _ (test : ℕ → Bool) where
 
   -- ---- each variable of a path is a fork's
 
-  -- if a literal's variable passes, a cube that passes does so narrowed by it
+  -- if a literal's variable passes, and all variables of a cube do, those of the cube narrowed by the literal pass too
   passes_narrowed : (l : Literal) (cube : List Literal) → test l.variable ≡ true → Passes cube →
       Passes (narrowed_by l cube)
   passes_narrowed l cube on old x c = elim (variables_of_narrowed l cube x c) [
@@ -116,6 +122,7 @@ module _ (test : ℕ → Bool) where
   -- the variables of the paths on from a cube pass a test if those of the cube and of the forks do
   paths_pass : {T : Type 0} (k : ℕ) (node : TreeNode T) (cube : List Literal) → Passes cube → DoForksPass test node →
       (x : Path T) → Contains (paths_from k cube node) x → Passes x.0
+  -- by induction on the tree: the one path of a leaf has the cube itself; a fork narrows it by a literal on its variable
   paths_pass {T} k (Leaf y) cube on pass x c = elim (Contains-cases (cube, y) [] x c) [
     | inl e ↦ subst (λ (z : Path T). Passes z.0) e on
     | inr none ↦ absurd (Contains-nil x none)

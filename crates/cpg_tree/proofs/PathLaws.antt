@@ -35,13 +35,16 @@ reaches_below : (k : ℕ) (space : Space) (v cut : ℕ) → cut < top k v → Re
 unfolding Reaches
 reaches_below k space v cut less h u l = by_place (cases_eq u v)
   where
+    -- v's own high is the cut, or 0 if v is behind the list
     at_cut : (v < length space.high) ⊎ (length space.high ≤ v) → get_or (slice_set space.high v cut) v 0 ≤ top k v
     at_cut (inl m) = omega (arith, get_or-set_same space.high v cut 0 m, less)
     at_cut (inr past) = omega (arith, less, grown past)
       where
+        -- behind the list nothing is set
         grown : length space.high ≤ v → get_or (slice_set space.high v cut) v 0 ≡ 0
         grown past = get_or_past (slice_set space.high v cut) v 0 (omega (arith, past, long_set space.high v cut))
           where
+            -- setting a number keeps a list's length
             long_set : (xs : List ℕ) (i y : ℕ) → length (slice_set xs i y) ≡ length xs
             long_set xs i y = search rules
 
@@ -55,6 +58,7 @@ reaches_below k space v cut less h u l = by_place (cases_eq u v)
 fits_cuts : {T : Type 0} (k : ℕ) (node : TreeNode T) (space : Space) → Reaches k space → IsFit space node →
     HasCuts k node
 unfolding Reaches
+-- by induction on the tree: a leaf, then a fork by its two sides
 fits_cuts k (Leaf x) space h fit = tt
 fits_cuts k (Fork v cut below above) space h fit =
     let less : cut < top k v = omega (
@@ -76,7 +80,7 @@ whole_reaches k space whole v l = elim (cases_lt v 128) [
   | inr m ↦ omega (arith, whole.values v m l, cond-false (nat_lt v 128) k 1 (le-ltb v 128 m))
 ]
 
--- in a good tree each cut leaves numbers above it
+-- in a good tree each cut is below the greatest number that its variable can have
 pub good_cuts : {T : Type 0} (k : ℕ) (node : TreeNode T) → IsGood k node → HasCuts k node
 good_cuts k node good = fits_cuts k node good.0 (whole_reaches k good.0 good.1) good.2
 
@@ -89,8 +93,9 @@ pub record IsTidy (k : ℕ) (cube : List Literal) : Type 0 where
 
 -- given: a tidy cube, and a cut that leaves numbers above it
 module _ (k : ℕ) (cube : List Literal) (tidy : IsTidy k cube) (v cut : ℕ) (less : cut < top k v) where
-  -- the cube narrowed to the side below is tidy
+  -- a tidy cube narrowed to the numbers up to a cut is tidy
   tidy_below : IsTidy k (narrowed_by (up_to v cut) cube)
+  -- the high of v is at most the cut, so below its top; the ranges of other variables stay
   tidy_below = record {
     rising = rising-narrowed (up_to v cut) cube tidy.rising;
     within = λ u. elim (cases_eq v u) [
@@ -102,6 +107,7 @@ module _ (k : ℕ) (cube : List Literal) (tidy : IsTidy k cube) (v cut : ℕ) (l
 
   -- a tidy cube narrowed to the numbers above a cut is tidy
   tidy_above : IsTidy k (narrowed_by (above k v cut) cube)
+  -- the high of v is at most its top; the ranges of other variables stay
   tidy_above = record {
     rising = rising-narrowed (above k v cut) cube tidy.rising;
     within = λ u. elim (cases_eq v u) [
@@ -114,8 +120,10 @@ module _ (k : ℕ) (cube : List Literal) (tidy : IsTidy k cube) (v cut : ℕ) (l
 module _ {T : Type 0} (k : ℕ) (s : Scenario) where
   -- a path on from a cube has the value and the ranges that the scenario finds
   pub record IsPathOf (cube : List Literal) (node : TreeNode T) (x : Path T) : Type 0 where
+    -- the scenario matches the cube that the path goes on from
     pub came : matches cube s ≡ true
     pub value : x.1 ≡ value_at node s
+    -- each range is what the cube and the way down the node leave
     pub low : (v : ℕ) → low_in x.0 v ≡ max (low_in cube v) (low_at node s v)
     pub high : (v : ℕ) → high_in k x.0 v ≡ min (high_in k cube v) (high_at k node s v)
 
@@ -123,6 +131,8 @@ module _ {T : Type 0} (k : ℕ) (s : Scenario) where
   path_below : (cube : List Literal) → IsTidy k cube → (v cut : ℕ) (below : TreeNode T) (upper : TreeNode T) →
       cut < top k v → (x : Path T) →
       IsPathOf (narrowed_by (up_to v cut) cube) below x → IsPathOf cube (Fork v cut below upper) x
+  -- The scenario matches the narrowed cube, so it goes below the cut and finds there what the fork has. The high of v is at most
+  -- the cut, by the cube and by the fork; the ranges of other variables are those of the side.
   path_below cube tidy v cut below upper less x t =
       let both =
       and_parts (holds s (up_to v cut)) (matches cube s) (sym (matches-narrowed s (up_to v cut) cube) ∙ t.came) in
@@ -156,6 +166,8 @@ module _ {T : Type 0} (k : ℕ) (s : Scenario) where
   path_above : (cube : List Literal) → IsTidy k cube → (v cut : ℕ) (below : TreeNode T) (upper : TreeNode T) →
       cut < top k v → (x : Path T) →
       IsPathOf (narrowed_by (above k v cut) cube) upper x → IsPathOf cube (Fork v cut below upper) x
+  -- The scenario matches the narrowed cube, so it goes above the cut and finds there what the fork has. The low of v is at least
+  -- `cut + 1`, by the cube and by the fork; the ranges of other variables are those of the side.
   path_above cube tidy v cut below upper less x t =
       let both = and_parts (holds s (above k v cut)) (matches cube s)
       (sym (matches-narrowed s (above k v cut) cube) ∙ t.came) in
@@ -222,6 +234,8 @@ module _ {T : Type 0} (k : ℕ) (s : Scenario) where
   pub one_from : HasAtMostFaults k s → (node : TreeNode T) (cube : List Literal) → IsTidy k cube → HasCuts k node →
       matches cube s ≡ true →
       length (filter (is_on s) (paths_from k cube node)) ≡ 1
+  -- By induction on the tree. A leaf has one path, which the scenario is on. At a fork the scenario goes to one side: it is on one
+  -- path of that side by induction, and on none of the other, whose narrowed cube it doesn't match.
   one_from few (Leaf y) cube tidy cuts on = ap length (cond-true (matches cube s) ((cube, y) ∷ []) [] on)
   one_from few (Fork v cut below upper) cube tidy cuts on =
       ap length (filter-append (is_on s) (paths_from k (narrowed_by (up_to v cut) cube) below)
@@ -252,6 +266,7 @@ module _ {T : Type 0} (k : ℕ) (s : Scenario) where
 no_literals : (k : ℕ) → IsTidy k []
 no_literals k = record { rising = λ i j d l m. absurd (omega (arith, m)); within = λ v. omega arith }
 
+-- given: a good tree and a scenario
 module _ {T : Type 0} (k : ℕ) (node : TreeNode T) (good : IsGood k node) (s : Scenario) where
   -- each scenario of at most k faults is on one path of a good tree
   pub one_path : HasAtMostFaults k s → length (filter (is_on s) (paths_of k node)) ≡ 1

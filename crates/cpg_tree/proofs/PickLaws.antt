@@ -12,17 +12,20 @@ use Rattle.cpg_tree.proofs.Forks.{two_above_of, two_below_of, two_fork_of, two_l
 use Rattle.cpg_tree.proofs.Flats.{flat-same}
 use Rattle.cpg_tree.proofs.JoinLaws.{fork_is, split_of}
 
+-- given: a space, the two trees to pick from, and the list before and after what is picked is added
 module _ {T : Type 0} (space : Space) (on off : TreeNode T) (old new : List (TreeItem T)) where
+  -- given: the chooser n is a fork, and `items` is its list
   module _ (v cut : ℕ) (x y n : TreeNode Bool) (items : List (TreeItem Bool)) (is : items ≡ flat (Fork v cut x y))
       (are : items ≡ flat n) where
     -- the tree is the fork
     whole : n ≡ Fork v cut x y
     whole = fork_is space v cut x y n items is are
 
-    -- if all scenarios of the space go one way, what is picked by the chooser's side is picked by the chooser
+    -- if all scenarios of the space go above, what the chooser's side above picks is picked by the chooser
     pub picks_above : ((s : Scenario) → IsInSpace space s → cut < number_of s v) →
         AddsTree (IsPicked space y on off) old new →
         AddsTree (IsPicked space n on off) old new
+    -- p: the tree that was added, how its list stands in the new one, and what is known of it, which carries over
     picks_above only p = (
       p.0,
       p.1,
@@ -39,6 +42,7 @@ module _ {T : Type 0} (space : Space) (on off : TreeNode T) (old new : List (Tre
     pub picks_below : ((s : Scenario) → IsInSpace space s → number_of s v ≤ cut) →
         AddsTree (IsPicked space x on off) old new →
         AddsTree (IsPicked space n on off) old new
+    -- p: the tree that was added, how its list stands in the new one, and what is known of it, which carries over
     picks_below only p = (
       p.0,
       p.1,
@@ -63,6 +67,8 @@ module _ {T : Type 0} (space : Space) (on off : TreeNode T) (old new : List (Tre
       -- what is picked on both sides, joined by a fork, is picked by the whole chooser
       pub picks_fork : AddsTree (IsPicked shut x on off) old low → AddsTree (IsPicked upper y on off) low high →
           AddsTree (IsPicked space n on off) old new
+      -- fork: the tree that takes the place of both; its values are those of the sides (`made`), it fits the space, as the sides
+      -- fit their parts of it (`fit`), and its variables are v and those of the sides (`pass`)
       picks_fork one two =
           let fork =
           forks old one.0 two.0 (split_of start middle old low high one.0 two.0 one.1 two.1 first second) in (
@@ -82,9 +88,10 @@ module _ {T : Type 0} (space : Space) (on off : TreeNode T) (old new : List (Tre
 
   -- given: a chooser, and the list of its items
   module _ (n : TreeNode Bool) (items : List (TreeItem Bool)) (are : items ≡ flat n) where
-    -- a chooser that is one value picks the one tree in all scenarios
+    -- a chooser that is true picks the tree `on` in all scenarios
     pub picks_on : items ≡ flat (Leaf true) → AddsTree (IsRestricted space on) old new →
         AddsTree (IsPicked space n on off) old new
+    -- p: the tree that was added, how its list stands in the new one, and what is known of it, which carries over
     picks_on leaf p = (
       p.0,
       p.1,
@@ -97,9 +104,10 @@ module _ {T : Type 0} (space : Space) (on off : TreeNode T) (old new : List (Tre
       },
     )
 
-    -- a chooser that is false picks the other tree in all scenarios
+    -- a chooser that is false picks the tree `off` in all scenarios
     pub picks_off : items ≡ flat (Leaf false) → AddsTree (IsRestricted space off) old new →
         AddsTree (IsPicked space n on off) old new
+    -- p: the tree that was added, how its list stands in the new one, and what is known of it, which carries over
     picks_off leaf p = (
       p.0,
       p.1,
@@ -118,6 +126,7 @@ pub picks_whole : {T : Type 0} (space : Space) (n : TreeNode Bool) (on off on_pa
     IsPartInSpace space on on_part
     → IsPartInSpace space off off_part →
     AddsTree (IsPicked space n on_part off_part) old new → AddsTree (IsPicked space n on off) old new
+-- p: the tree that was added, how its list stands in the new one, and what is known of it, which carries over
 picks_whole space n on off on_part off_part old new ons offs p = (
   p.0,
   p.1,

@@ -53,6 +53,8 @@ module _ (k : ℕ) (space : Space) (all : (s : Scenario) → HasAtMostFaults k s
       IsGood k a → IsGood k b → IsGood k r →
       IsJoinOf answers space a b r →
       IsJoin answers (state k a) (state k b) (state k r)
+  -- by `found` each path has the value and the ranges that its scenario finds in the tree, of which `made` speaks; fx, fy and
+  -- fz are what is found for the paths x, y and z of a, b and r
   join_paths answers a b r good_a good_b good_r made = record {
     faults = refl;
     value = λ s x y z few on_x on_y on_z.
@@ -77,6 +79,7 @@ module _ (k : ℕ) (space : Space) (all : (s : Scenario) → HasAtMostFaults k s
       IsGood k off → IsGood k r →
       IsPickOf space chooser on off r →
       IsPick (state k chooser) (state k on) (state k off) (state k r)
+  -- c, x and z are the scenario's paths in the chooser, in the tree that it picks and in r; each has what the scenario finds
   pick_paths {T} chooser on off r good_c good_on good_off good_r made = record {
     faults = refl;
     value = λ s c x z few on_c on_x on_z.
@@ -107,6 +110,7 @@ module _ (k : ℕ) (space : Space) (all : (s : Scenario) → HasAtMostFaults k s
         };
   }
     where
+      -- the path of the chosen tree has the value of what is picked
       picked_value : (b : Bool) (s : Scenario) (x : Path T) →
           IsOnPath (if b then paths_of k on else paths_of k off) s x →
           x.1 ≡ value_at (picked b on off) s
@@ -136,6 +140,7 @@ value_path k node good s = record { of_path = λ x on. sym (found k node good s 
 pub map_paths : {T U : Type 0} (k : ℕ) (answers : T → U → Type 0) (a : TreeNode T) (r : TreeNode U) → IsGood k a →
     IsGood k r → IsMapOf answers a r →
     IsMap answers (state k a) (state k r)
+-- x and z are the scenario's paths in a and r; each has what the scenario finds in its tree
 map_paths k answers a r good_a good_r made = record {
   faults = refl;
   value = λ s x z few on_x on_z.

@@ -31,6 +31,7 @@ either number false x y m n e f = f
 module _ {T : Type 0} (number : T → ℕ) where
   -- the value that a scenario finds is the number of the one in the tree that is read
   pub value_read : (a : TreeNode T) (s : Scenario) → value_at (read_by number a) s ≡ number (value_at a s)
+  -- by induction on the tree: a leaf, then a fork by its two sides
   value_read (Leaf x) s = refl
   value_read (Fork v cut below above) s =
       either number (nat_le (number_of s v) cut) (value_at below s) (value_at above s)
@@ -39,6 +40,7 @@ module _ {T : Type 0} (number : T → ℕ) where
 
   -- a scenario finds the ranges of the tree that is read
   pub low_read : (a : TreeNode T) (s : Scenario) (u : ℕ) → low_at (read_by number a) s u ≡ low_at a s u
+  -- by induction on the tree: a leaf, then a fork by its two sides
   low_read (Leaf x) s u = refl
   low_read (Fork v cut below above) s u =
       ap₂ (λ x y. if nat_le (number_of s v) cut then x else if v == u then max (cut + 1) y else y) (low_read below s u)
@@ -46,6 +48,7 @@ module _ {T : Type 0} (number : T → ℕ) where
 
   -- reading the leaves changes no highs
   pub high_read : (k : ℕ) (a : TreeNode T) (s : Scenario) (u : ℕ) → high_at k (read_by number a) s u ≡ high_at k a s u
+  -- by induction on the tree: a leaf, then a fork by its two sides
   high_read k (Leaf x) s u = refl
   high_read k (Fork v cut below above) s u =
       ap₂ (λ x y. if nat_le (number_of s v) cut then (if v == u then min cut x else x) else y) (high_read k below s u)
@@ -69,6 +72,7 @@ module _ {T : Type 0} (number : T → ℕ) where
   -- its paths are those of the tree, with their values read
   paths_read : (k : ℕ) (cube : List Literal) (a : TreeNode T) →
       paths_from k cube (read_by number a) ≡ map (λ (p : Path T). (p.0, number p.1)) (paths_from k cube a)
+  -- by induction on the tree: a leaf, then a fork by its two sides
   paths_read k cube (Leaf x) = refl
   paths_read k cube (Fork v cut lower upper) =
       ap₂ ◌++◌ (paths_read k (narrowed_by (up_to v cut) cube) lower)
@@ -113,6 +117,7 @@ module _ {T : Type 0} (number : T → ℕ) where
   pub kept_read : (space : Space) (a : TreeNode T) (old new : List (TreeItem ℕ)) →
       AddsTree (IsFilled (λ (x : ℕ) (y : T) (z : ℕ). z ≡ max x (number y)) space 0 a) old new →
       AddsTree (IsRestricted space (read_by number a)) old new
+  -- p: the tree that was added, how its list stands in the new one, and what is known of it, which carries over
   kept_read space a old new p = (
     p.0,
     p.1,
@@ -153,6 +158,7 @@ module _ (delay : ℕ) (t : TreeState (Option ℕ)) where
 
     -- the later tree is made of the first by moving each time
     pub later_map : IsMap (λ x z. z ≡ time_later delay x) t (later_by delay t)
+    -- a path z of the later tree is that of x put off, where x is the scenario's one path
     later_map = record {
       faults = refl;
       value = λ s x z few on_x on_z.
@@ -167,6 +173,7 @@ module _ (delay : ℕ) (t : TreeState (Option ℕ)) where
           (record { low = λ v. omega arith; high = λ v. omega arith }));
     }
       where
+        -- each path of the later tree that a scenario is on comes from a path of the first that it is on
         from_later : (s : Scenario) (z : Path ℕ) → IsOnPath (later_by delay t).paths s z →
             (x : Path (Option ℕ)) × IsOnPath t.paths s x × (later_path delay x ≡ z)
         from_later s z on =

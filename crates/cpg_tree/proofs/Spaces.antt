@@ -17,6 +17,7 @@ use Rattle.cpg_tree.specs.Space.{Space, IsInSpace, HasAtMostFaults, beyond, is_o
 pub not_less : (a b : ℕ) → nat_lt a b ≡ false → b ≤ a
 not_less a b h = elim (cases_lt a b) [ inl l ↦ absurd (both_ways (nat_lt a b) h (lt-ltb a b l)) | inr l ↦ l ]
 
+-- given: a scenario of a space, and a cut of one of the 256 variables
 module _ (space : Space) (s : Scenario) (lies : IsInSpace space s) (v cut : ℕ) (there : v < 256) where
   -- a count goes no further beyond its low than faults are left
   pub count_le : v < 128 → number_of s v ≤ get_or space.low v 0 + space.left
@@ -37,6 +38,7 @@ module _ (space : Space) (s : Scenario) (lies : IsInSpace space s) (v cut : ℕ)
 
   -- if the faults don't suffice for a number above the cut, there is none
   pub none_by_faults : (nat_le 128 v || nat_lt cut (get_or space.low v 0 + space.left)) ≡ false → number_of s v ≤ cut
+  -- a value takes no faults, so the test holds; a count is at most its low and the faults left
   none_by_faults h =
       let parts = or_parts (nat_le 128 v) (nat_lt cut (get_or space.low v 0 + space.left)) h in
       elim (cases_lt v 128) [
@@ -61,13 +63,15 @@ module _ (xs : List ℕ) (v y u : ℕ) where
   pub set_same : v < length xs → u ≡ v → get_or (slice_set xs v y) u 0 ≡ y
   set_same l e = subst (λ w. get_or (slice_set xs v y) w 0 ≡ y) (sym e) (get_or-set_same xs v y 0 l)
 
--- what is at most what is left is so if nothing is taken
+-- a number that is at most the faults left still is if none of these is taken
 none_less : (n left : ℕ) → n ≤ left → n ≤ left - 0
 none_less n left l = omega arith
 
+-- given: a scenario of a space, and a cut of one of the 256 variables
 module _ (space : Space) (s : Scenario) (lies : IsInSpace space s) (v cut : ℕ) (there : v < 256) where
   -- a scenario whose number is at most the cut lies in the space below it
   pub lies_below : length space.high ≡ 256 → number_of s v ≤ cut → IsInSpace (below_cut space v cut) s
+  -- the number of v is at most the cut, its new high; the highs of other variables stay
   lies_below long h = record {
     low = lies.low;
     high = λ u l. elim (cases_eq u v) [
@@ -80,6 +84,8 @@ module _ (space : Space) (s : Scenario) (lies : IsInSpace space s) (v cut : ℕ)
   -- a scenario whose number is above the cut lies in the space above it
   pub lies_above : length space.low ≡ 256 → is_open_below space v cut ≡ true → cut < number_of s v →
       IsInSpace (above_cut space v cut) s
+  -- The number of v is above the cut, so at least the new low; other lows stay. If v is a count, its faults beyond the low are
+  -- fewer by just those that are no longer left; if it is a value, none change.
   lies_above long under h = record {
     low = λ u l. elim (cases_eq u v) [
       | inl e ↦ omega (arith, set_same space.low v (cut + 1) u (omega (arith, long, there)) e, h, ap (number_of s) e)
@@ -132,6 +138,7 @@ module _ (k : ℕ) (s : Scenario) (few : HasAtMostFaults k s) where
 
   -- no number is above the greatest of its variable
   pub number_le_top : (v : ℕ) → number_of s v ≤ top k v
+  -- a count is at most the faults in all, which are at most k; a value is at most 1
   number_le_top v = elim (cases_lt v 128) [
     | inl l ↦ omega (arith, number_of-fault s v l, count_few v l, cond-true (nat_lt v 128) k 1 (lt-ltb v 128 l))
     | inr l ↦ omega (
@@ -147,6 +154,7 @@ module _ (k : ℕ) (s : Scenario) (few : HasAtMostFaults k s) where
       ((v : ℕ) → v < 128 → get_or space.high v 0 ≡ k) →
       ((v : ℕ) → 128 ≤ v → v < 256 → get_or space.high v 0 ≡ 1) →
       space.left ≡ k → IsInSpace space s
+  -- each count is at most k, and each value at most 1; beyond the lows, which are 0, there are all the scenario's faults
   lies_whole space lows counts values left = record {
     low = λ v l. omega (arith, lows v l);
     high = λ v l. elim (cases_lt v 128) [

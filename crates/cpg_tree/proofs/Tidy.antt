@@ -31,6 +31,7 @@ Says k cube v = (0 < low_in cube v) ⊎ (high_in k cube v < top k v)
 part_narrowed : (k : ℕ) (l : Literal) (cube : List Literal) → l.variable < 256 →
     Says k (narrowed_by l cube) l.variable → IsNarrowed k cube →
     IsNarrowed k (narrowed_by l cube)
+-- the literal's own variable is narrowed, as is given; the ranges of the others stay, so what holds of them stays too
 part_narrowed k l cube there says part x c = elim (cases_eq l.variable x.variable) [
   | inl e ↦ (omega (arith, e, there), subst (Says k (narrowed_by l cube)) e says)
   | inr n ↦ elim (variables_of_narrowed l cube x c) [
@@ -43,6 +44,7 @@ part_narrowed k l cube there says part x c = elim (cases_eq l.variable x.variabl
   ]
 ]
   where
+    -- what the cube says of another variable than the literal's, the narrowed cube says too
     still : (v : ℕ) → l.variable ≢ v → Says k cube v → Says k (narrowed_by l cube) v
     still v n (inl low) = inl (omega (arith, low-other k l cube v n, low))
     still v n (inr high) = inr (omega (arith, high-other k l cube v n, high))
@@ -52,6 +54,7 @@ pub record IsPathAround (k : ℕ) (cube : List Literal) : Type 0 where
   pub space : Space
   pub is : IsOpenSpace k space
   pub covers : CoversSpace k space cube
+  -- each literal leaves out a number of its variable, at one of both ends
   pub part : (l : Literal) → Contains cube l →
       (l.variable < 256) × ((0 < low_in cube l.variable) ⊎ (high_in k cube l.variable < top k l.variable))
 
@@ -59,6 +62,8 @@ pub record IsPathAround (k : ℕ) (cube : List Literal) : Type 0 where
 pub tidy_paths : {T : Type 0} (k : ℕ) (node : TreeNode T) (space : Space) (cube : List Literal) → IsOpenSpace k space →
     CoversSpace k space cube → IsNarrowed k cube → IsFit space node → (x : Path T) →
     Contains (paths_from k cube node) x → IsPathAround k x.0
+-- by induction on the tree: the one path of a leaf has the cube itself; at a fork the part of the space on each side is open,
+-- the narrowed cube covers it, and says something of the fork's variable
 tidy_paths {T} k (Leaf y) space cube is covers part fit x c = elim (Contains-cases (cube, y) [] x c) [
   | inl e ↦
       subst (λ (z : Path T). IsPathAround k z.0) e (record { space = space; is = is; covers = covers; part = part })
@@ -84,14 +89,15 @@ tidy_paths k (Fork v cut below upper) space cube is covers part fit x c =
           (inl (omega (arith, low-same k (above k v cut) cube covers.rising))) part) fit.4 x i
     ]
 
--- so it is with each path of a good tree
+-- each path of a good tree has a space around it
 pub tidy_of : {T : Type 0} (k : ℕ) (node : TreeNode T) → IsGood k node → (x : Path T) → Contains (paths_of k node) x →
     IsPathAround k x.0
 tidy_of k node good = tidy_paths k node good.0 [] (whole_opens k good.0 good.1) (whole_covers k good.0 good.1)
     (λ l c. absurd (Contains-nil l c)) good.2
 
--- ---- so it has no whole literal, and none past the whole range
+-- ---- the cube of a path has no whole literal, and none that goes past the whole range
 
+-- given: the cube of a path, with the space around it
 module _ (k : ℕ) (cube : List Literal) (tidy : IsPathAround k cube) where
   module _ (l : Literal) (c : Contains cube l) where
     -- a cube's range of a literal's variable is that of the literal

@@ -23,7 +23,7 @@ use Rattle.cpg_tree.proofs.Tidy.{IsPathAround, tidy_of, not_whole, within}
 
 -- ---- the scenario of a space's lows
 
--- the scenario that has the low of each variable
+-- the scenario in which each variable has the low of the space
 lowest : Space → Scenario
 lowest space = record {
   values = map (λ c. nat_lt 0 (get_or space.low (128 + c) 0)) (numbers_below 128);
@@ -36,11 +36,11 @@ bit zero h = refl
 bit (suc zero) h = refl
 bit (suc (suc n)) h = absurd (omega (arith, h))
 
--- the variable of a value, from its condition's number
+-- a value's variable is 128 and the number of its condition
 back : (v : ℕ) → 128 ≤ v → 128 + (v - 128) ≡ v
 back v m = omega (arith, m)
 
--- its counts are the lows
+-- the counts of the lowest scenario are the lows
 lowest_faults : (space : Space) (p : ℕ) → p < 128 → fault_of (lowest space) p ≡ get_or space.low p 0
 unfolding lowest
 lowest_faults space p l = get_or-map-below (λ p. get_or space.low p 0) 128 p 0 l
@@ -58,6 +58,7 @@ lowest_values space v m l h =
 module _ (k : ℕ) (space : Space) (is : IsOpenSpace k space) where
   -- the number of the lowest scenario at each variable is the low
   lowest_is : (v : ℕ) → v < 256 → number_of (lowest space) v ≡ get_or space.low v 0
+  -- a count has the low itself; a value is true if the low is above 0, so as a number it is the low, which is 0 or 1
   lowest_is v l = elim (cases_lt v 128) [
     | inl m ↦ cond-true (nat_lt v 128) (fault_of (lowest space) v)
         (number_of_value (get_or (lowest space).values (v - 128) false)) (lt-ltb v 128 m) ∙ lowest_faults space v m
@@ -72,6 +73,7 @@ module _ (k : ℕ) (space : Space) (is : IsOpenSpace k space) where
       (numbers_below 128) (λ p c. lowest_faults space p (omega (arith, numbers-Contains 128 p c))))
       is.budget
     where
+      -- the lows ask for as many faults as were counted, which with those left are at most k
       fewer : (new old left : ℕ) → new ≡ old → old + left ≤ k → new ≤ k
       fewer new old left e h = omega (arith, e, h)
 

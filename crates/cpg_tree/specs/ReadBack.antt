@@ -8,27 +8,28 @@ use Rattle.cpg_tree.specs.Decision.{IsGood}
 use Rattle.cpg_tree.specs.Flat.{flat}
 use Rattle.cpg_tree.specs.Paths.{paths_of}
 
--- what an item makes of the stack
+-- the stack after an item: a value is put on it, and a fork takes its sides off, that above first
+-- a fork without two sides on the stack leaves it as it is; the list of a tree has none
 abbrev pub stacked : {T : Type 0} → TreeItem T → List (TreeNode T) → List (TreeNode T)
 stacked (Value x) stack = Leaf x ∷ stack
 stacked (Cut v cut n) [] = []
 stacked (Cut v cut n) (above ∷ []) = above ∷ []
 stacked (Cut v cut n) (above ∷ below ∷ stack) = Fork v cut below above ∷ stack
 
--- what all items make of it
+-- the stack after all items of a list
 abbrev pub read_back : {T : Type 0} → List (TreeItem T) → List (TreeNode T) → List (TreeNode T)
 read_back [] stack = stack
 read_back (x ∷ xs) stack = read_back xs (stacked x stack)
 
--- the paths of the tree that stands on top
+-- the paths of the topmost tree of the stack, and none of an empty stack
 abbrev pub paths_on : {T : Type 0} → ℕ → List (TreeNode T) → List (List Literal × T)
 paths_on k [] = []
 paths_on k (n ∷ stack) = paths_of k n
 
--- the paths of the tree that a list is of
+-- the paths of the tree that the items are the list of
 abbrev pub paths_in : {T : Type 0} → ℕ → List (TreeItem T) → List (List Literal × T)
 paths_in k items = paths_on k (read_back items [])
 
--- the list of a tree in which some scenario of at most k faults goes to each side of each fork
+-- the items are the list of a tree in which some scenario of at most k faults goes to each side of each fork
 abbrev pub IsGoodList : {T : Type 0} → ℕ → List (TreeItem T) → Type 0
 IsGoodList {T} k items = (n : TreeNode T) × (items ≡ flat n) × IsGood k n

@@ -1,4 +1,4 @@
-//! A fork of the two trees that a list ends in.
+//! Forks of the two trees that a list ends in: the first begins at `start` in the list, and the second at `middle`.
 ghost use Rattle.std.specs.Prelude.{◌≡◌, ◌≤◌, ◌<◌, ◌+◌, ◌-◌, ◌++◌, ◌∷◌, [], true, take, drop, length, IfOk, List};
 ghost use Rattle.std.specs.Bool.{OnTrue};
 ghost use Rattle.cpg_tree.specs.declared.item.TreeItem.{TreeItem};
@@ -8,7 +8,7 @@ ghost use Rattle.cpg_tree.specs.Added.{ForksEnd, RepeatsBelow};
 use crate::item::{TreeItem, are_same_items, put};
 use cpg_base::OutOfMemory;
 
-/// Whether the two lists are equal.
+/// Whether the two trees that a list ends in are equal.
 fn sides_are_same<T: Copy + Eq>(items: &[TreeItem<T>], start: usize, middle: usize) -> bool
     requires equal { (x y : T) → T.eq x y ≡ true → x ≡ y }
     requires order { start ≤ middle }
@@ -19,7 +19,8 @@ fn sides_are_same<T: Copy + Eq>(items: &[TreeItem<T>], start: usize, middle: usi
     are_same_items(front.split_at(start).1, above)
 }
 
-/// Whether the side above is a fork on the variable farther up whose side below is equal to the side below.
+/// Whether `above` is a fork on the same variable at a greater cut, whose side below is equal to `below`. Then a fork of
+/// `below` and `above` has the values of `above` alone.
 fn repeats_below<T: Copy + Eq>(
     below: &[TreeItem<T>],
     above: &[TreeItem<T>],
@@ -29,9 +30,11 @@ fn repeats_below<T: Copy + Eq>(
     requires { (x y : T) → T.eq x y ≡ true → x ≡ y }
     ensures { OnTrue result (RepeatsBelow below.now above.now variable cut) }
 {
+    // a tree's list isn't empty, but no clause says so here
     let Some((last, sides)) = above.split_last() else {
         return false;
     };
+    // the side above is one value
     let TreeItem::Cut {
         variable: next,
         cut: far,
@@ -52,13 +55,14 @@ fn repeats_below<T: Copy + Eq>(
     if count as usize != below.len() {
         return false;
     }
+    // the fork's own count fits its list, so this only shows that the split is in range
     if sides.len() < below.len() {
         return false;
     }
     are_same_items(below, sides.split_at(below.len()).0)
 }
 
-/// `repeats_below` for the last two trees of a list.
+/// Whether `repeats_below` is true of the two trees that a list ends in.
 fn above_repeats_below<T: Copy + Eq>(
     items: &[TreeItem<T>],
     start: usize,
@@ -75,7 +79,7 @@ fn above_repeats_below<T: Copy + Eq>(
     repeats_below(front.split_at(start).1, above, variable, cut)
 }
 
-/// Takes items out.
+/// Takes `count` items out of a list, from the place `from` on.
 fn take_out<T: Copy>(out: &mut Vec<TreeItem<T>>, from: usize, count: usize)
     requires { from + count ≤ length out.old.items }
     ensures { out.new.items ≡ take from out.old.items ++ drop (from + count) out.old.items }
@@ -88,7 +92,7 @@ fn take_out<T: Copy>(out: &mut Vec<TreeItem<T>>, from: usize, count: usize)
     out.truncate(left);
 }
 
-/// Adds a fork whose side below has `count` items.
+/// Adds the item of a fork whose side below has `count` items.
 #[inline(always)]
 fn push_cut<T: Copy>(
     out: &mut Vec<TreeItem<T>>,
@@ -110,7 +114,7 @@ fn push_cut<T: Copy>(
     put(out, item)
 }
 
-/// A fork of the two trees that a list ends in, from a start and a middle on.
+/// Makes a fork of the two trees that a list ends in, with its cut behind both lists. The one error is `OutOfMemory`.
 #[inline(always)]
 pub fn fork_of<T: Copy>(
     out: &mut Vec<TreeItem<T>>,
@@ -127,8 +131,8 @@ pub fn fork_of<T: Copy>(
     push_cut(out, variable, cut, middle - start)
 }
 
-/// Whether the last items of two lists show that the first is equal neither to the second nor to the side below a
-/// fork on a variable in it. No clause speaks of this: it only saves time.
+/// Whether the last items of two trees show that neither the trees are equal, nor the second is a fork on `variable` whose
+/// side below is the first. No clause speaks of this: it only saves time.
 fn are_apart<T: Copy + Eq>(below: TreeItem<T>, above: TreeItem<T>, variable: u8) -> bool {
     match above {
         // a value is equal to a value alone
@@ -141,6 +145,7 @@ fn are_apart<T: Copy + Eq>(below: TreeItem<T>, above: TreeItem<T>, variable: u8)
             cut,
             ..
         } => match below {
+            // a fork isn't equal to a value, and must be on the variable to have it below
             TreeItem::Value(_) => next != variable,
             TreeItem::Cut {
                 variable: own,
@@ -151,17 +156,18 @@ fn are_apart<T: Copy + Eq>(below: TreeItem<T>, above: TreeItem<T>, variable: u8)
     }
 }
 
-/// `are_apart` for the last two trees of a list.
+/// Whether `are_apart` is true of the last items of the two trees that a list ends in.
 #[inline(always)]
 fn sides_are_apart<T: Copy + Eq>(items: &[TreeItem<T>], middle: usize, variable: u8) -> bool {
+    // a tree's list isn't empty, so this doesn't occur; it shows that the places are in range
     if middle == 0 || middle >= items.len() {
         return false;
     }
     are_apart(items[middle - 1], items[items.len() - 1], variable)
 }
 
-/// A fork of the two trees that a list ends in, from a start and a middle on, or one tree if both are equal. If the side
-/// above is a fork on the same variable with an equal side below, the first cut is left out.
+/// Makes a fork of the two trees that a list ends in. If both are equal, one of them stays instead. If the second is a fork
+/// on the same variable whose side below is equal to the first, the second alone stays. The one error is `OutOfMemory`.
 #[inline(always)]
 pub fn fork<T: Copy + Eq>(
     out: &mut Vec<TreeItem<T>>,
@@ -176,7 +182,7 @@ pub fn fork<T: Copy + Eq>(
     ensures long { IfOk result (λ _. start ≤ length out.new.items) }
     ensures made { IfOk result (λ _. ForksEnd start middle variable cut out.old.items out.new.items) }
 {
-    // the last items show that nothing can be left out
+    // the last items show that nothing can be left out, so the lists needn't be compared
     if sides_are_apart(out.as_slice(), middle, variable) {
         return fork_of(out, start, middle, variable, cut);
     }

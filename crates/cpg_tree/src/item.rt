@@ -1,14 +1,15 @@
-//! What a tree's list holds.
+//! The items of a tree's list.
 ghost use Rattle.std.specs.Prelude.{◌≡◌, ◌++◌, ◌∷◌, [], true, IfOk};
 ghost use Rattle.std.specs.Bool.{OnTrue};
 
 use cpg_base::OutOfMemory;
 
-/// A value, or a fork by the number of a variable, behind the items of its sides: those of the side below, then those
-/// of the side above.
+/// An item of a tree's list. That of a fork stands behind the items of its side below and those of its side above.
 #[derive(Clone, Copy)]
 pub enum TreeItem<T> {
+    /// A leaf with its value.
     Value(T),
+    /// A fork: scenarios whose number of `variable` is at most `cut` go to the side below, which has `below` items.
     Cut { variable: u8, cut: u8, below: u32 },
 }
 
@@ -40,7 +41,7 @@ impl<T: Copy + Eq> TreeItem<T> {
     }
 }
 
-/// Whether two lists are equal.
+/// Whether two lists of items are equal.
 pub(crate) fn are_same_items<T: Copy + Eq>(one: &[TreeItem<T>], other: &[TreeItem<T>]) -> bool
     requires { (x y : T) → T.eq x y ≡ true → x ≡ y }
     ensures { OnTrue result (one.now ≡ other.now) }
@@ -56,7 +57,7 @@ pub(crate) fn are_same_items<T: Copy + Eq>(one: &[TreeItem<T>], other: &[TreeIte
     true
 }
 
-/// Adds an item. There is usually room for it, and then nothing else is checked.
+/// Adds an item to a list. There is usually room for it, which is asked first, so that the list is rarely asked to grow.
 #[inline(always)]
 pub fn put<T: Copy>(list: &mut Vec<T>, item: T) -> Result<(), OutOfMemory>
     ensures { IfOk result (λ _. list.new.items ≡ list.old.items ++ (item ∷ [])) }

@@ -1,4 +1,4 @@
-//! The answers of a function to the values of two trees.
+//! The tree of a function's answers to the values of two trees.
 ghost use Rattle.std.specs.Prelude.{◌≡◌, ◌≤◌, true, IfOk, length, vec_len};
 ghost use Rattle.cpg_tree.specs.TreeNode.{TreeNode};
 ghost use Rattle.cpg_tree.specs.Flat.{IsFlat, flat};
@@ -11,7 +11,7 @@ use crate::space::Space;
 use crate::top::{Top, top_of};
 use cpg_base::OutOfMemory;
 
-/// Adds the tree of the answers to a value and the values, for the scenarios of a space.
+/// Adds the tree of the answers that `f` gives to `value` and the values of a tree, for the scenarios of a space.
 #[cycle(fill)]
 #[inline(always)]
 pub fn fill_items<T: Copy, U: Copy, V: Copy + Eq, F: Fn(T, U) -> V>(
@@ -80,7 +80,8 @@ fn fill_fork<T: Copy, U: Copy, V: Copy + Eq, F: Fn(T, U) -> V>(
     }
 }
 
-/// Adds the tree of the answers to the values of two trees, for the scenarios of a space.
+/// Adds the tree of the answers that `f` gives to the values of two trees, for the scenarios of a space. It walks down the
+/// first tree, and from each of its leaves on down the second.
 #[cycle(join)]
 pub(crate) fn join_items<T: Copy, U: Copy, V: Copy + Eq, F: Fn(T, U) -> V>(
     items: &[TreeItem<T>],
@@ -98,7 +99,7 @@ pub(crate) fn join_items<T: Copy, U: Copy, V: Copy + Eq, F: Fn(T, U) -> V>(
     ensures made { IfOk result (λ _. (n : TreeNode T) (m : TreeNode U) → items.now ≡ flat n → other.now ≡ flat m →
         AddsTree (IsJoined (F.post f.now) space.old n m) out.old.items out.new.items) }
 {
-    // this way no leaf walks through the other tree from its top
+    // the other tree is cut down on the way, so that no leaf walks through it from its top
     let other = part_in(other, space);
     match top_of(items) {
         Top::Value(value) => fill_items(other, space, value, f, out),
@@ -151,6 +152,7 @@ fn join_side<T: Copy, U: Copy, V: Copy + Eq, F: Fn(T, U) -> V>(
 {
     match top_of(items) {
         Top::Value(value) => {
+            // no leaf of the other tree outside the space is looked at
             let other = part_in(other, space);
             fill_items(other, space, value, f, out)
         }

@@ -1,4 +1,4 @@
-//! Trees of values by scenarios.
+//! Decision trees: values by scenarios, with forks on fault counts and values of conditions, and what is made of them.
 #![tactic(auto)]
 
 mod at;

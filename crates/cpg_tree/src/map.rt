@@ -1,4 +1,4 @@
-//! The answers of a function to the values of a tree.
+//! The tree of a function's answers to the values of a tree.
 ghost use Rattle.std.specs.Prelude.{◌≡◌, ◌≤◌, true, IfOk, length, vec_len};
 ghost use Rattle.cpg_tree.specs.TreeNode.{TreeNode};
 ghost use Rattle.cpg_tree.specs.Flat.{IsFlat, flat};
@@ -9,7 +9,7 @@ use crate::item::{TreeItem, put};
 use crate::top::{Top, top_of};
 use cpg_base::OutOfMemory;
 
-/// Adds the tree of the answers.
+/// Adds the tree of the answers that `f` gives to the values of a tree.
 #[cycle(map)]
 #[inline(always)]
 pub fn map_items<T: Copy, U: Copy + Eq, F: Fn(T) -> U>(
@@ -50,6 +50,7 @@ fn map_fork<T: Copy, U: Copy + Eq, F: Fn(T) -> U>(
             below,
             above,
         } => {
+            // the answers of both sides are added, and then a fork of the two
             let start = out.len();
             map_items(below, f, out)?;
             let middle = out.len();

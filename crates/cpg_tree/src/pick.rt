@@ -1,4 +1,4 @@
-//! The values of the tree that a chooser picks.
+//! The tree that has in each scenario the value of the one of two trees that a chooser picks there.
 ghost use Rattle.std.specs.Prelude.{◌≡◌, ◌≤◌, ℕ, Bool, All, true, IfOk, vec_len};
 ghost use Rattle.cpg_tree.specs.TreeNode.{TreeNode};
 ghost use Rattle.cpg_tree.specs.Added.{AddsTree, IsRestricted, IsPicked};
@@ -29,7 +29,8 @@ pub fn within_items<T: Copy + Eq>(
     fill_items(items, space, (), &|_own: (), value: T| value, out)
 }
 
-/// Adds the tree of the values that a chooser picks, for the scenarios of a space.
+/// Adds the tree of the values of `on` if the chooser, whose list is `items`, is true, and otherwise of `off`, for the
+/// scenarios of a space.
 fn pick_items<T: Copy + Eq>(
     items: &[TreeItem<bool>],
     space: &mut Space,
@@ -46,7 +47,7 @@ fn pick_items<T: Copy + Eq>(
     ensures made { IfOk result (λ _. (n : TreeNode Bool) (a b : TreeNode T) → items.now ≡ flat n → on.now ≡ flat a → off.now ≡ flat b →
         AddsTree (IsPicked space.old n a b) out.old.items out.new.items) }
 {
-    // this way no leaf walks through them from their tops
+    // both are cut down on the way, so that no leaf of the chooser walks through them from their tops
     let on = part_in(on, space);
     let off = part_in(off, space);
     match top_of(items) {
@@ -63,12 +64,15 @@ fn pick_items<T: Copy + Eq>(
             below,
             above,
         } => {
+            // all scenarios of the space go above the cut
             if !space.is_open_below(variable, cut) {
                 return pick_items(above, space, on, off, out);
             }
+            // all scenarios of the space go below the cut
             if !space.is_open_above(variable, cut) {
                 return pick_items(below, space, on, off, out);
             }
+            // the answers of both sides are added, each for its part of the space, and then a fork of the two
             let start = out.len();
             let most = space.close_above(variable, cut);
             pick_items(below, space, on, off, out)?;
@@ -83,7 +87,8 @@ fn pick_items<T: Copy + Eq>(
 }
 
 impl<T: Copy + Eq> Tree<T> {
-    /// In each scenario the value of one of two trees: of the first where the chooser's value is true.
+    /// Returns the tree that has in each scenario the value of `yes` if the chooser is true there, and otherwise that of `no`.
+    /// The one error is `OutOfMemory`.
     pub fn pick(chooser: &Tree<bool>, yes: &Tree<T>, no: &Tree<T>) -> Result<Tree<T>, OutOfMemory>
         requires equal { (x y : T) → T.eq x y ≡ true → x ≡ y }
         requires first { chooser.now.faults ≡ yes.now.faults }
@@ -98,6 +103,7 @@ impl<T: Copy + Eq> Tree<T> {
         let mut space = Space::whole(faults);
         let on = yes.items();
         let off = no.items();
+        // a guess: the answer mostly has about as many items as the larger tree
         let mut made = Vec::with_capacity(chooser.alloc(), on.len().max(off.len()))?;
         pick_items(chooser.items(), &mut space, on, off, &mut made)?;
         Ok(Tree::of(chooser.alloc(), faults, made))

@@ -1,17 +1,18 @@
-//! How the leaves of a tree are read as numbers.
+//! Readings: how the leaves of a tree are read as numbers.
 ghost use Rattle.std.specs.Prelude.{ℕ, ◌≡◌};
 ghost use Rattle.cpg_tree.specs.Later.{time_later};
 
-/// How a leaf is read as a number.
+/// A way to read the leaf of a tree as a number.
 pub trait Reading<T> {
+    // the number that a leaf is read as
     ghost number: { Self → T → ℕ };
 
-    /// The number.
+    /// Returns the number that a leaf is read as.
     fn number(&self, leaf: T) -> u64
         ensures { result ≡ number self.now leaf };
 }
 
-/// A number, as it stands.
+/// Reads a number as it is.
 #[derive(Clone, Copy)]
 pub struct AsIs;
 
@@ -23,7 +24,7 @@ impl Reading<u64> for AsIs {
     }
 }
 
-/// A time or 0, later by a delay.
+/// Reads a time (0 if there is none) put off by a delay.
 #[derive(Clone, Copy)]
 pub struct Later {
     /// The delay, in time units of the graph file.
@@ -38,7 +39,7 @@ impl Reading<Option<u64>> for Later {
     }
 }
 
-/// A time or 0, later by a delay: at most the greatest number that there is.
+/// Returns a time (0 if there is none) put off by a delay, or the greatest `u64` if the sum is above it.
 pub fn time_later(time: Option<u64>, delay: u64) -> u64
     ensures { result ≡ time_later delay time }
 {

@@ -1,4 +1,4 @@
-//! The scenarios that come to a place of a tree.
+//! Spaces: the scenarios that come to a place of a tree.
 ghost use Rattle.std.specs.Prelude.{◌≡◌, ◌≤◌, ◌<◌, ◌+◌, ◌||◌, IfNone, IfSome, false, nat_le, nat_lt, true, get_or};
 ghost use Rattle.std.specs.Bool.{OnFalse, OnTrue};
 ghost use Rattle.cpg_cube.specs.Cube.{IsRising, holds, matches};
@@ -8,36 +8,39 @@ ghost use Rattle.cpg_tree.specs.Space.{IsInSpace, IsWhole, HasAtMostFaults, is_o
 use cpg_base::FIRST_VALUE;
 use cpg_cube::{Literal, VARIABLES};
 
-/// How many faults a count of a variable is: a value is none.
+/// Returns how many faults it takes to raise a variable by `count`: as many for a fault count, and none for a value.
 fn faults_of(variable: u8, count: u8) -> u8
     ensures { result ≡ faults_of variable count }
 {
     if variable < FIRST_VALUE { count } else { 0 }
 }
 
-/// A range for each variable, and how many faults there may be beyond the lows.
+/// The scenarios whose numbers are in a range for each variable, and whose faults beyond the lows are at most those left.
 #[derive(Clone, Copy)]
 pub struct Space {
     /// The least number of each variable.
     pub low: [u8; VARIABLES],
-    /// The greatest, but for the faults that are left.
+    /// The greatest number of each variable, though the faults left may not suffice for it.
     pub high: [u8; VARIABLES],
     /// How many faults there may be beyond the lows.
     left: u8,
 }
 
-/// What a variable's low and the faults left were before numbers were closed.
+/// What the low of a variable and the faults left were before the low was raised.
 #[derive(Clone, Copy)]
 pub struct Lifted {
+    /// The low.
     low: u8,
+    /// The faults left.
     left: u8,
 }
 
 impl Space {
-    /// All scenarios of at most `k` faults.
+    /// Returns the space of all scenarios of at most `k` faults.
     pub fn whole(k: u8) -> Space
         ensures is { IsWhole k result }
         ensures lies { (s : Scenario) → HasAtMostFaults k s → IsInSpace result s }
+    // a value is at most 1, and a fault count at most `k`
     {
         let mut high = [1; VARIABLES];
         for variable in 0..FIRST_VALUE {
@@ -50,7 +53,7 @@ impl Space {
         }
     }
 
-    /// Whether a number up to the cut is in range.
+    /// Whether the variable can be at most the cut: if not, all scenarios of the space are above it.
     pub fn is_open_below(&self, variable: u8, cut: u8) -> bool
         ensures is { result ≡ is_open_below self.now variable cut }
         ensures none { OnFalse result ((s : Scenario) → IsInSpace self.now s → cut < number_of s variable) }
@@ -58,7 +61,7 @@ impl Space {
         self.low[variable as usize] <= cut
     }
 
-    /// Whether the faults that are left allow a number above the cut.
+    /// Whether the faults left allow a number of the variable above the cut.
     fn allows_above(&self, variable: u8, cut: u8) -> bool
         ensures { result ≡ (nat_le 128 variable || nat_lt cut (get_or self.now.low variable 0 + self.now.left)) }
     {
@@ -69,7 +72,7 @@ impl Space {
         u16::from(cut) < u16::from(self.low[variable as usize]) + u16::from(self.left)
     }
 
-    /// Whether a number above the cut is in range, and the faults that are left allow it.
+    /// Whether the variable can be above the cut, by its range and the faults left: if not, no scenario of the space is.
     pub fn is_open_above(&self, variable: u8, cut: u8) -> bool
         ensures is { result ≡ is_open_above self.now variable cut }
         ensures none { OnFalse result ((s : Scenario) → IsInSpace self.now s → number_of s variable ≤ cut) }
@@ -77,7 +80,7 @@ impl Space {
         cut < self.high[variable as usize] && self.allows_above(variable, cut)
     }
 
-    /// The greatest number of a variable.
+    /// Returns the greatest number that a variable can have, by its range and the faults left.
     pub fn most(&self, variable: u8) -> u8
         ensures { (s : Scenario) → IsInSpace self.now s → number_of s variable ≤ result }
     {
@@ -87,6 +90,7 @@ impl Space {
         if variable >= FIRST_VALUE {
             return high;
         }
+        // the range has one number, or none
         if high <= low {
             return high;
         }
@@ -94,10 +98,11 @@ impl Space {
         if high - low <= self.left {
             return high;
         }
+        // below the high, so it fits a byte
         low + self.left
     }
 
-    /// The least number of a variable.
+    /// Returns the least number that a variable can have.
     pub fn least(&self, variable: u8) -> u8
         ensures { (s : Scenario) → IsInSpace self.now s → result ≤ number_of s variable }
     {
@@ -121,7 +126,7 @@ impl Space {
         }
     }
 
-    /// Leaves the numbers up to the cut, if there are others, and returns the high from before, for `reopen_above`.
+    /// Makes the cut the high of a variable, and returns the high from before, which `reopen_above` puts back.
     pub fn close_above(&mut self, variable: u8, cut: u8) -> u8
         ensures is { self.new ≡ below_cut self.old variable cut }
         ensures back { below_cut self.new variable result ≡ self.old }
@@ -132,14 +137,15 @@ impl Space {
         high
     }
 
-    /// Puts a high back.
+    /// Puts back the high of a variable that `close_above` returned.
     pub fn reopen_above(&mut self, variable: u8, high: u8)
         ensures { self.new ≡ below_cut self.old variable high }
     {
         self.high[variable as usize] = high;
     }
 
-    /// Leaves the numbers above the cut, if there are others, and returns what was before, for `reopen_below`.
+    /// Makes `cut + 1` the low of a variable and takes the faults for it from those left. It returns what was before, which
+    /// `reopen_below` puts back.
     pub fn close_below(&mut self, variable: u8, cut: u8) -> Lifted
         requires below { is_open_below self.old variable cut ≡ true }
         requires above { is_open_above self.old variable cut ≡ true }
@@ -152,7 +158,7 @@ impl Space {
         was
     }
 
-    /// Puts a low and the faults left back.
+    /// Puts back the low of a variable and the faults left that `close_below` returned.
     pub fn reopen_below(&mut self, variable: u8, was: Lifted)
         ensures { self.new ≡ reopened_below self.old variable was }
     {
@@ -160,7 +166,8 @@ impl Space {
         self.left = was.left;
     }
 
-    /// Leaves the scenarios in which a variable's number is at least this; false only if there are none.
+    /// Narrows the space to the scenarios in which a variable is at least `low`. It returns false only if there are none, and
+    /// then leaves the space as it is.
     fn lift(&mut self, variable: u8, low: u8) -> bool
         ensures lies { OnTrue result ((s : Scenario) → IsInSpace self.old s → low ≤ number_of s variable → IsInSpace self.new s) }
         ensures none { OnFalse result ((s : Scenario) → IsInSpace self.old s → number_of s variable < low) }
@@ -182,7 +189,8 @@ impl Space {
         true
     }
 
-    /// Leaves the scenarios in which a variable's number is at most this; false only if there are none.
+    /// Narrows the space to the scenarios in which a variable is at most `high`. It returns false only if there are none, and
+    /// then leaves the space as it is.
     fn lower(&mut self, variable: u8, high: u8) -> bool
         ensures lies { OnTrue result ((s : Scenario) → IsInSpace self.old s → number_of s variable ≤ high → IsInSpace self.new s) }
         ensures none { OnFalse result ((s : Scenario) → IsInSpace self.old s → high < number_of s variable) }
@@ -199,7 +207,8 @@ impl Space {
         true
     }
 
-    /// Leaves the scenarios in which a literal holds; false only if there are none.
+    /// Narrows the space to the scenarios in which a literal holds. It returns false only if there are none, and then the
+    /// space may be half narrowed.
     fn narrow(&mut self, literal: Literal) -> bool
         ensures lies { OnTrue result ((s : Scenario) → IsInSpace self.old s → holds s literal ≡ true → IsInSpace self.new s) }
         ensures none { OnFalse result ((s : Scenario) → IsInSpace self.old s → holds s literal ≡ false) }
@@ -210,21 +219,21 @@ impl Space {
         self.lower(literal.variable, literal.high)
     }
 
-    /// Leaves the scenarios with a number above the cut, if there are others.
+    /// Makes `cut + 1` the low of a variable, and takes the faults for it from those left.
     fn raise(&mut self, variable: u8, cut: u8)
         requires below { is_open_below self.old variable cut ≡ true }
         requires above { is_open_above self.old variable cut ≡ true }
         ensures is { self.new ≡ above_cut self.old variable cut }
         ensures lies { (s : Scenario) → IsInSpace self.old s → cut < number_of s variable → IsInSpace self.new s }
     {
-        // `cut + 1` fits its type, as the high does
+        // read for the proof: the high is a byte and above the cut, so `cut + 1` fits a byte too
         let _high = self.high[variable as usize];
         let low = cut + 1;
         self.left -= faults_of(variable, low - self.low[variable as usize]);
         self.low[variable as usize] = low;
     }
 
-    /// Whether a literal holds in the whole space.
+    /// Whether a literal holds in the whole space; true only if it does.
     pub fn implies(&self, literal: &Literal) -> bool
         ensures { OnTrue result ((s : Scenario) → IsInSpace self.now s → holds s literal.now ≡ true) }
     {
@@ -236,10 +245,12 @@ impl Space {
         if self.high[literal.variable as usize] <= literal.high {
             return true;
         }
+        // the faults left don't suffice for a number above the literal's range
         self.most(literal.variable) <= literal.high
     }
 
-    /// Whether the faults that are left suffice for the lows of literals from a place on.
+    /// Whether the faults left suffice for the lows of literals from the place `from` on: if not, no scenario of the space
+    /// matches the literals.
     pub fn affords(&self, literals: &[Literal], from: usize) -> bool
         requires { IsRising literals.now }
         ensures { OnFalse result ((s : Scenario) → IsInSpace self.now s → matches literals.now s ≡ false) }
@@ -258,8 +269,8 @@ impl Space {
         true
     }
 
-    /// Leaves the scenarios that literals match. It returns false only if there are none, and then the space can be
-    /// any.
+    /// Narrows the space to the scenarios that literals match. It returns false only if there are none, and then the space
+    /// may be half narrowed.
     pub fn narrow_to(&mut self, literals: &[Literal]) -> bool
         ensures lies { OnTrue result ((s : Scenario) → IsInSpace self.old s → matches literals.now s ≡ true → IsInSpace self.new s) }
         ensures none { OnFalse result ((s : Scenario) → IsInSpace self.old s → matches literals.now s ≡ false) }
@@ -272,7 +283,7 @@ impl Space {
         true
     }
 
-    /// The scenarios of the space that literals match; `None` only if there are none.
+    /// Returns the space of this space's scenarios that literals match; `None` only if there are none.
     pub fn within(&self, literals: &[Literal]) -> Option<Space>
         ensures lies { IfSome result (λ r. (s : Scenario) → IsInSpace self.now s → matches literals.now s ≡ true → IsInSpace r s) }
         ensures none { IfNone result ((s : Scenario) → IsInSpace self.now s → matches literals.now s ≡ false) }
@@ -284,7 +295,7 @@ impl Space {
         Some(space)
     }
 
-    /// The scenarios of at most `k` faults that literals match; `None` only if there are none.
+    /// Returns the space of the scenarios of at most `k` faults that literals match; `None` only if there are none.
     pub fn of(k: u8, literals: &[Literal]) -> Option<Space>
         ensures lies { IfSome result (λ r. (s : Scenario) → HasAtMostFaults k s → matches literals.now s ≡ true → IsInSpace r s) }
         ensures none { IfNone result ((s : Scenario) → HasAtMostFaults k s → matches literals.now s ≡ false) }

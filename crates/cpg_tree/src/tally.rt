@@ -1,28 +1,30 @@
-//! Counts of the numbers at which literals begin and end, to choose the fork that parts columns best. The choice is a guess:
-//! no clause speaks of it.
+//! Counts of the numbers at which the ranges of literals begin and end, to choose the fork that parts columns best. The choice
+//! only decides how good a tree becomes: no clause speaks of it.
 use cpg_base::{MOST_FAULTS, OutOfMemory};
 use cpg_cube::{Literal, VARIABLES};
 use std::alloc::Global;
 
-/// How many numbers of a variable have a count of their own.
+/// How many numbers of a variable have a place in a table: more than the 9 that a fault count can have.
 const NUMBERS: usize = 16;
-/// How many counts a table has: one for each number of each variable.
+/// How many counts a table has: `NUMBERS` for each of 256 variables.
 const COUNTS: usize = 4096;
-/// If there are at most this many columns, only the variables of the first are looked at.
+/// If there are at most this many columns, only the variables of one of them are looked at.
 const FEW: u32 = 24;
 
 /// A fork by whether a variable is at most a number, and how well it parts columns.
 #[derive(Clone, Copy)]
 pub struct Parting {
+    /// The variable of the fork.
     pub variable: u8,
+    /// The greatest number that goes below the fork.
     pub most: u8,
     /// Whether some column stands on both sides.
     is_shared: bool,
-    /// The squares of the numbers of columns on both sides, together.
+    /// The square of how many columns go below, plus that of how many go above: the less, the more evenly it parts them.
     cost: u64,
 }
 
-/// How well a fork parts `count` columns if `below` of them go below it and `above` of them above it.
+/// Rates a fork of `count` columns of which `below` go only below it and `above` only above it; the others go to both sides.
 fn rated(variable: u8, most: u8, count: u32, below: u32, above: u32) -> Parting {
     let low = u64::from(count.saturating_sub(above));
     let high = u64::from(count.saturating_sub(below));
@@ -48,7 +50,7 @@ impl Parting {
     }
 }
 
-/// The better of two forks.
+/// Returns the better of two forks: the first if both are as good, and the second if there is no first. It is never `None`.
 fn better(first: Option<Parting>, second: Parting) -> Option<Parting> {
     match first {
         Some(parting) => {
@@ -62,21 +64,21 @@ fn better(first: Option<Parting>, second: Parting) -> Option<Parting> {
     }
 }
 
-/// One more at a place, if it is there.
+/// Counts one more at a place. A place outside the table is passed over: no column of a graph's row has one.
 fn raise(counts: &mut Vec<u32>, place: usize) {
     if let Some(count) = counts.get_mut(place) {
         *count = count.saturating_add(1);
     }
 }
 
-/// None at a place, if it is there.
+/// Sets the count at a place to 0, if the table has the place.
 fn empty(counts: &mut Vec<u32>, place: usize) {
     if let Some(count) = counts.get_mut(place) {
         *count = 0;
     }
 }
 
-/// How many there are at a place.
+/// Returns the count at a place, or 0 if the table hasn't the place.
 fn count_at(counts: &[u32], place: usize) -> u32 {
     match counts.get(place) {
         Some(count) => *count,
@@ -84,12 +86,12 @@ fn count_at(counts: &[u32], place: usize) -> u32 {
     }
 }
 
-/// The place of the count of a variable's number.
+/// Returns the place in a table of the count for a number of a variable.
 fn count_index(variable: u8, number: u8) -> usize {
     variable as usize * NUMBERS + number as usize
 }
 
-/// For each variable and number how many literals begin and end there.
+/// For each number of each variable, how many literals begin and how many end there. Without its tables it counts nothing.
 #[derive(Drop)]
 pub struct Tally {
     /// How many literals begin at each number of each variable.
@@ -98,7 +100,7 @@ pub struct Tally {
     highs: Vec<u32>,
 }
 
-/// A table of counts.
+/// Makes a table in which every count is 0.
 fn table(alloc: Global) -> Result<Vec<u32>, OutOfMemory> {
     let counts = vec![in alloc; 0u32; COUNTS]?;
     Ok(counts)
@@ -113,12 +115,12 @@ impl Tally {
         }
     }
 
-    /// Whether it has tables.
+    /// Whether the tally has its tables.
     pub fn is_kept(&self) -> bool {
         !self.lows.is_empty()
     }
 
-    /// Makes the tables, if it has none yet.
+    /// Makes the tables, if the tally has none yet. The one error is `OutOfMemory`.
     pub fn keep(&mut self, alloc: Global) -> Result<(), OutOfMemory> {
         if self.lows.is_empty() {
             self.lows = table(alloc)?;
@@ -135,7 +137,7 @@ impl Tally {
         }
     }
 
-    /// Takes away all counts that a column's literals have raised.
+    /// Sets to 0 each count that a column's literals have raised, whatever other columns have added to it.
     pub fn clear(&mut self, literals: &[Literal]) {
         for literal in literals {
             empty(&mut self.lows, count_index(literal.variable, literal.low));
@@ -143,7 +145,7 @@ impl Tally {
         }
     }
 
-    /// How many columns have a literal on a variable.
+    /// Returns how many columns have a literal on a variable: all their literals begin at one of its numbers.
     fn count_on(&self, variable: u8) -> u32 {
         let mut count: u32 = 0;
         for number in 0..=MOST_FAULTS {
@@ -155,15 +157,18 @@ impl Tally {
         count
     }
 
-    /// The better of a fork and those on a variable, for `count` columns.
+    /// Returns the best of a fork found before and those on a variable that part `count` columns; `None` exactly if there is
+    /// none of either.
     fn best_on(&self, variable: u8, count: u32, found: Option<Parting>) -> Option<Parting> {
         let mut best = found;
         let mut below: u32 = 0;
         let mut above = self.count_on(variable);
+        // as the cut moves up, columns that end there go below it, and those that begin there no longer go above it
         for most in 0..MOST_FAULTS {
             let place = count_index(variable, most);
             below = below.saturating_add(count_at(self.highs.as_slice(), place));
             above = above.saturating_sub(count_at(self.lows.as_slice(), place));
+            // a fork that leaves a side without columns of its own doesn't part them
             if below > 0 && above > 0 {
                 best = better(best, rated(variable, most, count, below, above));
             }
@@ -171,7 +176,7 @@ impl Tally {
         best
     }
 
-    /// The best fork of `count` columns on the variables of some literals, if one parts them.
+    /// Returns the best fork of `count` columns on the variables of some literals, or `None` if none parts the columns.
     fn best_among(&self, literals: &[Literal], count: u32) -> Option<Parting> {
         let mut best: Option<Parting> = None;
         for literal in literals {
@@ -180,7 +185,7 @@ impl Tally {
         best
     }
 
-    /// The best fork of `count` columns, if one parts them.
+    /// Returns the best fork of `count` columns on any variable, or `None` if none parts the columns.
     pub fn best(&self, count: u32) -> Option<Parting> {
         let mut best: Option<Parting> = None;
         for variable in 0..VARIABLES {
@@ -189,15 +194,17 @@ impl Tally {
         best
     }
 
-    /// Does what `best` does, by the literals of one of the columns: a fork that no column stands on both sides of is
-    /// on one of their variables.
+    /// Does what `best` does, but looks first at the variables of one column's literals: a fork that no column stands on both
+    /// sides of is on one of these. If there are few columns, it looks at no others.
     pub fn best_by(&self, literals: &[Literal], count: u32) -> Option<Parting> {
         let best = self.best_among(literals, count);
+        // to look at all variables costs more than few columns are worth
         if count <= FEW {
             return best;
         }
         match best {
             Some(parting) => {
+                // a column stands on both sides, so a fork on another variable may be better
                 if parting.is_shared {
                     self.best(count)
                 } else {

@@ -1,12 +1,14 @@
-//! The top of a tree in a list.
+//! The top of a tree that is given as its list.
 ghost use Rattle.cpg_tree.specs.Flat.{HasVariable, IsFlat, IsLess, ShowsTop};
 
 use crate::item::TreeItem;
 
-/// A value, or a fork with the lists of its sides.
+/// What stands at the top of a tree.
 #[derive(Clone, Copy)]
 pub enum Top<'a, T> {
+    /// The tree is one leaf with this value.
     Value(T),
+    /// A fork: scenarios whose number of `variable` is at most `cut` go to `below`, the others to `above`.
     Cut {
         variable: u8,
         cut: u8,
@@ -15,7 +17,7 @@ pub enum Top<'a, T> {
     },
 }
 
-/// The top of the tree that a list is of.
+/// Returns the top of a tree. It takes the last item of the list, so a walk down needs no search.
 #[inline]
 pub fn top_of<T: Copy>(items: &[TreeItem<T>]) -> Top<'_, T>
     requires { IsFlat items.now }
@@ -23,6 +25,7 @@ pub fn top_of<T: Copy>(items: &[TreeItem<T>]) -> Top<'_, T>
     ensures less { IsLess items.now result }
     ensures variable { HasVariable result }
 {
+    // a tree's list isn't empty
     let Some((last, sides)) = items.split_last() else {
         unreachable!();
     };
@@ -34,6 +37,7 @@ pub fn top_of<T: Copy>(items: &[TreeItem<T>]) -> Top<'_, T>
             cut,
             below,
         } => {
+            // the side below is within the list, so `min` only shows that the split is in range
             let (below, above) = sides.split_at((below as usize).min(sides.len()));
             Top::Cut {
                 variable,

@@ -1,4 +1,4 @@
-//! Trees of values by scenarios.
+//! A decision tree as callers have it, and what is made of one tree or of two by a function.
 ghost use Rattle.std.specs.Prelude.{◌≡◌, ◌≤◌, ◌<◌, max, ℕ, Bool, Option, Some, All, IfOk, length, true};
 ghost use Rattle.std.specs.Bool.{OnTrue};
 ghost use Rattle.cpg_tree.specs.TreeNode.{TreeNode};
@@ -20,16 +20,16 @@ use cpg_base::{OutOfMemory, Scenario};
 use std::alloc::Global;
 use std::marker::Model;
 
-/// A value for each scenario of at most `k` faults. It is seen as its paths: each is a cube and the value in the
-/// scenarios that the cube matches. It is stored as one list: the items of each fork's side below, those of its side
-/// above, and then the fork.
+/// A decision tree: a value for each scenario of at most `faults` faults. It is seen as its paths: each is a cube and the
+/// value in the scenarios that the cube matches. It is stored as one list: the items of each fork's side below, those of its
+/// side above, and then the fork.
 #[derive(Drop)]
 pub struct Tree<T> {
     /// The allocator of its items.
     alloc: Global,
     /// The most faults of a scenario that it has a value for.
     faults: u8,
-    /// The items of each fork's sides, and then the fork.
+    /// The tree's list.
     items: Vec<TreeItem<T>>,
 }
 
@@ -46,19 +46,19 @@ impl<T> Model for Tree<T> {
 }
 
 impl<T> Tree<T> {
-    /// The allocator of its items.
+    /// Returns the allocator of the tree's list.
     pub fn alloc(&self) -> Global {
         self.alloc
     }
 
-    /// The most faults of a scenario that it has a value for.
+    /// Returns the most faults of a scenario that the tree has a value for.
     pub fn faults(&self) -> u8
         ensures { result ≡ self.now.faults }
     {
         self.faults
     }
 
-    /// The list of the decision tree whose paths they are.
+    /// Returns the tree's list.
     pub fn items(&self) -> &[TreeItem<T>]
         ensures flat { IsFlat result.now }
         ensures good { (n : TreeNode T) → result.now ≡ flat n → IsGood self.now.faults n }
@@ -83,7 +83,7 @@ impl<T: Copy> Tree<T> {
         }
     }
 
-    /// One value for all scenarios of at most `k` faults.
+    /// Returns the tree that has one value in all scenarios of at most `k` faults. The one error is `OutOfMemory`.
     pub fn constant(alloc: Global, value: T, k: u8) -> Result<Tree<T>, OutOfMemory>
         requires { k ≤ 8 }
         ensures is { IfOk result (IsConstant value k) }
@@ -96,14 +96,14 @@ impl<T: Copy> Tree<T> {
         Ok(Tree::of(alloc, k, items))
     }
 
-    /// The value of the path that matches a scenario.
+    /// Returns the value of the path that a scenario is on.
     pub fn at(&self, scenario: &Scenario) -> T
         ensures { IsValueAt self.now scenario.now result }
     {
         at_items(self.items(), scenario)
     }
 
-    /// An equal tree.
+    /// Returns an equal tree. The one error is `OutOfMemory`.
     fn copy(&self) -> Result<Tree<T>, OutOfMemory>
         ensures is { IfOk result (λ t. t ≡ self.now) }
         ensures each { IfOk result (λ t. HasOnePathEach t.faults t.paths) }
@@ -113,14 +113,14 @@ impl<T: Copy> Tree<T> {
         Ok(Tree::of(self.alloc, self.faults(), copied))
     }
 
-    /// How many paths there are.
+    /// Returns how many paths the tree has.
     pub fn leaves(&self) -> u64
         ensures { result ≡ length self.now.paths }
     {
         leaf_count(self.items()) as u64
     }
 
-    /// The answers of a function to the values of two trees.
+    /// Returns the tree that has in each scenario the answer of `f` to the values of two trees. The one error is `OutOfMemory`.
     pub fn join_with<U: Copy, V: Copy + Eq, F: Fn(T, U) -> V>(
         &self,
         other: &Tree<U>,
@@ -137,12 +137,13 @@ impl<T: Copy> Tree<T> {
         let faults = self.faults();
         let mut space = Space::whole(faults);
         let others = other.items();
+        // a guess: the answer mostly has about as many items as the larger tree
         let mut made = Vec::with_capacity(self.alloc, self.items.len().max(others.len()))?;
         join_items(self.items(), others, &mut space, f, &mut made)?;
         Ok(Tree::of(self.alloc, faults, made))
     }
 
-    /// The answers of a function to the values.
+    /// Returns the tree that has in each scenario the answer of `f` to this tree's value. The one error is `OutOfMemory`.
     pub fn map<U: Copy + Eq, F: Fn(T) -> U>(&self, f: &F) -> Result<Tree<U>, OutOfMemory>
         requires callable { F.IsAlwaysCallable f.now }
         requires equal { (x y : U) → U.eq x y ≡ true → x ≡ y }
@@ -151,6 +152,7 @@ impl<T: Copy> Tree<T> {
         ensures tidy { IfOk result (λ t. All (IsTidyPath t.faults) t.paths) }
         ensures pass { IfOk result (λ t. (test : ℕ → Bool) → DoPathsPass test self.now.paths → DoPathsPass test t.paths) }
     {
+        // the answer has no more items than the tree
         let mut made = Vec::with_capacity(self.alloc, self.items.len())?;
         map_items(self.items(), f, &mut made)?;
         Ok(Tree::of(self.alloc, self.faults(), made))
@@ -158,7 +160,7 @@ impl<T: Copy> Tree<T> {
 }
 
 impl Tree<bool> {
-    /// Whether the tree is true in every scenario, as far as its first fork shows.
+    /// Whether the tree is the one value true. It is false for a tree with a fork, even if all leaves are true.
     pub fn is_true(&self) -> bool
         ensures { OnTrue result (IsConstant true self.now.faults self.now) }
     {
@@ -169,7 +171,7 @@ impl Tree<bool> {
     }
 }
 
-/// Whether a time is there and is at least this.
+/// Whether there is a time, and it is at least `least`.
 fn is_time_from(time: Option<u64>, least: u64) -> bool
     ensures { OnTrue result (time ≡ Some (max (time_later 0 time) least)) }
 {
@@ -179,7 +181,7 @@ fn is_time_from(time: Option<u64>, least: u64) -> bool
     least <= time
 }
 
-/// Whether an item is no value, or a time of at least this.
+/// Whether an item is a fork, or has a time that is at least `least`.
 fn is_item_from(item: TreeItem<Option<u64>>, least: u64) -> bool
     ensures { OnTrue result (IsItemFrom least item) }
 {
@@ -189,7 +191,7 @@ fn is_item_from(item: TreeItem<Option<u64>>, least: u64) -> bool
     }
 }
 
-/// Whether each value of a tree is a time of at least this.
+/// Whether each leaf of a tree has a time that is at least `least`.
 fn are_at_least(items: &[TreeItem<Option<u64>>], least: u64) -> bool
     requires { IsFlat items.now }
     ensures { OnTrue result ((n : TreeNode (Option ℕ)) → items.now ≡ flat n → AreAtLeast least n) }
@@ -202,7 +204,7 @@ fn are_at_least(items: &[TreeItem<Option<u64>>], least: u64) -> bool
     true
 }
 
-/// A time, 0 if there is none, or another, whichever is later.
+/// Returns a time (0 if there is none) or `least`, whichever is later.
 fn time_or(time: Option<u64>, least: u64) -> u64
     ensures { result ≡ max (time_later 0 time) least }
 {
@@ -210,14 +212,15 @@ fn time_or(time: Option<u64>, least: u64) -> u64
 }
 
 impl Tree<Option<u64>> {
-    /// Whether each value is a time of at least this.
+    /// Whether the tree has in each scenario a time that is at least `least`.
     fn is_at_least(&self, least: u64) -> bool
         ensures { OnTrue result (All (λ p. p.1 ≡ Some (max (time_later 0 p.1) least)) self.now.paths) }
     {
         are_at_least(self.items(), least)
     }
 
-    /// The times, 0 if there are none, or another, whichever is later, as times in all scenarios.
+    /// Returns the tree that has in each scenario this tree's time (0 if it has none) or `least`, whichever is later. The one
+    /// error is `OutOfMemory`.
     fn raised(&self, least: u64) -> Result<Tree<Option<u64>>, OutOfMemory>
         ensures is { IfOk result (λ t. IsMap (λ x z. z ≡ Some (max (time_later 0 x) least)) self.now t) }
         ensures each { IfOk result (λ t. HasOnePathEach t.faults t.paths) }
@@ -227,8 +230,8 @@ impl Tree<Option<u64>> {
         self.map(&|time: Option<u64>| Some(time_or(time, least)))
     }
 
-    /// The times, 0 if there are none, or another, whichever is later, as times in all scenarios. A tree that has no
-    /// other values is copied.
+    /// Returns the tree that has in each scenario this tree's time (0 if it has none) or `least`, whichever is later. If that
+    /// changes no time, it is a copy of the tree. The one error is `OutOfMemory`.
     pub fn no_earlier(&self, least: u64) -> Result<Tree<Option<u64>>, OutOfMemory>
         ensures is { IfOk result (λ t. IsMap (λ x z. z ≡ Some (max (time_later 0 x) least)) self.now t) }
         ensures each { IfOk result (λ t. HasOnePathEach t.faults t.paths) }

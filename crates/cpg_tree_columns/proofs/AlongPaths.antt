@@ -1,4 +1,4 @@
--- The columns of a tree whose forks stand along an order stand by their least scenarios.
+-- If the forks of a tree stand along an order, its columns stand by their least scenarios, from left to right.
 use Rattle.std.proofs.Common.{ℕ, ◌<◌, ◌≤◌, ◌≡◌, ◌≢◌, false, Option, None, Some, List, [], ◌∷◌, get_or, Contains, arith}
 use Rattle.std.proofs.Common.{sym, ap, ap₂, ◌∙◌, subst, inl, inr}
 use Rattle.std.specs.List.{AllPairs}
@@ -27,7 +27,7 @@ use Rattle.cpg_tree.proofs.PathLaws.{good_cuts}
 use Rattle.cpg_tree.proofs.Tidy.{tidy_of}
 use Rattle.cpg_tree_columns.proofs.TidyColumns.{of_column}
 
--- the one path of a leaf
+-- a leaf has one path, whose cube is the one it is entered with
 only : {T : Type 0} (cube : List Literal) (y : T) (x : Path T) → Contains ((cube, y) ∷ []) x → x.0 ≡ cube
 only {T} cube y x c = elim (Contains-cases (cube, y) [] x c) [
   | inl e ↦ ap (λ (z : Path T). z.0) (sym e)
@@ -36,10 +36,12 @@ only {T} cube y x c = elim (Contains-cases (cube, y) [] x c) [
 
 -- ---- ranges only shrink on the way down
 
--- on the way down the lows of a rising cube only rise
+-- no path of a tree has a low under that of the cube with which the tree is entered
 rises : {T : Type 0} (k : ℕ) (node : TreeNode T) (cube : List Literal) → IsRising cube → (x : Path T) →
     Contains (paths_from k cube node) x → (u : ℕ) →
     low_in cube u ≤ low_in x.0 u
+-- By induction on the tree. A fork's sides are entered with a narrowed cube, and narrowing lowers no low: that of its
+-- own variable rises or stays, and the others stay.
 rises k (Leaf y) cube rising x c u = omega (arith, ap (λ z. low_in z u) (only cube y x c))
 rises k (Fork v cut below upper) cube rising x c u =
     elim (Contains-append_cases (paths_from k (narrowed_by (up_to v cut) cube) below)
@@ -56,16 +58,18 @@ rises k (Fork v cut below upper) cube rising x c u =
       )
     ]
   where
+    -- narrowing by a literal lowers no low: on the literal's variable the low is the greater one, and others stay
     step : (l : Literal) → low_in cube u ≤ low_in (narrowed_by l cube) u
     step l = elim (cases_eq l.variable u) [
       | inl e ↦ subst (λ w. low_in cube w ≤ low_in (narrowed_by l cube) w) e (omega (arith, low-same k l cube rising))
       | inr n ↦ omega (arith, low-other k l cube u n)
     ]
 
--- on the way down the highs of a rising cube only fall
+-- no path of a tree has a high above that of the cube with which the tree is entered
 falls : {T : Type 0} (k : ℕ) (node : TreeNode T) (cube : List Literal) → IsRising cube → HasCuts k node → (x : Path T) →
     Contains (paths_from k cube node) x → (u : ℕ) →
     high_in k x.0 u ≤ high_in k cube u
+-- by induction on the tree, as `rises`; a cut is under its variable's greatest number
 falls k (Leaf y) cube rising cuts x c u = omega (arith, ap (λ z. high_in k z u) (only cube y x c))
 falls k (Fork v cut below upper) cube rising cuts x c u =
     elim (Contains-append_cases (paths_from k (narrowed_by (up_to v cut) cube) below)
@@ -82,6 +86,7 @@ falls k (Fork v cut below upper) cube rising cuts x c u =
       )
     ]
   where
+    -- narrowing by a literal raises no high: on the literal's variable the high is the lesser one, and others stay
     step : (l : Literal) → l.high ≤ top k l.variable → high_in k (narrowed_by l cube) u ≤ high_in k cube u
     step l within = elim (cases_eq l.variable u) [
       | inl e ↦ subst (λ w. high_in k (narrowed_by l cube) w ≤ high_in k cube w) e
@@ -91,12 +96,16 @@ falls k (Fork v cut below upper) cube rising cuts x c u =
 
 -- ---- the lows of variables that stand before all forks stay
 
+-- `places` has how many places of the order are left at each variable, more at earlier ones
 module _ (places : List ℕ) where
-  -- the low of a variable that stands before all forks stays on the way down
+  -- A variable that stands before all forks of a tree, so has more places left than `left`, keeps the low that it has
+  -- where the tree is entered.
   stays : {T : Type 0} (k left : ℕ) (node : TreeNode T) (cube : List Literal) → AreForksAlong places left node →
       (x : Path T) → Contains (paths_from k cube node) x → (u : ℕ)
       → left < get_or places u 0 →
       low_in x.0 u ≡ low_in cube u
+  -- by induction on the tree: a fork narrows only its own variable, which is another one, as fewer places are left at
+  -- it
   stays k left (Leaf y) cube along x c u l = ap (λ z. low_in z u) (only cube y x c)
   stays k left (Fork v cut below upper) cube along x c u l =
       let other : v ≢ u = λ e. omega (arith, along.0, l, ap (λ w. get_or places w 0) e) in
@@ -111,20 +120,23 @@ module _ (places : List ℕ) where
 
 -- ---- so the first fork that parts two paths decides which stands first
 
+-- given: how many places of the order are left at each variable
 module _ (g : Graph) (order places : List ℕ) (are : ArePlaces (variables_along g order) places) (k : ℕ) where
-  -- a cube's lows along the order aren't after another's
+  -- the lows of cube b, taken along the order, aren't before those of cube a
   abbrev Stands : List Literal → List Literal → Type 0
   Stands a b = is_below (lows_along g order (low_in b)) (lows_along g order (low_in a)) ≡ false
 
-  -- each range has a number
+  -- no path's range of any variable is empty
   abbrev HasNumbers : {T : Type 0} → List (Path T) → Type 0
   HasNumbers {T} paths = (x : Path T) → Contains paths x → (u : ℕ) → u < 256 → low_in x.0 u ≤ high_in k x.0 u
 
-  -- if the forks of a tree stand along an order, so do its paths
+  -- if the forks of a tree stand along the order, each path stands before those to its right
   sorted_paths : {T : Type 0} (left : ℕ) (node : TreeNode T) (cube : List Literal) → IsRising cube → HasCuts k node →
       AreForksAlong places left node →
       HasNumbers (paths_from k cube node) →
       AllPairs (λ (x y : Path T). Stands x.0 y.0) (paths_from k cube node)
+  -- By induction on the tree. Two paths of one side stand in order by the hypothesis. For one of each side the fork's
+  -- variable decides: variables before it have the same lows on both, and below the cut its low is less.
   sorted_paths {T} left (Leaf y) cube rising cuts along numbers =
       AllPairs-cons_by (λ (x z : Path T). Stands x.0 z.0) (cube, y) [] (λ z c. absurd (Contains-nil z c))
       (AllPairs-nil (λ (x z : Path T). Stands x.0 z.0))
@@ -155,7 +167,7 @@ module _ (g : Graph) (order places : List ℕ) (are : ArePlaces (variables_along
         low-same k (above k v cut) cube rising,
       )))
 
-  -- the columns of paths that stand in order stand by their least scenarios
+  -- if paths stand in order, so do their columns: a path has one column with its cube, or none
   columns_stand : (paths : List (Path (Option ℕ))) → AllPairs (λ (x y : Path (Option ℕ)). Stands x.0 y.0) paths →
       AreByLows (λ (c : Column). c.cube) g order (columns_of_paths paths)
   columns_stand paths stand = AllPairs-flat_map_in (λ (x y : Path (Option ℕ)). Stands x.0 y.0)
@@ -165,6 +177,7 @@ module _ (g : Graph) (order places : List ℕ) (are : ArePlaces (variables_along
       (sym (of_column x.0 x.1 c m)) (sym (of_column y.0 y.1 d n)) ∙ h)
       stand
     where
+      -- the column of one path, if it has one, is alone, so it stands in order
       alone : (cube : List Literal) (x : Option ℕ) →
           AllPairs (λ (c d : Column). Stands c.cube d.cube) (column_of cube x)
       alone cube None = AllPairs-nil (λ (c d : Column). Stands c.cube d.cube)
@@ -172,7 +185,8 @@ module _ (g : Graph) (order places : List ℕ) (are : ArePlaces (variables_along
           (record { time = t; cube = cube }) [] (λ z c. absurd (Contains-nil z c))
           (AllPairs-nil (λ (c d : Column). Stands c.cube d.cube))
 
-  -- if the forks of a good tree stand along an order, the columns of its paths stand by their least scenarios
+  -- the whole: in a good tree whose forks stand along the order, the columns of the paths stand by their least
+  -- scenarios
   pub sorted_columns : (node : TreeNode (Option ℕ)) → IsGood k node → AreForksAlong places 256 node →
       AreByLows (λ (c : Column). c.cube) g order (columns_of_paths (paths_of k node))
   sorted_columns node good along = columns_stand (paths_of k node)

@@ -1,4 +1,5 @@
--- The columns that are found on the way down a tree that fits are those of its paths.
+-- The columns that a walk down a good tree finds are those of its paths. The walk looks whether a side has a range
+-- left; in a good tree each side has.
 use Rattle.std.proofs.Common.{ℕ, ◌+◌, ◌<◌, ◌≤◌, ◌≡◌, max, min, ◌==◌, nat_lt, true, List, [], ◌∷◌, ◌++◌, Some, Option}
 use Rattle.std.proofs.Common.{arith, sym, ap, ap₂, ◌∙◌, subst, inl, inr, eq-eqb, ne_eqb}
 use Rattle.std.proofs.Common.{lt-ltb, le-ltb, append_assoc}
@@ -26,8 +27,9 @@ use Rattle.cpg_tree.proofs.OpenSpaces.{IsOpenSpace, CoversSpace, low_at_most, cu
 use Rattle.cpg_tree.proofs.OpenSpaces.{opens_above, covers_below, covers_above, whole_opens, whole_covers}
 use Rattle.cpg_tree_columns.specs.Columns.{column_of, columns_of_paths, columns_from}
 
--- the range of a literal's variable after narrowing
+-- the low of the range that narrowing leaves to the literal's variable: the greater of its own low and the cube's
 range_low : (l : Literal) (cube : List Literal) → (range_left l cube).low ≡ max l.low (low_in cube l.variable)
+-- by induction on the cube: the first literal is on the variable, or the range is that of the others
 range_low l [] = omega arith
 range_low l (m ∷ ms) = elim (cases_eq l.variable m.variable) [
   | inl e ↦ ap (λ (x : Literal). x.low)
@@ -39,9 +41,10 @@ range_low l (m ∷ ms) = elim (cases_eq l.variable m.variable) [
       (sym (cond-false (m.variable == l.variable) m.low (low_in ms l.variable) (ne_eqb _ _ (λ e. n (sym e)))))
 ]
 
--- the high of the range left to a literal is the lesser of its own high and that of the cube
+-- the high of that range: the lesser of its own high and the cube's
 range_high : (k : ℕ) (l : Literal) (cube : List Literal) → l.high ≤ top k l.variable →
     (range_left l cube).high ≡ min l.high (high_in k cube l.variable)
+-- by induction on the cube: its first literal is on the variable of `l`, and met with it, or it changes nothing
 range_high k l [] h = omega (arith, h)
 range_high k l (m ∷ ms) h = elim (cases_eq l.variable m.variable) [
   | inl e ↦ ap (λ (x : Literal). x.high)
@@ -55,12 +58,15 @@ range_high k l (m ∷ ms) h = elim (cases_eq l.variable m.variable) [
 
 -- ---- neither side's range is empty
 
--- given: a cube that covers an open space, and a cut with numbers of the space on both sides
+-- given: a cube whose ranges contain those of a space with a scenario, and a cut with numbers of the space on both
+-- sides
 module _ (k : ℕ) (space : Space) (is : IsOpenSpace k space) (v cut : ℕ) (there : v < 256)
     (below : is_open_below space v cut ≡ true) (upper : is_open_above space v cut ≡ true) (cube : List Literal)
     (covers : CoversSpace k space cube) where
-  -- the cube narrowed to the numbers up to the cut, or to those above it, has no empty range
+  -- narrowing the cube to the numbers up to the cut leaves its variable some number: the space's low is one of them
   pub some_below : with_literal (up_to v cut) cube ≡ Some (narrowed_by (up_to v cut) cube)
+  -- the range left is not empty: the space's low of v is at most the cut, and within the cube's range and the
+  -- literal's
   some_below = cond-true _ _ _ (le-leb (range_left (up_to v cut) cube).low (range_left (up_to v cut) cube).high
       (omega (
         arith,
@@ -72,8 +78,9 @@ module _ (k : ℕ) (space : Space) (is : IsOpenSpace k space) (v cut : ℕ) (the
         is.opens v there,
       )))
 
-  -- the cube narrowed to the numbers above the cut has no empty range
+  -- narrowing it to the numbers above the cut leaves some number: the space's high is one of them
   pub some_above : with_literal (above k v cut) cube ≡ Some (narrowed_by (above k v cut) cube)
+  -- the range left is not empty: the space's high of v is above the cut, and within the cube's range and the literal's
   some_above = cond-true _ _ _ (le-leb (range_left (above k v cut) cube).low (range_left (above k v cut) cube).high
       (omega (
         arith,
@@ -93,11 +100,14 @@ module _ (k : ℕ) (space : Space) (is : IsOpenSpace k space) (v cut : ℕ) (the
 flat_both : (xs ys : List (Path (Option ℕ))) → columns_of_paths (xs ++ ys) ≡ columns_of_paths xs ++ columns_of_paths ys
 flat_both xs ys = flat_map-append (λ (p : Path (Option ℕ)). column_of p.0 p.1) xs ys
 
--- the columns on from a cube that covers the space are those of the paths on from it
+-- The columns that the walk finds on from a cube are those of the paths on from it, if the cube covers a space that
+-- fits the tree.
 pub columns_are : (k : ℕ) (node : TreeNode (Option ℕ)) (space : Space) (cube : List Literal) → IsOpenSpace k space →
     CoversSpace k space cube →
     IsFit space node →
     columns_from k cube node ≡ columns_of_paths (paths_from k cube node)
+-- By induction on the tree. At a fork the space has numbers on both sides of the cut, so neither side is left out, and
+-- the narrowed cubes cover the two parts of the space.
 columns_are k (Leaf x) space cube is covers fit = sym (append-nil (column_of cube x))
 columns_are k (Fork v cut below upper) space cube is covers fit =
     ap₂ ◌++◌
@@ -154,7 +164,7 @@ leaf_columns k cube items n x old new is are added =
 -- given: a fork, the list of its items, and the cube that the way to it has left
 module _ (k : ℕ) (cube : List Literal) (v cut : ℕ) (x y n : TreeNode (Option ℕ)) (items : List (TreeItem (Option ℕ)))
     (is : items ≡ flat (Fork v cut x y)) (are : items ≡ flat n) where
-  -- if the columns of the side below and then those of the side above are added, those of the fork are
+  -- if the columns of the side below are added, and then those of the side above, those of the fork are
   pub fork_columns : (low high : Option (List Literal)) → with_literal (up_to v cut) cube ≡ low →
       with_literal (above k v cut) cube ≡ high →
       (old mid new : List Column) →
@@ -168,7 +178,7 @@ module _ (k : ℕ) (cube : List Literal) (v cut : ℕ) (x y n : TreeNode (Option
       ++ option_map_or (λ c. columns_from k c y) b [])) (sym below_is) (sym above_is)
       ∙ ap (λ (m : TreeNode (Option ℕ)). old ++ columns_from k cube m) (flat-same (Fork v cut x y) n (sym is ∙ are))
 
--- a cube that is narrowed to the numbers above a cut, by any name of these
+-- narrowing `old` by the literal that the code makes is narrowing the cube to the numbers above the cut
 pub above_of : (k v cut most : ℕ) (cube old : List Literal) (high : Option (List Literal)) → most ≡ top k v →
     old ≡ cube →
     with_literal (record { variable = v; low = cut + 1; high = most }) old ≡ high →
@@ -177,7 +187,8 @@ above_of k v cut most cube old high whole same narrowed =
     ap₂ (λ (h : ℕ) (ls : List Literal). let l : Literal = record { variable = v; low = cut + 1; high = h } in
     with_literal l ls) (sym whole) (sym same) ∙ narrowed
 
--- the same for a cube that is restored first, after it was narrowed up to the cut
+-- The same for a cube that was narrowed up to the cut: its last narrowing is undone, and it is then narrowed to the
+-- numbers above the cut.
 pub above_again : (k v cut most : ℕ) (n : Narrowing) (cube low after : List Literal) (high : Option (List Literal)) →
     most ≡ top k v → IsUndo n low cube → after ≡ low →
     with_literal (record { variable = v; low = cut + 1; high = most }) (restored n after) ≡ high →

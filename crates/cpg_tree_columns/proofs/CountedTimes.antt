@@ -1,4 +1,4 @@
--- A tree has as many columns as its list has times.
+-- A tree has as many columns as its list of items has times.
 use Rattle.std.proofs.Common.{ℕ, ◌+◌, ◌≤◌, ◌≡◌, List, [], ◌∷◌, ◌++◌, Option, Some, None, length, filter, arith, refl}
 use Rattle.std.proofs.Common.{sym, ap, ◌∙◌}
 use Rattle.std.proofs.lemmas.List.{length-append}
@@ -24,13 +24,15 @@ both_columns xs ys = flat_map-append (λ (p : Path (Option ℕ)). column_of p.0 
 abbrev pub times_in : List (TreeItem (Option ℕ)) → ℕ
 times_in items = length (filter is_time items)
 
--- those of two lists are those of both
+-- two lists together have the times of both
 times-append : (xs ys : List (TreeItem (Option ℕ))) → times_in (xs ++ ys) ≡ times_in xs + times_in ys
 times-append xs ys = ap length (filter-append is_time xs ys) ∙ length-append (filter is_time xs) (filter is_time ys)
 
 -- a tree has as many columns as its list has leaves with a time
 pub times_are : (n : TreeNode (Option ℕ)) (k : ℕ) (cube : List Literal) →
     times_in (flat n) ≡ length (columns_of_paths (paths_from k cube n))
+-- by induction on the tree: a leaf has one column or none, and a fork those of both sides, since the cut itself is no
+-- time
 times_are (Leaf (Some time)) k cube = refl
 times_are (Leaf None) k cube = refl
 times_are (Fork v cut x y) k cube =

@@ -1,4 +1,5 @@
--- If the columns of paths stand by their least scenarios, the first with a time has the least scenario with it.
+-- Where the search for the first column with a time leads: down a tree, and, if the columns stand by their least
+-- scenarios, to the least scenario with that time.
 use Rattle.std.proofs.Common.{ℕ, ◌+◌, ◌≤◌, ◌≡◌, ◌≢◌, ◌==◌, Bool, true, false, List, [], ◌∷◌, ◌++◌, get_or, Option, Some}
 use Rattle.std.proofs.Common.{None, unwrap_or, option_map, All, Contains, IsPermutation, refl, sym}
 use Rattle.std.proofs.Common.{ap, ap₂, ◌∙◌, subst, inl, inr, eq-eqb, ne_eqb}
@@ -36,16 +37,17 @@ use Rattle.cpg_tree_columns.specs.Greatest.{HasValueAt, IsLeastWhereSorted, if_w
 use Rattle.cpg_tree_columns.proofs.Leasts.{column_there, path_there}
 use Rattle.cpg_tree_columns.proofs.TidyColumns.{tidy_columns}
 
--- what follows from a test that is true holds if the test is true
+-- what follows from a true test holds on true
 pub on_true : {P : Type 0} (b : Bool) → (b ≡ true → P) → OnTrue b P
 on_true true h = h refl
 on_true false h = tt
 
--- what follows from a test that is false holds if the test is false
+-- what follows from a false test holds on false
 pub on_false : {P : Type 0} (b : Bool) → (b ≡ false → P) → OnFalse b P
 on_false true h = tt
 on_false false h = h refl
 
+-- `wanted` is the time that is searched for
 module _ (wanted : ℕ) where
   -- the column with the time and a cube
   abbrev With : List Literal → Column
@@ -55,7 +57,7 @@ module _ (wanted : ℕ) where
   at_first : (x : Column) (xs : List Column) → x.time ≡ wanted → first_with wanted (x ∷ xs) ≡ Some x.cube
   at_first x xs same = cond-true (x.time == wanted) (Some x.cube) (first_with wanted xs) (eq-eqb _ _ same)
 
-  -- if it hasn't, the search goes on
+  -- if the first column has another time, the search goes on with the others
   past_first : (x : Column) (xs : List Column) → x.time ≢ wanted → first_with wanted (x ∷ xs) ≡ first_with wanted xs
   past_first x xs differs = cond-false (x.time == wanted) (Some x.cube) (first_with wanted xs) (ne_eqb _ _ differs)
 
@@ -64,6 +66,7 @@ module _ (wanted : ℕ) where
   -- if the first list has a column with the number, that is the first of both lists
   pub first_left : (xs ys : List Column) (cube : List Literal) → first_with wanted xs ≡ Some cube →
       first_with wanted (xs ++ ys) ≡ Some cube
+  -- by induction on the list
   first_left [] ys cube e = absurd (none-some cube e)
   first_left (x ∷ xs) ys cube e = elim (cases_eq x.time wanted) [
     | inl same ↦ at_first x (xs ++ ys) same ∙ sym (at_first x xs same) ∙ e
@@ -73,6 +76,7 @@ module _ (wanted : ℕ) where
   -- if it has none, the first of both is that of the second list
   pub first_right : (xs ys : List Column) → first_with wanted xs ≡ None →
       first_with wanted (xs ++ ys) ≡ first_with wanted ys
+  -- by induction on the list
   first_right [] ys e = refl
   first_right (x ∷ xs) ys e = elim (cases_eq x.time wanted) [
     | inl same ↦ absurd (none-some x.cube (sym e ∙ at_first x xs same))
@@ -81,9 +85,10 @@ module _ (wanted : ℕ) where
 
   -- ---- on the way down
 
+  -- given: a fork that is entered with a cube
   module _ (k : ℕ) (cube : List Literal) (v cut : ℕ) (below upper node : TreeNode (Option ℕ))
       (is : node ≡ Fork v cut below upper) where
-    -- the columns of the side below, if scenarios of the cube go there
+    -- the columns of the side below are those on from the narrowed cube, if that has numbers up to the cut
     of_below : (low : List Literal) → with_literal (up_to v cut) cube ≡ Some low →
         option_map_or (λ c. columns_from k c below) (with_literal (up_to v cut) cube) [] ≡ columns_from k low below
     of_below low e = ap (λ (o : Option (List Literal)). option_map_or (λ c. columns_from k c below) o []) e
@@ -98,7 +103,8 @@ module _ (wanted : ℕ) where
         (option_map_or (λ c. columns_from k c upper) (with_literal (above k v cut) cube) []) found
         (ap (first_with wanted) (of_below low e) ∙ first)
 
-    -- none is below the cut: then it is the first above, once the cube is narrowed to that
+    -- If no column of the side below has the number, the first one of the fork is that of the side above. The cube is
+    -- narrowed to the numbers above the cut by exchanging the literal.
     pub fork_above : (n : Narrowing) (most : ℕ) (low after : List Literal) (high found : Option (List Literal)) →
         most ≡ top k v → with_literal (up_to v cut) cube ≡ Some low →
         IsUndo n low cube →
@@ -106,6 +112,7 @@ module _ (wanted : ℕ) where
         after ≡ low → with_literal (record { variable = v; low = cut + 1; high = most }) (restored n after) ≡ high →
         first_with wanted (option_map_or (λ c. columns_from k c upper) high []) ≡ found →
         first_with wanted (columns_from k cube node) ≡ found
+    -- the fork's columns are those of the side below, which have no such number, and then those of the side above
     fork_above n most low after high found whole e undo none same exchanged first =
         let i = above_again k v cut most n cube low after high whole undo same exchanged in
         ap (λ (n : TreeNode (Option ℕ)). first_with wanted (columns_from k cube n)) is
@@ -127,6 +134,7 @@ module _ (wanted : ℕ) where
 
   -- ---- at a leaf
 
+  -- given: a leaf that is entered with a cube
   module _ (k : ℕ) (cube : List Literal) (x : Option ℕ) (node : TreeNode (Option ℕ)) (is : node ≡ Leaf x) where
     -- the columns of a leaf are those of its value
     leaf_is : first_with wanted (columns_from k cube node) ≡ first_with wanted (column_of cube x)
@@ -136,6 +144,7 @@ module _ (wanted : ℕ) where
     pub leaf_first : is_some (if_wanted wanted x) ≡ true → first_with wanted (columns_from k cube node) ≡ Some cube
     leaf_first on = leaf_is ∙ by_value x on
       where
+        -- a leaf without a time has no number; a leaf with a time has the number only if the two are equal
         by_value : (o : Option ℕ) → is_some (if_wanted wanted o) ≡ true →
             first_with wanted (column_of cube o) ≡ Some cube
         by_value None h = cc
@@ -149,6 +158,7 @@ module _ (wanted : ℕ) where
     pub leaf_none : is_some (if_wanted wanted x) ≡ false → first_with wanted (columns_from k cube node) ≡ None
     leaf_none off = leaf_is ∙ by_value x off
       where
+        -- a leaf without a time has no column; a column with another time isn't found
         by_value : (o : Option ℕ) → is_some (if_wanted wanted o) ≡ false → first_with wanted (column_of cube o) ≡ None
         by_value None h = refl
         by_value (Some time) h = elim (cases_eq time wanted) [
@@ -159,8 +169,9 @@ module _ (wanted : ℕ) where
 
   -- ---- which it is
 
-  -- the cube that is found is that of a column
+  -- the cube that is found is that of a column with the time
   is_there : (xs : List Column) (cube : List Literal) → first_with wanted xs ≡ Some cube → Contains xs (With cube)
+  -- by induction on the list
   is_there [] cube e = absurd (none-some cube e)
   is_there (x ∷ xs) cube e = elim (cases_eq x.time wanted) [
     | inl same ↦ subst (Contains (x ∷ xs))
@@ -169,8 +180,9 @@ module _ (wanted : ℕ) where
     | inr differs ↦ Contains-rest x xs (With cube) (is_there xs cube (sym (past_first x xs differs) ∙ e))
   ]
 
-  -- if no column with the wanted time is found, no column has that time
+  -- if none is found, no column has the time
   nowhere : (xs : List Column) → first_with wanted xs ≡ None → (d : Column) → Contains xs d → d.time ≢ wanted
+  -- by induction on the columns: the first one has another time, as it isn't found, and so have the others
   nowhere [] e d c t = absurd (Contains-nil d c)
   nowhere (x ∷ xs) e d c t = elim (cases_eq x.time wanted) [
     | inl same ↦ none-some x.cube (sym e ∙ at_first x xs same)
@@ -180,16 +192,18 @@ module _ (wanted : ℕ) where
     ]
   ]
 
+  -- given: an order of the graph's processes
   module _ (g : Graph) (order : List ℕ) where
-    -- a column's lows along the order aren't after another's
+    -- the lows of column d along the order aren't before those of c
     abbrev Stands : Column → Column → Type 0
     Stands c d = is_below (lows_along g order (low_in d.cube)) (lows_along g order (low_in c.cube)) ≡ false
 
-    -- no other column with the time stands before the first one
+    -- if the columns stand by their lows, no column with the time has lows before those of the first one that has it
     none_before : (xs : List Column) → AreByLows (λ (c : Column). c.cube) g order xs → (cube : List Literal) →
         first_with wanted xs ≡ Some cube → (d : Column) → Contains xs d →
         d.time ≡ wanted →
         Stands (With cube) d
+    -- by induction on the columns: the first one is the one found, and stands before all others, or it is passed over
     none_before [] stand cube e d c t = absurd (Contains-nil d c)
     none_before (x ∷ xs) stand cube e d c t = elim (cases_eq x.time wanted) [
       | inl same ↦ subst (λ (b : List Literal). Stands (With b) d) (ap (λ (o : Option (List Literal)). unwrap_or o cube)
@@ -206,8 +220,9 @@ module _ (wanted : ℕ) where
 
 -- ---- the scenarios of paths
 
+-- given: the paths of a tree over the graph's scenarios, and a time
 module _ (g : Graph) (paths : List (Path (Option ℕ))) (wanted : ℕ) where
-  -- if no column with the time is found, no path has it
+  -- if no column with the time is found, no path has it, since each path with a time has a column
   no_path : first_with wanted (columns_of_paths paths) ≡ None → (p : Path (Option ℕ)) → Contains paths p →
       p.1 ≢ Some wanted
   no_path none p c e = nowhere wanted (columns_of_paths paths) none (record { time = wanted; cube = p.0 })
@@ -218,6 +233,7 @@ module _ (g : Graph) (paths : List (Path (Option ℕ))) (wanted : ℕ) where
       IfNone o (All (λ (p : Path (Option ℕ)). p.1 ≢ Some wanted) paths)
   none_first o e = by_value (first_with wanted (columns_of_paths paths)) refl o e
     where
+      -- where a scenario is found nothing is asked; where none is, no column has the number
       by_value : (f : Option (List Literal)) → first_with wanted (columns_of_paths paths) ≡ f → (r : Option Scenario) →
           r ≡ option_map (lows g) f →
           IfNone r (All (λ (p : Path (Option ℕ)). p.1 ≢ Some wanted) paths)
@@ -251,7 +267,7 @@ module _ (g : Graph) (few : process_count g ≤ 128) (k : ℕ) (node : TreeNode 
   tidy_at : (d : Column) → Contains (columns_of_paths paths) d → IsTidyColumn g d
   tidy_at d c = All-contains (IsTidyColumn g) (columns_of_paths paths) d tidy c
 
-  -- the column that is found is one of the paths'
+  -- the column that is found is one of the columns of the paths
   here : Contains (columns_of_paths paths) (record { time = wanted; cube = cube })
   here = is_there wanted (columns_of_paths paths) cube first
 
@@ -263,8 +279,10 @@ module _ (g : Graph) (few : process_count g ≤ 128) (k : ℕ) (node : TreeNode 
   pub first_met : is_met g.faults cube ≡ true
   first_met = (tidy_at (record { time = wanted; cube = cube }) here).met
 
-  -- its least one is that of the number, if the columns stand along the order
+  -- if the columns stand along an order, the lows of the cube that was found are the least scenario with the number
   pub first_least : IsLeastWhereSorted g paths wanted (lows g cube)
+  -- the lows of each column are its least scenario; that of an earlier one would be before, and the columns stand in
+  -- order
   first_least order all stand =
       let xs = columns_of_paths paths in
       let column : Column = record { time = wanted; cube = cube } in

@@ -7,12 +7,12 @@ use Rattle.cpg_tree.specs.Flat.{flat}
 use Rattle.cpg_tree_columns.specs.Counted.{time_of}
 use Rattle.cpg_tree_columns.specs.Greatest.{greater, most_of}
 
--- the greatest time of items
+-- the greatest time of a list of items; forks and leaves without a time count for nothing
 abbrev pub most_in : List (TreeItem (Option ℕ)) → Option ℕ
 most_in [] = None
 most_in (item ∷ items) = greater (time_of item) (most_in items)
 
--- nothing is added to a number
+-- a number is the greater of itself and none
 pub greater_none : (a : Option ℕ) → greater a None ≡ a
 greater_none None = refl
 greater_none (Some x) = refl
@@ -26,12 +26,14 @@ greater_three (Some x) (Some y) (Some z) = ap Some (omega arith)
 
 -- the greatest time of two lists is the greater one of both
 most_in-append : (xs ys : List (TreeItem (Option ℕ))) → most_in (xs ++ ys) ≡ greater (most_in xs) (most_in ys)
+-- by induction on the list
 most_in-append [] ys = refl
 most_in-append (x ∷ xs) ys =
     ap (greater (time_of x)) (most_in-append xs ys) ∙ sym (greater_three (time_of x) (most_in xs) (most_in ys))
 
 -- the greatest time of a tree's items is the greatest number of its leaves
 pub most_in_flat : (n : TreeNode (Option ℕ)) → most_in (flat n) ≡ most_of n
+-- by induction on the tree: the items of a fork are those of both sides, and a cut without a time
 most_in_flat (Leaf x) = greater_none x
 most_in_flat (Fork v cut x y) =
     let last : List (TreeItem (Option ℕ)) = Cut v cut (length (flat x)) ∷ [] in

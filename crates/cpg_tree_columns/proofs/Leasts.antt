@@ -1,4 +1,4 @@
--- The column with the first lows has the least scenario with a number.
+-- Of the columns of a tree, the one whose lows come first along an order has the least scenario with a number.
 use Rattle.std.proofs.Common.{ℕ, ◌≤◌, ◌≡◌, true, false, List, [], get_or, Option, Some, None, All, Contains}
 use Rattle.std.proofs.Common.{IsPermutation, refl, sym, ap, ap₂, ◌∙◌, subst, inl, inr}
 use Rattle.std.proofs.lemmas.List.{get_or_default}
@@ -61,16 +61,17 @@ module _ (paths : List (Path (Option ℕ))) (columns : List Column)
       let is = from_time f.0.0 f.0.1 c f.2 in
       (f.0, f.1, is.0, is.1)
 
-  -- if there is no column, no path has a number
+  -- if there is no column, no path has a number: one with a number would have a column
   pub no_numbers : columns ≡ [] → (x : Path (Option ℕ)) → Contains paths x → x.1 ≡ None
   no_numbers none x j = by_value x.1 refl
     where
+      -- a path with a time would have a column
       by_value : (o : Option ℕ) → x.1 ≡ o → o ≡ None
       by_value None e = refl
       by_value (Some t) e = absurd (Contains-nil (record { time = t; cube = x.0 })
           (subst (λ (cs : List Column). Contains cs (record { time = t; cube = x.0 })) none (column_there x t j e)))
 
-  -- given: tidy columns, and the first of them by its lows
+  -- given: columns that are tidy, and c, the column at place `at`, whose lows come first along the order
   module _ (g : Graph) (few : process_count g ≤ 128) (order : List ℕ)
       (all : IsPermutation (numbers_below (process_count g)) order) (tidy : All (IsTidyColumn g) columns)
       (at : ℕ) (first : IsFirstByLows (λ (c : Column). c.cube) g order columns at) (c : Column)
@@ -87,9 +88,11 @@ module _ (paths : List (Path (Option ℕ))) (columns : List Column)
     pub column_met : is_met g.faults c.cube ≡ true
     column_met = (tidy_at c here).met
 
-    -- a scenario of a column is not before the column's least
+    -- no scenario that a column d matches is before the lows of c
     not_earlier : (u : Scenario) → IsScenario g u → (d : Column) → Contains columns d → matches d.cube u ≡ true →
         is_before g order u (lows g c.cube) ≡ false
+    -- d's lows aren't before c's, by how c was chosen (`below`, said of scenarios by `order_of`), and u isn't before
+    -- d's lows
     not_earlier u law d k m =
         let below : is_below (lows_along g order (low_in d.cube)) (lows_along g order (low_in c.cube)) ≡ false =
         subst (λ (b : Column).
@@ -103,10 +106,12 @@ module _ (paths : List (Path (Option ℕ))) (columns : List Column)
         not_before_transitive g order (lows g c.cube) (lows g d.cube) u order_of
         ((least_of_column g few d (tidy_at d k) order).least u law m)
 
-    -- the lows of the first column are the least scenario that has a number
+    -- the lows of c are the least scenario with a number: a path with it is that of some column, which `not_earlier`
+    -- compares
     pub least_of_columns : IsLeast g order (HasNumberAt paths) (lows g c.cube)
     least_of_columns = record {
       lawful = (least_of_column g few c (tidy_at c here) order).lawful;
+      -- the path of c has the time of c as its number, and c matches its own lows
       holds =
           let x = path_there c here in
           record {
@@ -121,6 +126,7 @@ module _ (paths : List (Path (Option ℕ))) (columns : List Column)
               x.2,
             );
           };
+      -- a path with a number is that of a column, whose scenarios aren't earlier
       least = λ u law h. not_earlier u law (record { time = h.number; cube = h.has.0.0 })
           (column_there h.has.0 h.number h.has.1.stands h.has.2) h.has.1.matched;
     }

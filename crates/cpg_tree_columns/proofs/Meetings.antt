@@ -1,4 +1,5 @@
--- A scenario that two trees come to in a space, and the greatest number of the one where the other is true.
+-- The greatest number that a tree has in a scenario of a space in which another tree is true: how it follows from the
+-- two sides of a fork, and what it says of the paths that callers see.
 use Rattle.std.proofs.Common.{ℕ, ◌+◌, ◌-◌, ◌<◌, ◌≤◌, ◌≡◌, Bool, true, false, nat_lt, Option, Some, None, List}
 use Rattle.std.proofs.Common.{unwrap_or, get_or, length, sum_by, arith, refl, sym, ap, ◌∙◌, subst, inl, inr, ◌⊎◌}
 use Rattle.std.proofs.Common.{le-ltb, lt-ltb}
@@ -40,11 +41,11 @@ use Rattle.cpg_tree_columns.proofs.TidyColumns.{sum_by_fewer}
 
 -- ---- the scenario of the lows
 
--- a space that is open for a graph is open for its faults
+-- if some scenario of the graph lies in the space, the space is open for k faults
 as_open : (g : Graph) (space : Space) → IsOpenSpaceOf g space → IsOpenSpace g.faults space
 as_open g space is = record { lows = is.lows; highs = is.highs; opens = is.opens; tops = is.tops; budget = is.budget }
 
--- given: an open space of a graph
+-- given: a space in which some scenario of the graph lies
 module _ (g : Graph) (few : process_count g ≤ 128) (space : Space) (is : IsOpenSpaceOf g space) where
   -- the low of a variable
   abbrev low : ℕ → ℕ
@@ -54,7 +55,7 @@ module _ (g : Graph) (few : process_count g ≤ 128) (space : Space) (is : IsOpe
   abbrev lowest : Scenario
   lowest = scenario_of g low
 
-  -- it is a scenario of the graph
+  -- it is a scenario of the graph: the lows are no more faults than the graph allows
   lawful : IsScenario g lowest
   lawful = made_lawful g few low (omega (arith, is.budget, sum_by_fewer low (process_count g) 128 few))
 
@@ -64,6 +65,7 @@ module _ (g : Graph) (few : process_count g ≤ 128) (space : Space) (is : IsOpe
 
   -- a number that is no variable is 0
   other_number : (v : ℕ) → (IsVariable g v → ⊥) → number_of lowest v ≡ 0
+  -- a process behind the last one has no fault count, and a condition behind the last one has no value
   other_number v none = elim (cases_lt v 128) [
     | inl l ↦ number_of-fault lowest v l ∙ get_or_past lowest.faults v 0 (elim (cases_lt v (process_count g)) [
       | inl k ↦ absurd (none (inl k))
@@ -85,7 +87,7 @@ module _ (g : Graph) (few : process_count g ≤ 128) (space : Space) (is : IsOpe
     | inr none ↦ other_number v none ∙ sym (is.known v none)
   ]
 
-  -- a count that is at its low is beyond it by nothing
+  -- a count at its low has no fault beyond it
   nothing_beyond : (f low number : ℕ) → number ≡ f → number ≡ low → f - low ≡ 0
   nothing_beyond f low number a b = omega (arith, a, b)
 
@@ -103,22 +105,25 @@ module _ (g : Graph) (few : process_count g ≤ 128) (space : Space) (is : IsOpe
     );
   }
 
-  -- a space of a graph has a scenario
+  -- some scenario of the graph lies in the space, that of the lows
   pub some_scenario : (s : Scenario) × IsScenario g s × IsInSpace space s
   some_scenario = (lowest, lawful, lies_lowest)
 
 -- ---- the parts of a space
 
--- if the low of one count falls, the faults beyond the lows rise by as much
+-- If a count's low falls from cut + 1 to `low`, the faults beyond the lows rise by as much, which is within those
+-- left.
 more_left : (new old low cut faults left : ℕ) → new + (faults - (cut + 1)) ≡ old + (faults - low) →
     old ≤ left - (cut + 1 - low) → low ≤ cut → cut < faults → cut + 1 - low ≤ left → new ≤ left
 more_left new old low cut faults left changed most below above allows = omega arith
 
+-- given: a space, and a cut of variable v
 module _ (space : Space) (lows : length space.low ≡ 256) (highs : length space.high ≡ 256) (v cut : ℕ)
     (there : v < 256) where
-  -- a scenario of the space below a cut lies in the space, and its number is at most the cut
+  -- a scenario of the part below the cut lies in the whole space, and its number of v is at most the cut
   pub lies_in_below : cut ≤ get_or space.high v 0 → (s : Scenario) → IsInSpace (below_cut space v cut) s →
       IsInSpace space s × (number_of s v ≤ cut)
+  -- only v's high differs between the two spaces
   lies_in_below under s lies = (
     record {
       low = lies.low;
@@ -131,14 +136,18 @@ module _ (space : Space) (lows : length space.low ≡ 256) (highs : length space
     at,
   )
     where
+      -- the part's high of v is the cut
       at : number_of s v ≤ cut
       at = omega (arith, lies.high v there, set_same space.high v cut v (omega (arith, highs, there)) refl)
 
-  -- a scenario of the space above a cut lies in the space, and its number is above the cut
+  -- A scenario of the part above the cut lies in the whole space, and its number of v is above the cut, provided that
+  -- the faults left cover the step from the low to above the cut.
   pub lies_in_above : get_or space.low v 0 ≤ cut → (v < 128 → cut + 1 - get_or space.low v 0 ≤ space.left) →
       (s : Scenario) →
       IsInSpace (above_cut space v cut) s
       → IsInSpace space s × (cut < number_of s v)
+  -- only v's low differs between the two spaces; if v is a process, what the scenario goes beyond the lows differs by
+  -- that step, and otherwise it is the same
   lies_in_above under allows s lies = (
     record {
       low = λ u l. elim (cases_eq u v) [
@@ -169,6 +178,7 @@ module _ (space : Space) (lows : length space.low ≡ 256) (highs : length space
     at,
   )
     where
+      -- the part's low of v is the number after the cut
       at : cut < number_of s v
       at = omega (arith, lies.low v there, set_same space.low v (cut + 1) v (omega (arith, lows, there)) refl)
 
@@ -182,7 +192,8 @@ module _ (space : Space) (lows : length space.low ≡ 256) (highs : length space
 
 -- ---- the sides of a fork
 
--- given: an open space of a graph, with numbers on both sides of a cut
+-- given: a space in which some scenario of the graph lies, and a cut of variable v with numbers of the space on both
+-- sides
 module _ (g : Graph) (space : Space) (v cut : ℕ) (there : v < 256) (known : IsVariable g v) (is : IsOpenSpaceOf g space)
     (under : is_open_below space v cut ≡ true)
     (over : is_open_above space v cut ≡ true) where
@@ -198,14 +209,15 @@ module _ (g : Graph) (space : Space) (v cut : ℕ) (there : v < 256) (known : Is
         | inr h ↦ omega (arith, ltb-true cut (get_or space.low v 0 + space.left) h)
       ]
 
-  -- the space below the cut is open for the graph
+  -- some scenario of the graph lies in the part below the cut
   open_of_below : IsOpenSpaceOf g (below_cut space v cut)
   open_of_below =
       let r = opens_below g.faults space (as_open g space is) v cut there under over in
       record { lows = r.lows; highs = r.highs; opens = r.opens; tops = r.tops; budget = r.budget; known = is.known }
 
-  -- the part of the graph's space above the cut is open too, and v is a variable of the graph
+  -- some scenario of the graph lies in the part above the cut
   open_of_above : IsOpenSpaceOf g (above_cut space v cut)
+  -- `opens_above` gives all but `known`, and only v, a variable of the graph, has a new low
   open_of_above =
       let r = opens_above g.faults space (as_open g space is) v cut there under over in
       record {
@@ -227,12 +239,13 @@ module _ (g : Graph) (space : Space) (v cut : ℕ) (there : v < 256) (known : Is
   in_above : (s : Scenario) → IsInSpace (above_cut space v cut) s → IsInSpace space s × (cut < number_of s v)
   in_above = lies_in_above space is.lows is.highs v cut there at_low allowed
 
--- given: two trees, and parts of them that are met on the same variables
+-- given: two trees, `node` and `other`, and two that stand for parts of them, `part` and `rest`, over the same graphs
 module _ {T U V W : Type 0} (node : TreeNode T) (other : TreeNode U) (part : TreeNode V) (rest : TreeNode W)
     (space : Space) (v cut : ℕ) (there : v < 256)
     (parts : (g : Graph) → AreForksOf g node other → IsVariable g v × AreForksOf g part rest)
     (fact inner : Scenario → Type 0) where
-  -- a scenario that the parts come to below the cut is one that the whole comes to
+  -- If some scenario below the cut has the fact `inner`, and that gives `fact`, then some scenario of the space has
+  -- `fact`.
   met_below : is_open_below space v cut ≡ true → is_open_above space v cut ≡ true →
       ((s : Scenario) → number_of s v ≤ cut → inner s → fact s) →
       IsMetIn (below_cut space v cut) part rest inner →
@@ -243,7 +256,7 @@ module _ {T U V W : Type 0} (node : TreeNode T) (other : TreeNode U) (part : Tre
       let l = in_below g space v cut there p.0 is under over r.0 r.2 in
       (r.0, r.1, l.0, follows r.0 l.1 r.3)
 
-  -- a scenario that the parts come to above the cut is one that the whole comes to
+  -- If some scenario above the cut has `inner`, and that gives `fact`, then some scenario of the space has `fact`.
   met_above : is_open_below space v cut ≡ true → is_open_above space v cut ≡ true →
       ((s : Scenario) → cut < number_of s v → inner s → fact s) →
       IsMetIn (above_cut space v cut) part rest inner →
@@ -254,7 +267,7 @@ module _ {T U V W : Type 0} (node : TreeNode T) (other : TreeNode U) (part : Tre
       let l = in_above g space v cut there p.0 is under over r.0 r.2 in
       (r.0, r.1, l.0, follows r.0 l.1 r.3)
 
-  -- a scenario that the parts come to in the same space is one that the whole comes to
+  -- if some scenario of the space has `inner`, and that gives `fact` there, then some scenario of it has `fact`
   met_same : ((s : Scenario) → IsInSpace space s → inner s → fact s) → IsMetIn space part rest inner →
       IsMetIn space node other fact
   met_same follows met g forks is =
@@ -292,7 +305,7 @@ module _ (space : Space) where
   leaf_never false items is =
       λ n are s lies. ap (λ (m : TreeNode Bool). value_at m s) (flat-same n (Leaf false) (sym are ∙ is))
 
--- given: a fork of a tree of truth values
+-- given: a tree of truth values that is a fork, with the sides `low` and `high`
 module _ (v cut : ℕ) (there : v < 256) (low high node : TreeNode Bool) (is : node ≡ Fork v cut low high)
     (space : Space) where
   -- up to the cut the tree has the values of its side below
@@ -303,13 +316,13 @@ module _ (v cut : ℕ) (there : v < 256) (low high node : TreeNode Bool) (is : n
   high_is : (s : Scenario) → cut < number_of s v → value_at node s ≡ value_at high s
   high_is s h = ap (λ (n : TreeNode Bool). value_at n s) is ∙ value_above v cut low high s h
 
-  -- the forks of the side below are on variables of the graph
+  -- if the whole is over a graph's scenarios, the fork is on a variable of it, and the side below is over them too
   low_parts : (g : Graph) → AreForksOf g node node → IsVariable g v × AreForksOf g low low
   low_parts g forks =
       let r = passes_parts (is_variable g) v cut low high node is forks.first in
       (variable_from g v r.0, record { few = forks.few; first = r.1; second = r.1 })
 
-  -- the forks of the side above are on variables of the graph
+  -- if the whole is over a graph's scenarios, the fork is on a variable of it, and the side above is over them too
   high_parts : (g : Graph) → AreForksOf g node node → IsVariable g v × AreForksOf g high high
   high_parts g forks =
       let r = passes_parts (is_variable g) v cut low high node is forks.first in
@@ -325,29 +338,29 @@ module _ (v cut : ℕ) (there : v < 256) (low high node : TreeNode Bool) (is : n
   true_high only = met_same node node high high space v cut there high_parts (λ s. value_at node s ≡ true)
       (λ s. value_at high s ≡ true) (λ s lies e. high_is s (only s lies) ∙ e)
 
-  -- if all scenarios go one way and the side there is true in none, so is the fork
+  -- if all scenarios go below and the side there is true in none, neither is the fork
   pub never_low : ((s : Scenario) → IsInSpace space s → number_of s v ≤ cut) → IsNeverIn space low →
       IsNeverIn space node
   never_low only none s lies = low_is s (only s lies) ∙ none s lies
 
-  -- if the side above is true in no scenario, and all are above, the tree is in none
+  -- if all scenarios go above and the side there is true in none, neither is the fork
   pub never_high : ((s : Scenario) → IsInSpace space s → cut < number_of s v) → IsNeverIn space high →
       IsNeverIn space node
   never_high only none s lies = high_is s (only s lies) ∙ none s lies
 
   -- given: a cut with numbers of the space on both sides
   module _ (under : is_open_below space v cut ≡ true) (over : is_open_above space v cut ≡ true) where
-    -- if both sides are open, a scenario of one side in which that is true is one of the fork
+    -- if the side below is true in some scenario below the cut, so is the fork
     pub true_below : IsTrueIn (below_cut space v cut) low → IsTrueIn space node
     true_below = met_below node node low low space v cut there low_parts (λ s. value_at node s ≡ true)
         (λ s. value_at low s ≡ true) under over (λ s h e. low_is s h ∙ e)
 
-    -- if the side above is true in some scenario above, the tree is in some
+    -- if the side above is true in some scenario above the cut, so is the fork
     pub true_above : IsTrueIn (above_cut space v cut) high → IsTrueIn space node
     true_above = met_above node node high high space v cut there high_parts (λ s. value_at node s ≡ true)
         (λ s. value_at high s ≡ true) under over (λ s h e. high_is s h ∙ e)
 
-  -- if neither side is true in any scenario, the fork is not either
+  -- if neither side is true in any scenario, nor is the fork: each scenario goes to one of them
   pub never_both : ((s : Scenario) → IsInSpace space s → number_of s v ≤ cut → value_at low s ≡ false) →
       ((s : Scenario) → IsInSpace space s → cut < number_of s v → value_at high s ≡ false)
       → IsNeverIn space node
@@ -358,11 +371,11 @@ module _ (v cut : ℕ) (there : v < 256) (low high node : TreeNode Bool) (is : n
 
 -- ---- the greatest number of a tree where another one is true
 
--- nothing is both true and false
+-- true isn't false
 not_both : true ≡ false → ⊥
 not_both e = cc
 
--- if the other tree is true in no scenario, the greatest number stays the best so far
+-- if the other tree is true in no scenario, the best number so far stays
 pub most_never : (space : Space) (node : TreeNode (Option ℕ)) (wanted : TreeNode Bool) (best : Option ℕ) →
     IsNeverIn space wanted →
     IsMostInSpace space node wanted best best
@@ -372,7 +385,7 @@ most_never space node wanted best none = record {
   found = inl refl;
 }
 
--- a leaf whose number is no greater than the best leaves the best as it is
+-- a leaf leaves the best number as it is, if its number isn't greater
 pub most_least : (space : Space) (node : TreeNode (Option ℕ)) (wanted : TreeNode Bool) (x best : Option ℕ) →
     node ≡ Leaf x →
     ((n : ℕ) → x ≡ Some n → IsUpTo best n)
@@ -383,7 +396,7 @@ most_least space node wanted x best is none = record {
   found = inl refl;
 }
 
--- a leaf whose number is at least the best is the greatest, if the other tree is true in some scenario
+-- a leaf's number is the greatest if it is at least the best, and the other tree is true in some scenario
 pub most_leaf : (space : Space) (node : TreeNode (Option ℕ)) (wanted : TreeNode Bool) (x best : Option ℕ) →
     node ≡ Leaf x → ((n : ℕ) → IsUpTo best n → IsUpTo x n) →
     IsTrueIn space wanted →
@@ -402,10 +415,11 @@ most_leaf space node wanted (Some number) best is some met = record {
       (r.0, r.1, r.2, (ap (λ (m : TreeNode (Option ℕ)). value_at m r.0) is, r.3)));
 }
   where
+    -- a number is no greater than an equal one
     same_up : (m n : ℕ) → Some m ≡ Some n → n ≤ m
     same_up m n e = omega (arith, ap (λ o. unwrap_or o 0) e)
 
--- given: a fork, and another tree
+-- given: a tree of numbers that is a fork, and the tree of truth values
 module _ (v cut : ℕ) (there : v < 256) (low high node : TreeNode (Option ℕ)) (is : node ≡ Fork v cut low high)
     (wanted : TreeNode Bool) (space : Space) where
   -- up to the cut the tree has the values of its side below
@@ -416,13 +430,13 @@ module _ (v cut : ℕ) (there : v < 256) (low high node : TreeNode (Option ℕ))
   high_value : (s : Scenario) → cut < number_of s v → value_at node s ≡ value_at high s
   high_value s h = ap (λ (n : TreeNode (Option ℕ)). value_at n s) is ∙ value_above v cut low high s h
 
-  -- the forks of the side below are on variables of the graph
+  -- if both trees are over a graph's scenarios, the fork is on a variable of it, and the side below is over them too
   low_forks : (g : Graph) → AreForksOf g node wanted → IsVariable g v × AreForksOf g low wanted
   low_forks g forks =
       let r = passes_parts (is_variable g) v cut low high node is forks.first in
       (variable_from g v r.0, record { few = forks.few; first = r.1; second = forks.second })
 
-  -- the forks of the side above are on variables of the graph
+  -- if both trees are over a graph's scenarios, the fork is on a variable of it, and its side above is over them too
   high_forks : (g : Graph) → AreForksOf g node wanted → IsVariable g v × AreForksOf g high wanted
   high_forks g forks =
       let r = passes_parts (is_variable g) v cut low high node is forks.first in
@@ -438,6 +452,7 @@ module _ (v cut : ℕ) (there : v < 256) (low high node : TreeNode (Option ℕ))
     found = elim of_low.found [ inl e ↦ inl e | inr f ↦ inr (go most f) ];
   }
     where
+      -- a scenario of the space that comes to the number in the side below does so in the fork
       go : (o : Option ℕ) → IsFoundIn space low wanted o → IsFoundIn space node wanted o
       go None f = absurd f
       go (Some n) f = met_same node wanted low wanted space v cut there low_forks (ComesTo node wanted n)
@@ -453,17 +468,21 @@ module _ (v cut : ℕ) (there : v < 256) (low high node : TreeNode (Option ℕ))
     found = elim of_high.found [ inl e ↦ inl e | inr f ↦ inr (go most f) ];
   }
     where
+      -- a scenario of the space that comes to the number in the side above does so in the fork
       go : (o : Option ℕ) → IsFoundIn space high wanted o → IsFoundIn space node wanted o
       go None f = absurd f
       go (Some n) f = met_same node wanted high wanted space v cut there high_forks (ComesTo node wanted n)
           (ComesTo high wanted n) (λ s lies c. (high_value s (only s lies) ∙ c.0, c.1)) f
 
-  -- if both sides are open, the greatest of both, one after the other, is that of the fork
+  -- if the space has numbers on both sides, the greatest of the fork is found by looking below with `best`, and above
+  -- with what was found, `mid`
   pub most_both : (best mid most : Option ℕ) → is_open_below space v cut ≡ true → is_open_above space v cut ≡ true →
       ((s : Scenario) → IsInSpace space s → number_of s v ≤ cut → IsInSpace (below_cut space v cut) s)
       → ((s : Scenario) → IsInSpace space s → cut < number_of s v → IsInSpace (above_cut space v cut) s) →
       IsMostInSpace (below_cut space v cut) low wanted best mid →
       IsMostInSpace (above_cut space v cut) high wanted mid most → IsMostInSpace space node wanted best most
+  -- a scenario goes below the cut or above it; what is found is the number found above, or else the one found below,
+  -- or else `best`
   most_both best mid most under over in_low in_high of_low of_high = record {
     above = λ s n lies comes. elim (cases_lt cut (number_of s v)) [
       | inl h ↦ of_high.above s n (in_high s lies h) (sym (high_value s h) ∙ comes.0, comes.1)
@@ -479,6 +498,7 @@ module _ (v cut : ℕ) (there : v < 256) (low high node : TreeNode (Option ℕ))
     ];
   }
     where
+      -- what is found below the cut is found in the whole
       go_low : (o : Option ℕ) → IsFoundIn (below_cut space v cut) low wanted o → IsFoundIn space node wanted o
       go_low None f = absurd f
       go_low (Some n) f = met_below node wanted low wanted space v cut there low_forks (ComesTo node wanted n)
@@ -492,7 +512,7 @@ module _ (v cut : ℕ) (there : v < 256) (low high node : TreeNode (Option ℕ))
 
 -- ---- as what a call answers
 
--- the space of all scenarios of at most a graph's faults
+-- some scenario of the graph lies in the space of all scenarios of at most as many faults
 whole_of : (g : Graph) (space : Space) → IsWhole g.faults space → IsOpenSpaceOf g space
 whole_of g space whole =
     let r = whole_opens g.faults space whole in
@@ -505,11 +525,12 @@ whole_of g space whole =
       known = λ v none. low_zero v (cases_lt v 256);
     }
   where
+    -- the low of a variable of the space is 0, and so is the default behind the last one
     low_zero : (v : ℕ) → (v < 256) ⊎ (256 ≤ v) → get_or space.low v 0 ≡ 0
     low_zero v (inl l) = whole.lows v l
     low_zero v (inr l) = get_or_past space.low v 0 (omega (arith, l, whole.long))
 
--- given: two good trees, and the greatest number of the one where the other is true, found in the space of all
+-- given: two good trees, and o, the greatest number of the one where the other is true, found in the space of all
 -- scenarios
 module _ (k : ℕ) (node : TreeNode (Option ℕ)) (wanted : TreeNode Bool) (good : IsGood k node)
     (good_too : IsGood k wanted) (space : Space) (whole : IsWhole k space)
@@ -523,14 +544,14 @@ module _ (k : ℕ) (node : TreeNode (Option ℕ)) (wanted : TreeNode Bool) (good
   abbrev chooser : TreeState Bool
   chooser = state k wanted
 
-  -- a scenario that has the number where the chooser is true comes to it in both trees
+  -- if callers see that a scenario has the number where the chooser is true, it comes to both in the trees
   comes : (s : Scenario) (n : ℕ) → HasWhere tree chooser n s → ComesTo node wanted n s
   comes s n w = (
     (value_path k node good s).of_path w.has.0 w.has.1 ∙ w.has.2,
     (value_path k wanted good_too s).of_path w.there.0 w.there.1 ∙ w.there.2,
   )
 
-  -- a scenario of few faults that comes to a number in both trees has it where the chooser is true
+  -- if a scenario of at most k faults comes to both in the trees, callers see that
   seen : (s : Scenario) (n : ℕ) → HasAtMostFaults k s → ComesTo node wanted n s → HasWhere tree chooser n s
   seen s n few c =
       let x = the_path k (paths_of k node) (one_path k node good) s few in
@@ -557,6 +578,8 @@ module _ (k : ℕ) (node : TreeNode (Option ℕ)) (wanted : TreeNode Bool) (good
       -- the number that is found is that of a scenario of the graph, one in which the chooser is true
       reach : (g : Graph) → AreOf g tree chooser → IsFoundIn space node wanted (Some number) →
           IsReachedWhere g tree chooser number
+      -- the space of all scenarios is open for each graph that both trees are of, so some scenario of it has what was
+      -- found
       reach g of f =
           let r =
           f g (record { few = of.few; first = forks_of_paths (is_variable g) k node of.known; second = forks_of_paths (is_variable g) k wanted of.known_too })
@@ -567,9 +590,8 @@ module _ (k : ℕ) (node : TreeNode (Option ℕ)) (wanted : TreeNode Bool) (good
             has = seen r.0 number (subst (λ n. HasAtMostFaults n r.0) (sym of.faults) (scenario_few g r.0 r.1)) r.3;
           }
 
--- given: two trees, what callers see of them, and the greatest number that is found in them
--- `good`, `paths`, `good_too`, `paths_too`: each tree and its paths; `whole`, `all`: the space has all scenarios
--- of at most that many faults; `most`: o is the greatest number found there
+-- given: two trees as callers see them, `first` and `second`, what they are inside, and o, the greatest number found
+-- inside
 module _ (first : TreeState (Option ℕ)) (second : TreeState Bool) (node : TreeNode (Option ℕ)) (wanted : TreeNode Bool)
     (good : IsGood first.faults node)
     (paths : first.paths ≡ paths_of first.faults node)
@@ -578,6 +600,7 @@ module _ (first : TreeState (Option ℕ)) (second : TreeState Bool) (node : Tree
     (space : Space) (whole : IsWhole first.faults space) (all : (s : Scenario) → HasAtMostFaults first.faults s →
     IsInSpace space s) (o : Option ℕ) (most : IsMostInSpace space node wanted None o)
   where
+    -- the tree of numbers is the first one that callers see
     is_first : state first.faults node ≡ first
     is_first = state_seen first node paths
 
@@ -593,6 +616,7 @@ module _ (first : TreeState (Option ℕ)) (second : TreeState Bool) (node : Tree
     pub none_where : IfNone o (IsNowhere first second)
     none_where = by o refl
       where
+        -- if a number is found, nothing is asked
         by : (x : Option ℕ) → o ≡ x → IfNone x (IsNowhere first second)
         by None e = subst (λ (t : TreeState (Option ℕ)). IsNowhere t second) is_first
             (subst (λ (u : TreeState Bool). IsNowhere (state first.faults node) u) is_there
@@ -603,6 +627,7 @@ module _ (first : TreeState (Option ℕ)) (second : TreeState Bool) (node : Tree
     pub some_where : IfSome o (IsMostWhere first second)
     some_where = by o refl
       where
+        -- if no number is found, nothing is asked
         by : (x : Option ℕ) → o ≡ x → IfSome x (IsMostWhere first second)
         by None e = tt
         by (Some n) e = subst (λ (t : TreeState (Option ℕ)). IsMostWhere t second n) is_first

@@ -1,4 +1,4 @@
--- The greatest number of a tree; the least scenario of a number is that of the tree of this number alone.
+-- The greatest number of a tree, and the least scenario of a number, which is that of the tree of this number alone.
 use Rattle.std.proofs.Common.{ℕ, ◌≤◌, ◌≡◌, ◌≢◌, ◌⊎◌, ◌==◌, max, List, [], length, filter, get_or, Option, Some, None}
 use Rattle.std.proofs.Common.{unwrap_or, All, Contains, arith, refl, sym, ap, ◌∙◌, subst, inl, inr, eq-eqb}
 use Rattle.std.proofs.Common.{ne_eqb}
@@ -27,7 +27,7 @@ use Rattle.cpg_tree.proofs.OnePath.{scenario_few, the_path}
 use Rattle.cpg_tree.proofs.PathLaws.{one_path}
 use Rattle.cpg_tree_columns.proofs.TidyColumns.{tidy_columns}
 
--- a number is at most the bound, if there is one
+-- n is at most the bound; there is a bound
 abbrev IsUnder : Option ℕ → ℕ → Type 0
 IsUnder None n = ⊥
 IsUnder (Some m) n = n ≤ m
@@ -57,10 +57,11 @@ greater_cases (Some x) (Some y) m e =
 
 -- ---- the numbers of paths
 
--- no number of a path is greater than the greatest of the tree
+-- no path has a greater number than the greatest of the leaves
 under_most : (k : ℕ) (node : TreeNode (Option ℕ)) (cube : List Literal) (p : Path (Option ℕ)) (n : ℕ) →
     Contains (paths_from k cube node) p → p.1 ≡ Some n →
     IsUnder (most_of node) n
+-- by induction on the tree: a path of a fork is one of a side, and the greater of two numbers is no less than either
 under_most k (Leaf x) cube p n c e = elim (Contains-cases (cube, x) [] p c) [
   | inl same ↦ subst (λ o. IsUnder o n) (sym (ap (λ (q : Path (Option ℕ)). q.1) same ∙ e)) (omega arith)
   | inr none ↦ absurd (Contains-nil p none)
@@ -74,9 +75,10 @@ under_most k (Fork v cut below upper) cube p n c e =
           under_right (most_of below) (most_of upper) n (under_most k upper (narrowed_by (above k v cut) cube) p n i e)
     ]
 
--- some path has the tree's greatest number
+-- if the leaves have a greatest number, some path has it
 most_there : (k : ℕ) (node : TreeNode (Option ℕ)) (cube : List Literal) (m : ℕ) → most_of node ≡ Some m →
     (p : Path (Option ℕ)) × Contains (paths_from k cube node) p × (p.1 ≡ Some m)
+-- by induction on the tree: the greater of the two sides' numbers is that of one side
 most_there k (Leaf x) cube m e = ((cube, x), Contains-first (cube, x) [], e)
 most_there k (Fork v cut below upper) cube m e =
     let lower = paths_from k (narrowed_by (up_to v cut) cube) below in
@@ -93,11 +95,12 @@ pub no_most : (k : ℕ) (node : TreeNode (Option ℕ)) → most_of node ≡ None
     Contains (paths_from k [] node) p → p.1 ≡ None
 no_most k node none p c = by_value p.1 refl
   where
+    -- a number of the path would be under the tree's greatest one, and there is none
     by_value : (o : Option ℕ) → p.1 ≡ o → o ≡ None
     by_value None e = refl
     by_value (Some n) e = absurd (subst (λ o. IsUnder o n) none (under_most k node [] p n c e))
 
--- some scenario has the number of a path
+-- some scenario of the graph has the number of a path, since the path's column is tidy and so matches one
 path_reached : (g : Graph) (node : TreeNode (Option ℕ)) → IsGood g.faults node → (m : ℕ) → process_count g ≤ 128 →
     All (λ p. IsKnown g p.0) (paths_of g.faults node) →
     (p : Path (Option ℕ)) →
@@ -118,7 +121,7 @@ path_reached g node good m processes known p there is =
       has = (p, record { stands = there; matched = least.holds }, is);
     }
 
--- some scenario has the tree's greatest number
+-- some scenario of the graph has the greatest number
 most_reached : (g : Graph) (node : TreeNode (Option ℕ)) → IsGood g.faults node → (m : ℕ) → most_of node ≡ Some m →
     process_count g ≤ 128 →
     All (λ p. IsKnown g p.0) (paths_of g.faults node) →
@@ -127,7 +130,7 @@ most_reached g node good m most processes known =
     let x = most_there g.faults node [] m most in
     path_reached g node good m processes known x.0 x.1 x.2
 
--- the most of a good tree is its greatest number: no path has more, a path has it, and a scenario reaches it
+-- the greatest number of the leaves is that of the tree as callers see it
 most_is : (k : ℕ) (node : TreeNode (Option ℕ)) → IsGood k node → (m : ℕ) → most_of node ≡ Some m →
     IsGreatestNumber (record { faults = k; paths = paths_of k node }) m
 most_is k node good m most = record {
@@ -163,7 +166,7 @@ not_without k node m most none =
     let x = most_there k node [] m most in
     All-contains (λ (p : Path (Option ℕ)). p.1 ≢ Some m) (paths_of k node) x.0 none x.1 x.2
 
--- the least scenario of the greatest number makes it the greatest with its first scenario
+-- a greatest number and the least scenario that has it are what `IsGreatestOf` asks for
 pub greatest_of : (g : Graph) (order : List ℕ) (k : ℕ) (node : TreeNode (Option ℕ)) (m : ℕ) → most_of node ≡ Some m →
     (s : Scenario) →
     IsLeast g order (HasValueAt (paths_of k node) (Some m)) s →
@@ -173,11 +176,11 @@ greatest_of g order k node m most s least =
 
 -- ---- the tree of one number alone
 
--- the number that is wanted is kept
+-- the wanted number is kept
 if_wanted_same : (m : ℕ) → if_wanted m (Some m) ≡ Some m
 if_wanted_same m = cond-true (m == m) (Some m) None (eq-eqb m m refl)
 
--- if a leaf keeps a number when only m is wanted, the leaf has m, and that number is m
+-- if a value is kept, it is the wanted number
 if_wanted_is : (m : ℕ) (o : Option ℕ) (n : ℕ) → if_wanted m o ≡ Some n → (o ≡ Some m) × (n ≡ m)
 if_wanted_is m None n e = absurd (none-some n e)
 if_wanted_is m (Some x) n e = elim (cases_eq x m) [
@@ -187,8 +190,7 @@ if_wanted_is m (Some x) n e = elim (cases_eq x m) [
   | inr differs ↦ absurd (none-some n (sym (cond-false (x == m) (Some x) None (ne_eqb x m differs)) ∙ e))
 ]
 
--- given: a good tree, and the tree that has this number alone
--- `is`: the first tree has the paths of the node; `each`, `map`: the second keeps m in each scenario that has m
+-- given: a good tree `all`, and the tree `only` of the number m alone
 module _ (g : Graph) (node : TreeNode (Option ℕ)) (good : IsGood g.faults node) (m : ℕ)
     (all only : TreeState (Option ℕ)) (is : record {
       faults = g.faults;
@@ -211,9 +213,10 @@ module _ (g : Graph) (node : TreeNode (Option ℕ)) (good : IsGood g.faults node
       let z = the_path g.faults only.paths each s (scenario_few g s law) in
       (z.0, z.1, map.value s has.0 z.0 (few s law) has.1 z.1 ∙ ap (if_wanted m) has.2 ∙ if_wanted_same m)
 
-  -- the least scenario of the number in the tree of it alone is the least that has it in the tree
+  -- the least scenario with a number in the tree of m alone is the least that has m in the whole tree
   least_alone : (order : List ℕ) (s : Scenario) → IsLeast g order (HasNumberAt only.paths) s →
       IsLeast g order (HasValueAt all.paths (Some m)) s
+  -- it has m there, since only m is kept; an earlier scenario with m would have it in the tree of m alone too
   least_alone order s h =
       let z = h.holds.has in
       let x = path_of s h.lawful in
@@ -224,10 +227,11 @@ module _ (g : Graph) (node : TreeNode (Option ℕ)) (good : IsGood g.faults node
         least = λ u law has. h.least u law (record { number = m; has = alone u law has });
       }
 
-  -- if the tree of the number alone has no number, no path of the tree has that number
+  -- if the tree of m alone has no number, no path of the whole tree has m: some scenario would have it in both
   none_alone : process_count g ≤ 128 → All (λ p. IsKnown g p.0) (paths_of g.faults node) →
       All (λ (p : Path (Option ℕ)). p.1 ≡ None) only.paths →
       All (λ (p : Path (Option ℕ)). p.1 ≢ Some m) all.paths
+  -- a path with m is reached in some scenario, whose path in the tree of m alone would have m too
   none_alone processes known none i d l e =
       let there = subst (λ (t : TreeState (Option ℕ)). Contains t.paths (get_or all.paths i d)) (sym is)
       (Contains-get_or all.paths i d l) in

@@ -1,4 +1,4 @@
--- There is room for each path: it has at most one literal for each variable.
+-- A path of a tree has at most one literal for each of 256 variables, so there is room for it.
 use Rattle.std.proofs.Common.{ℕ, suc, ◌+◌, ◌-◌, ◌<◌, ◌≤◌, ◌≡◌, List, [], ◌∷◌, ◌++◌, None, length, get_or, All, Contains}
 use Rattle.std.proofs.Common.{arith, refl, sym, ap, ◌∙◌, subst, inl, inr}
 use Rattle.std.proofs.lemmas.List.{length-append}
@@ -15,10 +15,11 @@ use Rattle.cpg_cube.proofs.Ranges.{rising_rest, rising_first}
 use Rattle.cpg_tree_columns.specs.Path.{IsPath}
 use Rattle.std.proofs.lemmas.Bool.{cases_order}
 
--- literals with rising variables from one on, below another one
+-- a rising cube has no more literals than there are numbers from a on and below n, if its variables are among these
 few_from : (cube : List Literal) (a n : ℕ) → IsRising cube →
     ((l : Literal) → Contains cube l → (a ≤ l.variable) × (l.variable < n)) →
     length cube ≤ n - a
+-- by induction on the cube: the variables after the first one begin behind it
 few_from [] a n r h = omega arith
 few_from (m ∷ ms) a n r h =
     let first = h m (Contains-first m ms) in
@@ -30,17 +31,18 @@ few_from (m ∷ ms) a n r h =
           (λ l c. (omega (arith, rising_first m l ms r c), (h l (Contains-rest m ms l c)).1)),
     )
 
--- rising literals on variables below n are at most n
+-- a rising cube on variables below n has at most n literals
 pub few_below : (cube : List Literal) (n : ℕ) → IsRising cube → All (λ l. l.variable < n) cube → length cube ≤ n
 few_below cube n r all = omega
     (arith, few_from cube 0 n r (λ l c. (omega arith, All-contains (λ (x : Literal). x.variable < n) cube l all c)))
 
--- a path that is narrowed is one
+-- given: a literal whose variable is a byte
 module _ (l : Literal) (small : l.variable < 256) where
   -- a literal that is put into a cube leaves each variable below 256
   small_narrowed : (cube : List Literal) → ((x : Literal) → Contains cube x → x.variable < 256) → (x : Literal) →
       Contains (narrowed_by l cube) x →
       x.variable < 256
+  -- by induction on the list
   small_narrowed [] h x c = elim (Contains-cases l [] x c) [
     | inl e ↦ subst (λ (y : Literal). y.variable < 256) e small
     | inr d ↦ h x d
@@ -73,13 +75,14 @@ module _ (l : Literal) (small : l.variable < 256) where
   pub few_narrowed : (cube : List Literal) → IsPath cube → length (narrowed_by l cube) ≤ 256
   few_narrowed cube is = let n = path_narrowed cube is in few_below (narrowed_by l cube) 256 n.rising n.small
 
-  -- if no literal is on the variable or above, there is room for one more
+  -- if no literal is on its variable or a later one, there is room for it at the end: the narrowed path has one
+  -- literal more
   pub room_last : (cube : List Literal) → IsPath cube → position (from_variable l.variable) cube ≡ None →
       length cube < 256
   room_last cube is e =
       omega (arith, few_narrowed cube is, ap length (narrowed-last l cube e), length-append cube (l ∷ []))
 
-  -- if no literal is on the variable, there is room for one
+  -- if the literal at its place is on another variable, there is room for it before that one
   pub room_in : (cube : List Literal) (i : ℕ) (d : Literal) → IsPath cube → i < length cube →
       IsPlace l.variable cube i → ((slice_index_or cube i d).variable ≡ l.variable → ⊥) →
       length cube < 256

@@ -1,4 +1,4 @@
--- A walk down a tree: what is made of the columns on from a path, and the cube of the path on the way.
+-- What a walk down a tree makes of the columns, one after another, and how it keeps the cube of its path.
 use Rattle.std.proofs.Common.{ℕ, ◌+◌, ◌≡◌, List, [], ◌++◌, Option, Some, None, sym, ap, ap₂, ◌∙◌}
 use Rattle.std.specs.List.{flat_map}
 use Rattle.std.proofs.lemmas.List.{append-nil}
@@ -17,10 +17,11 @@ use Rattle.cpg_tree.proofs.Flats.{flat-same}
 use Rattle.cpg_tree_columns.specs.Columns.{columns_of_paths}
 use Rattle.cpg_tree_columns.proofs.CountedTimes.{both_columns}
 
--- what is made of the columns on from a path, one after another
+-- what f makes of the columns of a tree that is entered with a cube, one after another
 abbrev pub pieces_from : {X : Type 0} → (Column → List X) → ℕ → List Literal → TreeNode (Option ℕ) → List X
 pieces_from f k cube n = flat_map f (columns_of_paths (paths_from k cube n))
 
+-- given: what is made of a column, and a list of items that is that of a tree n
 module _ {X : Type 0} (f : Column → List X) (k : ℕ) (cube : List Literal) (items : List (TreeItem (Option ℕ)))
     (n : TreeNode (Option ℕ)) (are : items ≡ flat n) where
   -- a leaf without a time has no column
@@ -46,14 +47,15 @@ module _ {X : Type 0} (f : Column → List X) (k : ℕ) (cube : List Literal) (i
 
 -- ---- the cube of a path on the way
 
--- The path was narrowed by a step, and is as it was behind the step again. With the step's literal exchanged for the one
--- of the numbers above the cut, it is the path of the side above.
+-- The path was narrowed by a step to `first`, and the walk below has left it so (`second`). With the step's literal
+-- exchanged for that of the numbers above the cut (`third`), it is the path of the side above.
 pub above_back : (k v cut most : ℕ) → most ≡ top k v → (s : Narrowing) (old first second third : List Literal) →
     IsUndo s first old → second ≡ first →
     (l : Literal) →
     (let m : Literal = record { variable = v; low = cut + 1; high = most } in l ≡ m) →
     third ≡ narrowed_by l (restored s second) →
     third ≡ narrowed_by (above k v cut) old
+-- the literal is that of the side above, as `most` is the top, and what the step restores is the old path
 above_back k v cut most whole s old first second third undo kept l e is = is ∙ ap₂ narrowed_by
     (e ∙ ap (λ (h : ℕ). let m : Literal = record { variable = v; low = cut + 1; high = h } in m) whole)
     (ap (restored s) kept ∙ undo.back)

@@ -1,4 +1,5 @@
--- A peak of the first n processes, with one process more.
+-- The peak of the processes 0 .. n - 1 becomes that of 0 .. n once process n is taken into account, or is passed over
+-- as it is under the bar.
 use Rattle.std.proofs.Common.{ℕ, ◌+◌, ◌≤◌, ◌<◌, ◌≡◌, ◌==◌, ◌⊎◌, Bool, true, false, nat_lt, if◌then◌else◌, List, Option}
 use Rattle.std.proofs.Common.{Some, None, All, arith, eq-eqb, refl, sym, ap, ◌∙◌, subst, inl, inr, le-leb}
 use Rattle.std.proofs.Common.{lt-ltb}
@@ -22,7 +23,7 @@ use Rattle.cpg_tree_columns.specs.declared.measuring.Peak.{Peak}
 use Rattle.cpg_tree.proofs.OnePath.{scenario_few, the_path}
 use Rattle.cpg_tree.proofs.GraphTrees.{few_of}
 
--- without processes there is no peak
+-- of no processes, the empty peak is the peak
 pub no_peak : (g : Graph) (urgency : List ℕ) (has : ℕ → ℕ → Scenario → Type 0) (peak : Peak) →
     peak ≡ record { time = 0; scenario = zero_scenario g; process = None } →
     IsPeak g urgency 0 has peak
@@ -36,14 +37,14 @@ pub all_processes : (g : Graph) (urgency : List ℕ) (has : ℕ → ℕ → Scen
     IsPeak g urgency (process_count g) has peak
 all_processes g urgency has n peak e a = subst (λ i. IsPeak g urgency i has peak) e a
 
--- a time that goes before another is greater, or equal with its scenario first
+-- b goes before a just if it is greater, or equal with c true: its scenario comes first
 later_or_first : (a b : ℕ) (c : Bool) → (if a == b then c else nat_lt a b) ≡ true → (a < b) ⊎ ((a ≡ b) × (c ≡ true))
 later_or_first a b c h = elim (cases_eq a b) [
   | inl e ↦ inr (e, sym (cond-true (a == b) c (nat_lt a b) (eq-eqb a b e)) ∙ h)
   | inr n ↦ inl (ltb-true a b (sym (cond-false (a == b) c (nat_lt a b) (ne_eqb a b n)) ∙ h))
 ]
 
--- a time that doesn't go before another is less, or equal with its scenario not first
+-- if b doesn't go before a, it is less, or equal with its scenario not first
 sooner_or_not_first : (a b : ℕ) (c : Bool) → (if a == b then c else nat_lt a b) ≡ false →
     (b < a) ⊎ ((a ≡ b) × (c ≡ false))
 sooner_or_not_first a b c h = elim (cases_eq a b) [
@@ -59,6 +60,7 @@ sooner_or_not_first a b c h = elim (cases_eq a b) [
     less : (a b : ℕ) → b ≤ a → (a ≡ b → ⊥) → b < a
     less a b l n = elim (cases_lt b a) [ inl m ↦ m | inr m ↦ absurd (n (omega arith)) ]
 
+-- `n` is the next process; `has q time s`: process q has the time in scenario s
 module _ (g : Graph) (urgency : List ℕ) (n : ℕ) (has : ℕ → ℕ → Scenario → Type 0) where
   -- a process among the first n + 1 is among the first n, or the next one
   of_next : (q time : ℕ) (s : Scenario) → q < n + 1 → has q time s → (q < n) ⊎ has n time s
@@ -123,7 +125,7 @@ module _ (g : Graph) (urgency : List ℕ) (n : ℕ) (has : ℕ → ℕ → Scena
     -- ---- the next process has the greatest time
 
     module _ (time : ℕ) (scenario : Scenario) (greatest : IsGreatestOf g urgency paths time scenario) where
-      -- the peak that the next process is by its greatest time
+      -- the peak that process n would be, by its greatest time
       abbrev new : Peak
       new = record { time = time; scenario = scenario; process = Some n }
 
@@ -139,10 +141,12 @@ module _ (g : Graph) (urgency : List ℕ) (n : ℕ) (has : ℕ → ℕ → Scena
       here : has n time scenario
       here = there time scenario greatest
 
-      -- the next process is the peak if its time goes before those of all processes before it
+      -- process n is the peak of all if no earlier process has a greater time, has the time in an earlier scenario, or
+      -- has it in this one
       comes : ((q other : ℕ) (s : Scenario) → q < n → IsScenario g s → has q other s → other ≤ time) →
           ((q : ℕ) (s : Scenario) → q < n → IsScenario g s → has q time s → is_before g urgency s scenario ≡ false) →
           ((q : ℕ) → q < n → has q time scenario → ⊥) → IsPeakOf g urgency (n + 1) has new n
+      -- the times of the processes below n + 1 are those below n, and those of n, of which `time` is the greatest
       comes most least first = record {
         most = λ q other s l law h.
             elim (of_next q other s l h) [ inl m ↦ most q other s m law h | inr k ↦ at_most other s law k ];
@@ -186,7 +190,7 @@ module _ (g : Graph) (urgency : List ℕ) (n : ℕ) (has : ℕ → ℕ → Scena
       keeps : (peak : Peak) (o : Option ℕ) → IsPeakBy g urgency n has peak o →
           goes_before_by g urgency peak time scenario o ≡ false →
           IsPeakBy g urgency (n + 1) has peak o
-      -- where there is no peak, any time goes before it
+      -- if no process has a peak, any time goes before it
       keeps peak None a f = absurd (both_ways (goes_before_by g urgency peak time scenario None) f refl)
       keeps peak (Some p) a f =
           elim (sooner_or_not_first peak.time time (is_before g urgency scenario peak.scenario) f) [
@@ -259,6 +263,7 @@ module _ (g : Graph) (urgency : List ℕ) (n : ℕ) (has : ℕ → ℕ → Scena
     pub next_from : (old next : Peak) → IsPeak g urgency n (HasFrom bar has) old →
         IsNextPeak g urgency paths n old next →
         IsPeak g urgency (n + 1) (HasFrom bar has) next
+    -- the greatest time isn't under the bar, since the top reaches it
     next_from old next a is = next_peak g urgency n (HasFrom bar has) paths
         (λ time s law h. into time s law h.is)
         (λ time s greatest. record {
@@ -290,14 +295,14 @@ module _ (g : Graph) (urgency : List ℕ) (trees : List (TreeState (Option ℕ))
         old next a is
 
   module _ (of_end : IsTree g end) (is : IsNextExcess g urgency end n old next) where
-    -- what the tree of the excesses has is what the ends are past the due
+    -- the tree of the excesses has how far each end is past the due
     excess_value : (s : Scenario) → IsScenario g s → (x z : Path (Option ℕ)) → IsOnPath end.paths s x →
         IsOnPath is.tree.paths s z →
         z.1 ≡ time_past (due g n) x.1
     excess_value s law x z on_x on_z =
         is.made.value s x z (few_of g.faults end.faults s of_end.faults (scenario_few g s law)) on_x on_z
 
-    -- what process n is past its due in a scenario, the tree of excesses has
+    -- if process n ends past its due in a scenario, the tree of the excesses says by how much
     excess_into : (time : ℕ) (s : Scenario) → IsScenario g s → EndsPast g trees n time s →
         HasValueAt is.tree.paths (Some time) s
     excess_into time s law h =
@@ -306,9 +311,10 @@ module _ (g : Graph) (urgency : List ℕ) (trees : List (TreeState (Option ℕ))
         let z = the_path g.faults is.tree.paths is.of.each s (scenario_few g s law) in
         (z.0, z.1, excess_value s law v.0 z.0 v.1 z.1 ∙ ap (time_past (due g n)) v.2 ∙ h.2)
 
-    -- what the tree has, process n is past its due
+    -- a number that this tree has is how far process n ends past its due
     excess_from : (time : ℕ) (s : Scenario) → IsScenario g s → HasValueAt is.tree.paths (Some time) s →
         EndsPast g trees n time s
+    -- the number is made from an end of the same scenario
     excess_from time s law v =
         let x = the_path g.faults end.paths of_end.each s (scenario_few g s law) in
         let past : time_past (due g n) x.0.1 ≡ Some time = sym (excess_value s law x.0 v.0 x.1 v.1) ∙ v.2 in

@@ -1,4 +1,4 @@
--- The peak of times that aren't under the greatest of the tops is the peak of all.
+-- The peak of the times that aren't under the greatest top is the peak of all times; and what the tops are.
 use Rattle.std.proofs.Common.{ℕ, ◌+◌, ◌-◌, ◌<◌, ◌≤◌, ◌≡◌, ◌⊎◌, nat_lt, List, [], ◌∷◌, ◌++◌, map, length, get_or, Option}
 use Rattle.std.proofs.Common.{Some, None, unwrap_or, All, Contains, arith, sym, ap, ◌∙◌, subst, inl, inr}
 use Rattle.std.proofs.Common.{lt-ltb, le-ltb}
@@ -33,7 +33,7 @@ bar_cases tops = elim (greatest_cases (map (λ o. unwrap_or o 0) tops)) [
   | inr c ↦ let r = Contains-map_parts (λ (o : Option ℕ). unwrap_or o 0) tops (bar_of tops) c in at r.0 r.1 r.2
 ]
   where
-    -- for a top that is the bar: it is one of a process unless it is none
+    -- a top that is equal to the bar is some process's, or it is missing and the bar is 0
     at : (o : Option ℕ) → Contains tops o → unwrap_or o 0 ≡ bar_of tops →
         (bar_of tops ≡ 0) ⊎ ((q : ℕ) × (q < length tops) × (get_or tops q None ≡ Some (bar_of tops)))
     at None m e = inl (sym e)
@@ -43,7 +43,7 @@ bar_cases tops = elim (greatest_cases (map (λ o. unwrap_or o 0) tops)) [
 -- `n`, `has`: the processes, and the times that each has; `tops`, `count`, `are`: the greatest time of each
 module _ (g : Graph) (urgency : List ℕ) (n : ℕ) (has : ℕ → ℕ → Scenario → Type 0) (tops : List (Option ℕ))
     (count : length tops ≡ n) (are : HasTops g n has tops) (peak : Peak) where
-  -- if no process has a time from the bar on, none has a time at all
+  -- if no process has a time from the bar on, none has any: the bar is 0, or some process's greatest time
   none_at_all : (q time : ℕ) (s : Scenario) → q < n → IsScenario g s → has q time s →
       ((r : ℕ) (other : ℕ) (u : Scenario) → r < n → IsScenario g u → HasFrom (bar_of tops) has r other u → ⊥) → ⊥
   none_at_all q time s l law h none = elim (bar_cases tops) [
@@ -78,7 +78,7 @@ module _ (g : Graph) (urgency : List ℕ) (n : ℕ) (has : ℕ → ℕ → Scena
     first = λ q l h. a.first q l (record { from = a.is.from; is = h });
   }
 
-  -- the peak of the times above the greatest of these is the peak of all times
+  -- the peak of the times from the bar on is the peak of all times
   pub peak_of_all : IsPeak g urgency n (HasFrom (bar_of tops) has) peak → IsPeak g urgency n has peak
   peak_of_all = by peak.process
 
@@ -99,6 +99,7 @@ module _ (g : Graph) (processes : process_count g ≤ 128) (trees : List (TreeSt
   -- the top of a tree of ends is the greatest end that its process has
   top_of : (q : ℕ) → IsTree g (tree_at g trees q) → (o : Option ℕ) → IsTopOf (tree_at g trees q) o →
       IsTop g (EndsAt g trees q) o
+  -- the greatest number of the paths is reached in some scenario of the graph
   top_of q tree None none = λ time s law h. none-some time
       (sym (All-contains (λ (p : Path (Option ℕ)). p.1 ≡ None) (tree_at g trees q).paths h.0 none h.1.stands) ∙ h.2)
   top_of q tree (Some m) most =

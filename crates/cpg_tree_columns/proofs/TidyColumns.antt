@@ -1,4 +1,4 @@
--- The columns of the paths of a tree that fits: each is of a graph that the paths are of, and some scenario matches it.
+-- The columns of the paths of a good tree are tidy: on variables of the graph, and each matches some scenario.
 use Rattle.std.proofs.Common.{ℕ, zero, suc, Option, None, Some, IsPermutation, ◌+◌, ◌≤◌, ◌≡◌, true, false, List, []}
 use Rattle.std.proofs.Common.{get_or, sum_by, Contains, arith, ap, subst, inl, inr}
 use Rattle.std.specs.Prelude.{nat_le, All}
@@ -22,7 +22,7 @@ use Rattle.cpg_tree.specs.Tree.{Path}
 use Rattle.cpg_tree.proofs.Tidy.{IsPathAround, tidy_of, range, not_whole, within}
 use Rattle.cpg_tree_columns.specs.Columns.{column_of, columns_of_paths, IsTidyColumn}
 
--- a sum over fewer numbers is no greater
+-- a sum over the numbers below n is no greater than one over those below m, if n is no greater
 pub sum_by_fewer : (f : ℕ → ℕ) (n m : ℕ) → n ≤ m → sum_by f (numbers_below n) ≤ sum_by f (numbers_below m)
 sum_by_fewer f zero m l = omega arith
 sum_by_fewer f (suc n) zero l = absurd (omega (arith, l))
@@ -31,9 +31,10 @@ sum_by_fewer f (suc n) (suc m) l =
 
 -- ---- some scenario meets the cube of a path
 
--- a literal of the cube of a tidy path is open: its range isn't empty, and starts within what its variable can have
+-- a literal of a path's cube has a number, and doesn't begin past its variable's greatest one
 is_open_literal : (k : ℕ) (cube : List Literal) (tidy : IsPathAround k cube) (l : Literal) → Contains cube l →
     is_open k l ≡ true
+-- the space's low and high of the variable lie within the cube's range, and the low isn't above the high
 is_open_literal k cube tidy l c =
     let there = (tidy.part l c).0 in
     let bounds = range k cube tidy l c in
@@ -55,7 +56,7 @@ module _ (g : Graph) (few : process_count g ≤ 128) (cube : List Literal) (tidy
   pub path_cube : IsCube g cube
   path_cube = record { rising = tidy.covers.rising; known = known }
 
-  -- some scenario matches it
+  -- some scenario of the graph matches it: each literal is open, and the lows ask for no more faults than there are
   pub path_met : is_met g.faults cube ≡ true
   path_met = and_from _ _ (all_from (is_open g.faults) cube (is_open_literal g.faults cube tidy))
       (le-leb (asked_faults cube) g.faults (omega (
@@ -67,6 +68,7 @@ module _ (g : Graph) (few : process_count g ≤ 128) (cube : List Literal) (tidy
         tidy.is.budget,
       )))
     where
+      -- a sum over the first numbers is no greater than that over all 128
       sum_below_le : (f : ℕ → ℕ) (n : ℕ) → n ≤ 128 → sum_by f (numbers_below n) ≤ sum_by f (numbers_below 128)
       sum_below_le f n l = sum_by_fewer f n 128 l
 

@@ -69,6 +69,7 @@ path_count false p ps s e =
 -- in a scenario no more columns of some paths match than paths
 no_more : (paths : List (Path (Option ℕ))) (s : Scenario) →
     length (filter (λ (c : Column). matches c.cube s) (columns_of_paths paths)) ≤ length (filter (is_on s) paths)
+-- by induction on the list
 no_more [] s = omega arith
 no_more (p ∷ ps) s =
     let split = ap length (filter-append (λ (c : Column). matches c.cube s) (column_of p.0 p.1) (columns_of_paths ps))

@@ -1,15 +1,16 @@
--- Which values of a list are times.
+-- Which items of a tree's list are times. A tree is a list of items: values, which are the leaves from left to right,
+-- and cuts, which are the forks.
 use Rattle.std.specs.Prelude.{ℕ, Bool, true, false, Option, Some, None}
 use Rattle.cpg_tree.specs.declared.item.TreeItem.{TreeItem}
 use Rattle.cpg_tree.specs.declared.item.TreeItem.TheVariants.{Value, Cut}
 
--- whether an item is a time
+-- whether the item is a value that is a time
 abbrev pub is_time : TreeItem (Option ℕ) → Bool
 is_time (Value (Some time)) = true
 is_time (Value None) = false
 is_time (Cut v cut below) = false
 
--- the time of an item; a fork has none
+-- the time of the item, if it is a value that is a time
 abbrev pub time_of : TreeItem (Option ℕ) → Option ℕ
 time_of (Value time) = time
 time_of (Cut v cut below) = None

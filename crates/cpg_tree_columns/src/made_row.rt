@@ -1,4 +1,4 @@
-//! Rows as they are made: listed, or as the trees whose columns they are.
+//! Rows as they are made: each has a list of columns, or the tree that lists them.
 ghost use Rattle.std.specs.Prelude.{◌≡◌, ◌<◌, All, IfOk, List, Option, length};
 ghost use Rattle.cpg_cube.specs.declared.column.Column.{Column};
 ghost use Rattle.cpg_tree_columns.specs.Sources.{ShowsSource};
@@ -12,20 +12,27 @@ use cpg_tree::Tree;
 use std::alloc::Global;
 use std::marker::Model;
 
-/// The columns of a row: listed, or those of a tree from the left to the right, with their number.
+/// The columns of a row.
 #[derive(Drop)]
 enum MadeColumns {
+    /// A list of them.
     Listed(Vec<Column>),
+    /// A tree in place of the list.
     Kept {
+        /// The tree that lists them, from left to right.
         tree: Tree<Option<u64>>,
+        /// How many columns the tree lists.
         count: usize,
     },
 }
 
-/// When an item is, seen as the row of the item. Its columns are mostly those of a tree, which is far smaller than their list.
+/// When an item is started or sent: its number and its columns. A contract sees it as the row of the item. Most rows
+/// keep a tree, which is far smaller than the list.
 #[derive(Drop)]
 pub struct MadeRow {
+    /// The number of the item.
     item: u32,
+    /// When the item is started or sent.
     columns: MadeColumns,
 }
 
@@ -37,18 +44,21 @@ impl Model for MadeRow {
 
     ghost view = { λ r. record { item = r.item; columns = columns_in r.columns } };
 
+    // the count of a kept tree is that of the columns it lists
     ghost invariant = { λ r. HasCount r.columns };
 }
 
-/// Where the columns of a row are read.
+/// What the columns of a row are read from.
 #[derive(Clone, Copy)]
 pub enum RowSource<'a> {
+    /// A list of them.
     Listed(&'a [Column]),
+    /// The tree that lists them, from left to right.
     Kept(&'a Tree<Option<u64>>),
 }
 
 impl MadeRow {
-    /// The row of an item with these columns.
+    /// Returns the row of an item that has these columns.
     pub(crate) fn listed(item: u32, columns: Vec<Column>) -> MadeRow
         ensures { result ≡ record { item = item; columns = columns.items } }
     {
@@ -58,7 +68,7 @@ impl MadeRow {
         }
     }
 
-    /// The row of an item with the columns of a tree, and their number.
+    /// Returns the row of an item that has the columns of a tree; `count` is how many these are.
     pub(crate) fn kept(item: u32, tree: Tree<Option<u64>>, count: usize) -> MadeRow
         requires { count ≡ length (columns_of_paths tree.paths) }
         ensures { result ≡ record { item = item; columns = columns_of_paths tree.paths } }
@@ -69,14 +79,14 @@ impl MadeRow {
         }
     }
 
-    /// The number of the item.
+    /// Returns the number of the item.
     pub fn item(&self) -> u32
         ensures { result ≡ self.now.item }
     {
         self.item
     }
 
-    /// How many columns there are.
+    /// Returns how many columns the row has.
     pub fn count(&self) -> usize
         ensures { result ≡ length self.now.columns }
     {
@@ -86,7 +96,7 @@ impl MadeRow {
         }
     }
 
-    /// Where the columns are read.
+    /// Returns what the columns are read from: their list or their tree.
     pub fn source(&self) -> RowSource<'_>
         ensures { ShowsSource result self.now.columns }
     {
@@ -96,7 +106,7 @@ impl MadeRow {
         }
     }
 
-    /// The row, listed. The one error is `OutOfMemory`.
+    /// Returns the row with its columns in a list. The one error is `OutOfMemory`.
     fn list(self) -> Result<Row, OutOfMemory>
         ensures { IfOk result (λ row. row ≡ self) }
     {
@@ -111,7 +121,7 @@ impl MadeRow {
     }
 }
 
-/// The rows, listed. The one error is `OutOfMemory`.
+/// Returns the rows with their columns listed. The one error is `OutOfMemory`.
 pub fn listed_rows(alloc: Global, made: Vec<MadeRow>) -> Result<Vec<Row>, OutOfMemory>
     ensures { IfOk result (λ rows. rows.items ≡ made.items) }
 {

@@ -1,4 +1,4 @@
-//! The greatest finish and the greatest excess.
+//! The greatest finish and the greatest excess, found from the trees of the ends.
 ghost use Rattle.std.specs.Prelude.{◌≡◌, ◌<◌, All, IfOk, IsPermutation, None, length};
 ghost use Rattle.cpg_base.specs.Graph.{process_count};
 ghost use Rattle.cpg_base.specs.Numbers.{numbers_below};
@@ -14,20 +14,20 @@ use cpg_base::{Order, OutOfMemory, Problem, Scenario, is_before};
 use cpg_tree::Tree;
 use std::alloc::Global;
 
-/// The greatest of a number of time units over all scenarios, the least scenario that has it, and the least process that
-/// has it there.
+/// The greatest time that a process has in any scenario, in time units: an end, or how far one is past its due.
 #[derive(Drop)]
 pub struct Peak {
-    /// The number.
+    /// The time; 0 if no process has one.
     pub time: u64,
-    /// The scenario.
+    /// The least scenario that has it by the urgency order; the one without faults, all values false, if no process
+    /// has one.
     pub scenario: Scenario,
-    /// The process.
+    /// The least process that has it there; `None` if no process has one.
     pub process: Option<u32>,
 }
 
 impl Peak {
-    /// The peak if no process has a time.
+    /// Returns the peak of no process: 0, in the scenario without faults whose values are all false.
     fn none(alloc: Global, problem: &Problem) -> Result<Peak, OutOfMemory>
         ensures { IfOk result (λ peak. peak ≡ record { time = 0; scenario = zero_scenario problem.now; process = None }) }
     {
@@ -39,7 +39,8 @@ impl Peak {
         })
     }
 
-    /// Whether a time that a later process first has in a scenario goes before this peak.
+    /// Whether a time that a later process first has in `scenario` takes the place of this peak: the peak has no
+    /// process, the time is greater, or it is the same and its scenario is earlier.
     fn is_under(&self, problem: &Problem, urgency: &Order, time: u64, scenario: &Scenario) -> bool
         requires order { length urgency.now ≡ process_count problem.now }
         requires own { IsScenario problem.now self.now.scenario }
@@ -47,6 +48,7 @@ impl Peak {
         ensures { result ≡ goes_before problem.now urgency.now self.now time scenario.now }
     {
         match self.process {
+            // no process has a time yet
             None => true,
             Some(_) => {
                 if self.time == time {
@@ -58,7 +60,8 @@ impl Peak {
         }
     }
 
-    /// This peak, or the time that a later process first has in a scenario, if that goes before it.
+    /// Returns the peak with a later process, which first has `time` in `scenario`: that time if it goes before this
+    /// peak, and this peak otherwise.
     fn or_time(
         self,
         problem: &Problem,
@@ -83,7 +86,7 @@ impl Peak {
         }
     }
 
-    /// This peak, or the greatest time of the tree of a later process, if that goes before it.
+    /// Returns the peak with a later process, whose times `tree` has; if it has none, the peak stays.
     fn or(
         self,
         problem: &Problem,
@@ -102,7 +105,7 @@ impl Peak {
         }
     }
 
-    /// This peak, or how far the ends of a later process are past its due at most, if that goes before it.
+    /// Returns the peak with a later process that ends as `end` says, of how far ends are past their dues.
     fn or_past(
         self,
         problem: &Problem,
@@ -122,7 +125,7 @@ impl Peak {
     }
 }
 
-/// The greatest finish, by the ends of the processes and the greatest of each.
+/// Returns the greatest finish, by the ends of the processes and the greatest of each.
 pub fn worst(
     alloc: Global,
     problem: &Problem,
@@ -139,6 +142,7 @@ pub fn worst(
     let bar = bar_of(tops);
     let mut peak = Peak::none(alloc, problem)?;
     for process in 0..problem.processes().len() as u32 {
+        // a tree whose greatest end is under the bar can't have the greatest finish
         if reaches(bar, tops[process as usize]) {
             peak = peak.or(problem, urgency, &ends[process as usize], process)?;
         }
@@ -146,7 +150,7 @@ pub fn worst(
     Ok(peak)
 }
 
-/// How far an end is past its due at most, by the ends of the processes and the greatest of each.
+/// Returns how far an end is past its due at most, by the ends of the processes and the greatest of each.
 pub fn excess(
     alloc: Global,
     problem: &Problem,
@@ -164,6 +168,7 @@ pub fn excess(
     let bar = bar_of(past.as_slice());
     let mut peak = Peak::none(alloc, problem)?;
     for process in 0..problem.processes().len() as u32 {
+        // an end that is less late than the bar, or not late, can't be the greatest excess
         if reaches(bar, past[process as usize]) {
             peak = peak.or_past(problem, urgency, &ends[process as usize], process)?;
         }

@@ -6,7 +6,7 @@ ghost use Rattle.cpg_tree_columns.specs.Past.{time_past};
 use cpg_base::OutOfMemory;
 use cpg_tree::Tree;
 
-/// How far a time is past its due, if it is past it.
+/// Returns how far a time is past its due; `None` if there is no time or it isn't past the due.
 pub(crate) fn time_past(time: Option<u64>, due: u64) -> Option<u64>
     ensures { result ≡ time_past due time }
 {
@@ -14,7 +14,7 @@ pub(crate) fn time_past(time: Option<u64>, due: u64) -> Option<u64>
     if due < time { Some(time - due) } else { None }
 }
 
-/// How far the times of a tree are past their due, if they are past it.
+/// Returns a tree of how far the times of a tree are past their due; `None` where there is no time or none past it.
 pub(crate) fn past(tree: &Tree<Option<u64>>, due: u64) -> Result<Tree<Option<u64>>, OutOfMemory>
     ensures is { IfOk result (IsMap (λ x z. z ≡ time_past due x) tree.now) }
     ensures each { IfOk result (λ t. HasOnePathEach t.faults t.paths) }

@@ -16,7 +16,7 @@ use cpg_merging::{do_demands_differ, merged_tidy};
 use cpg_tree::Tree;
 use std::alloc::Global;
 
-/// The columns of a start, merged.
+/// Returns the columns of a start, merged.
 fn start_columns(
     alloc: Global,
     problem: &Problem,
@@ -34,8 +34,8 @@ fn start_columns(
     Ok(columns)
 }
 
-/// How many columns the tree of a start has, if they are its row as they are found: they stand by their least scenarios, and none of
-/// them touch.
+/// Returns how many columns the tree of a start has, if they are its row as they are found: they stand by their least
+/// scenarios, and none of them touch.
 fn start_as_found(
     problem: &Problem,
     urgency: &Order,
@@ -59,7 +59,7 @@ fn start_as_found(
     Ok(Some(count))
 }
 
-/// The row of a start, its columns merged.
+/// Returns the row of a start, its columns merged.
 fn start_row(
     alloc: Global,
     problem: &Problem,
@@ -79,7 +79,7 @@ fn start_row(
     Ok(MadeRow::listed(item, columns))
 }
 
-/// The row of a send, its columns by their least scenarios.
+/// Returns the row of a send, its columns in the order of their least scenarios.
 fn send_row(
     problem: &Problem,
     urgency: &Order,
@@ -101,7 +101,7 @@ fn send_row(
     Ok(MadeRow::listed(item, columns))
 }
 
-/// The row of an item. The columns of a start are merged.
+/// Returns the row of an item. The columns of a start are merged.
 pub fn row(
     alloc: Global,
     problem: &Problem,

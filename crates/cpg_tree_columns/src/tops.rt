@@ -1,4 +1,5 @@
-//! The greatest times of trees. A tree whose greatest time is under that of another one has no peak, and is passed over.
+//! The greatest time of each tree, its top. A tree whose top is under that of another one has no peak, so it is passed
+//! over.
 ghost use Rattle.std.specs.Prelude.{◌≡◌, IfOk, length};
 ghost use Rattle.cpg_base.specs.Graph.{process_count};
 ghost use Rattle.cpg_tree_columns.specs.Tops.{AreTops, bar_of, past_tops, reaches};
@@ -9,7 +10,7 @@ use cpg_base::{OutOfMemory, Problem};
 use cpg_tree::Tree;
 use std::alloc::Global;
 
-/// The greatest number of each tree, if it has one.
+/// Returns the greatest number of each tree, if it has one.
 pub fn tops_of(alloc: Global, trees: &[Tree<Option<u64>>]) -> Result<Vec<Option<u64>>, OutOfMemory>
     ensures { IfOk result (λ tops. AreTops trees.now (length trees.now) tops.items) }
 {
@@ -20,7 +21,7 @@ pub fn tops_of(alloc: Global, trees: &[Tree<Option<u64>>]) -> Result<Vec<Option<
     Ok(tops)
 }
 
-/// How far the greatest number of each process is past the process's due, if it is past it.
+/// Returns, for each process, how far its top is past its due; `None` if it has none or isn't past it.
 pub(crate) fn past_tops(
     alloc: Global,
     problem: &Problem,
@@ -36,18 +37,19 @@ pub(crate) fn past_tops(
     Ok(past)
 }
 
-/// The greatest of the numbers, or 0 if there is none.
+/// Returns the greatest of the tops, or 0 if there is none.
 pub(crate) fn bar_of(tops: &[Option<u64>]) -> u64
     ensures { result ≡ bar_of tops.now }
 {
     let mut bar = 0;
     for top in tops {
+        // a tree without times counts as 0, which raises nothing
         bar = top.unwrap_or(0).max(bar);
     }
     bar
 }
 
-/// Whether there is a number that isn't under the bar.
+/// Whether there is a top and it isn't under the bar.
 pub(crate) fn reaches(bar: u64, top: Option<u64>) -> bool
     ensures { result ≡ reaches bar top }
 {

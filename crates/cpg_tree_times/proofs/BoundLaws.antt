@@ -16,7 +16,7 @@ use Rattle.cpg_tree_times.specs.Greater.{IsAtLeast}
 use Rattle.cpg_tree.proofs.Flats.{flat-same, last_same, rest_same}
 use Rattle.cpg_tree_times.proofs.Greatness.{least_under, most_over}
 
--- a list without its last item is cut behind the first part
+-- if the spans of a fork are split into the last one and the others, the others are cut into those of both sides
 pub sides_are : (bounds sides : List Span) (last : Span) (forks : ℕ) → IsLastAndRest bounds last sides →
     AreSpansOfSides bounds forks (take (min forks (length sides)) sides) (drop (min forks
     (length sides)) sides)
@@ -30,6 +30,7 @@ sides_are bounds sides last forks cut front back fork are long =
 
 -- a tree's list has one item more than two for each fork
 pub forks_in : {T : Type 0} (number : T → ℕ) (n : TreeNode T) → length (flat n) ≡ 2 * length (bounds_in number n) + 1
+-- by induction on the tree: a leaf, then a fork by its two sides
 forks_in number (Leaf x) = refl
 forks_in number (Fork v cut below above) = omega (
   arith,
@@ -94,7 +95,7 @@ module _ {T : Type 0} (number : T → ℕ) (x : T) (n : TreeNode T) (items : Lis
   pub bounds_leaf : (old : List Span) → old ≡ old ++ bounds_in number n
   bounds_leaf old = sym (append-nil old) ∙ ap (λ (m : TreeNode T). old ++ bounds_in number m) leaf_is
 
--- the last span is that of the tree
+-- the last span of a fork is that of the whole tree
 module _ {T : Type 0} (number : T → ℕ) where
   -- the last of a tree's bounds is the span of the tree
   last_span : (n : TreeNode T) (sides : List Span) (span : Span) → bounds_in number n ≡ sides ++ (span ∷ []) →
@@ -116,6 +117,7 @@ module _ {T : Type 0} (number : T → ℕ) where
   pub fork_bounded : (items : List (TreeItem T)) (bounds : List Span) → IsBounded number items bounds →
       (v cut : ℕ) (x y : TreeNode T) → items ≡ flat (Fork v cut x y) →
       0 < length bounds
+  -- the spans are those of the fork's sides and then its own, which is one
   fork_bounded items bounds is v cut x y are =
       let same : bounds ≡ bounds_in number (Fork v cut x y) =
       is.2 ∙ ap (bounds_in number) (flat-same is.0 (Fork v cut x y) (sym is.1 ∙ are)) in
@@ -146,6 +148,7 @@ pub at_least_by : {T U : Type 0} (number : T → ℕ) (other_number : U → ℕ)
     (own others : Span) (is : Bool) →
     own ≡ span_in number a → others ≡ span_in other_number b → is ≡ nat_le others.most own.least → is ≡ true →
     IsAtLeast number other_number a b
+-- a number of b is at most b's greatest, which is at most a's least, which is at most a number of a
 at_least_by number other_number a b own others is first second e h = λ s t.
     omega (
       arith,

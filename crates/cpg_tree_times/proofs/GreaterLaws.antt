@@ -30,11 +30,13 @@ module _ {T : Type 0} (v cut : ℕ) (x y n : TreeNode T) (items : List (TreeItem
   fork_is : n ≡ Fork v cut x y
   fork_is = flat-same n (Fork v cut x y) (sym are ∙ is)
 
+  -- given: a space, the spans of the fork and of its side, and the part of the side that the space comes to
   module _ (space : Space) (bounds side spans : List Span) (part : List (TreeItem T)) where
-    -- if all scenarios of the space go one way, the part of that side, with its spans, is the part of the fork
+    -- if all scenarios of the space go above, the part of the side above, with its spans, is the part of the fork
     pub bounded_above : ((s : Scenario) → IsInSpace space s → cut < number_of s v) →
         ((number : T → ℕ) → bounds ≡ bounds_in number (Fork v cut x y) → side ≡ bounds_in number y) →
         IsBoundedPartList space y side part spans → IsBoundedPartList space n bounds part spans
+    -- p: the tree that was added, how its list stands in the new one, and what is known of it, which carries over
     bounded_above only cuts p = (
       p.0,
       p.1,
@@ -45,10 +47,11 @@ module _ {T : Type 0} (v cut : ℕ) (x y n : TreeNode T) (items : List (TreeItem
       λ number e. p.3 number (cuts number (e ∙ ap (bounds_in number) fork_is)),
     )
 
-    -- if all scenarios of the space go below, the part of the side below is the part of the fork
+    -- if all scenarios of the space go below, the part of the side below, with its spans, is the part of the fork
     pub bounded_below : ((s : Scenario) → IsInSpace space s → number_of s v ≤ cut) →
         ((number : T → ℕ) → bounds ≡ bounds_in number (Fork v cut x y) → side ≡ bounds_in number x) →
         IsBoundedPartList space x side part spans → IsBoundedPartList space n bounds part spans
+    -- p: the tree that was added, how its list stands in the new one, and what is known of it, which carries over
     bounded_below only cuts p = (
       p.0,
       p.1,
@@ -88,6 +91,7 @@ module _ {T U V : Type 0} (number : T → ℕ) (other_number : U → ℕ) (makes
   pub own_added : IsAtLeast number other_number n part →
       AddsTree (IsFilled (λ (x : ℕ) (y : T) (z : V). makes (max x (number y)) z) spaces.asked 0 n) old new
       → AddsTree (IsJoinedIn answers spaces n m) old new
+  -- p: the tree that was added, how its list stands in the new one, and what is known of it, which carries over
   own_added least p = (
     p.0,
     p.1,
@@ -103,6 +107,7 @@ module _ {T U V : Type 0} (number : T → ℕ) (other_number : U → ℕ) (makes
   pub other_added : IsAtLeast other_number number part n →
       AddsTree (IsFilled (λ (x : ℕ) (y : U) (z : V). makes (max x (other_number y)) z) spaces.asked 0 part) old new →
       AddsTree (IsJoinedIn answers spaces n m) old new
+  -- p: the tree that was added, how its list stands in the new one, and what is known of it, which carries over
   other_added least p = (
     p.0,
     p.1,
@@ -118,6 +123,7 @@ module _ {T U V : Type 0} (number : T → ℕ) (other_number : U → ℕ) (makes
   pub leaf_added : (x : T) (at : ℕ) → n ≡ Leaf x → at ≡ number x →
       AddsTree (IsFilled (λ (x : ℕ) (y : U) (z : V). makes (max x (other_number y)) z) spaces.asked at part) old new →
       AddsTree (IsJoinedIn answers spaces n m) old new
+  -- p: the tree that was added, how its list stands in the new one, and what is known of it, which carries over
   leaf_added x at leaf value p = (
     p.0,
     p.1,
@@ -139,10 +145,11 @@ module _ {T U V : Type 0} (answers : T → U → V → Type 0) (spaces : SpacePa
   whole : n ≡ Fork v cut x y
   whole = fork_is v cut x y n items is are
 
-  -- if all scenarios of both spaces go one way, the answers added for that side are those of the fork
+  -- if all scenarios of both spaces go below, the answers added for the side below are those of the fork
   pub added_below : (inner : SpacePair) → IsInner spaces (λ s. number_of s v ≤ cut) inner →
       AddsTree (IsJoinedIn answers inner x part) old new →
       AddsTree (IsJoinedIn answers spaces n m) old new
+  -- p: the tree that was added, how its list stands in the new one, and what is known of it, which carries over
   added_below inner way p = (
     p.0,
     p.1,
@@ -153,10 +160,11 @@ module _ {T U V : Type 0} (answers : T → U → V → Type 0) (spaces : SpacePa
     },
   )
 
-  -- if all scenarios go above, the answers added for the side above are those of the fork
+  -- if all scenarios of both spaces go above, the answers added for the side above are those of the fork
   pub added_above : (inner : SpacePair) → IsInner spaces (λ s. cut < number_of s v) inner →
       AddsTree (IsJoinedIn answers inner y part) old new →
       AddsTree (IsJoinedIn answers spaces n m) old new
+  -- p: the tree that was added, how its list stands in the new one, and what is known of it, which carries over
   added_above inner way p = (
     p.0,
     p.1,
@@ -179,22 +187,27 @@ module _ {T U V : Type 0} (answers : T → U → V → Type 0) (spaces : SpacePa
     pub added_fork : AddsTree (IsJoinedIn answers shut x part) old lower →
         AddsTree (IsJoinedIn answers upper y part) lower higher →
         AddsTree (IsJoinedIn answers spaces n m) old new
+    -- fork: the tree that takes the place of both; its values are those of the sides (`made`), it fits the space asked for,
+    -- as the sides fit their parts of it (`fit`), and its variables are v and those of the sides (`pass`)
     added_fork one two =
         let fork =
         forks old one.0 two.0 (split_of start middle old lower higher one.0 two.0 one.1 two.1 first second) in (
           fork.0,
           fork.1,
           record {
+            -- a scenario up to the cut has the answer of the lower side, any other that of the upper one
             made = both_whole answers spaces n m part fork.0 part_is.same
                 (subst (λ (q : SpacePair). IsJoinIn answers (IsInBothSpaces q) n part fork.0) same
                 (two_fork_of (λ s x z. answers x (value_at part s) z) (λ s x u. low_at part s u)
                 (λ k s x u. high_at k part s u) (IsInBothSpaces met) v cut x y n whole fork.0 (IsInBothSpaces shut)
                 (IsInBothSpaces upper) one.0 two.0 one.2.made two.2.made fork.2.made lies_shut lies_upper));
+            -- the fork fits the space, as its cut is inside and each side fits its part
             fit = fork.2.fit spaces.asked opens.below opens.above
                 (subst (λ (space : Space). IsFit space one.0)
                 (shut_is ∙ ap (λ (q : SpacePair). below_cut q.asked v cut) same) one.2.fit)
                 (subst (λ (space : Space). IsFit space two.0)
                 (upper_is ∙ ap (λ (q : SpacePair). above_cut q.asked v cut) same) two.2.fit);
+            -- the variables of the result are those of the trees, as on both sides
             pass = λ test own other.
                 let parts = passes_parts test v cut x y n whole own in
                 let others = part_is.pass test other in
@@ -217,6 +230,7 @@ module _ {T U V : Type 0} (number : T → ℕ) (other_number : U → ℕ) (makes
       IsFit space n →
       AddsTree (IsMapped (λ (x : T) (z : V). makes (max at (number x)) z) n) old new →
       AddsTree (IsJoined both_answers space n m) old new
+  -- p: the tree that was added, how its list stands in the new one, and what is known of it, which carries over
   first_alone at same fits p = (
     p.0,
     p.1,
@@ -237,6 +251,7 @@ module _ {T U V : Type 0} (number : T → ℕ) (other_number : U → ℕ) (makes
       IsFit space m →
       AddsTree (IsMapped (λ (y : U) (z : V). makes (max at (other_number y)) z) m) old new →
       AddsTree (IsJoined both_answers space n m) old new
+  -- p: the tree that was added, how its list stands in the new one, and what is known of it, which carries over
   second_alone at same fits p = (
     p.0,
     p.1,
@@ -280,6 +295,7 @@ module _ {T U V : Type 0} (number : T → ℕ) (other_number : U → ℕ) (makes
   -- answers made with one space both asked for and walked are answers in that space
   pub joined_added : AddsTree (IsJoinedIn both_answers (record { asked = space; walked = space }) n m) old new →
       AddsTree (IsJoined both_answers space n m) old new
+  -- p: the tree that was added, how its list stands in the new one, and what is known of it, which carries over
   joined_added p = (
     p.0,
     p.1,

@@ -11,8 +11,9 @@ use Rattle.cpg_tree_times.specs.Greater.{IsAtLeast, least_leaf, greatest_leaf}
 use Rattle.cpg_tree.proofs.Forks.{value_below, value_above, made_weaker}
 
 module _ {T : Type 0} (number : T → ℕ) where
-  -- no scenario's number is under that of the least leaf, or over that of the greatest
+  -- no scenario has a lesser number than the least leaf
   pub least_under : (a : TreeNode T) (s : Scenario) → least_leaf number a ≤ number (value_at a s)
+  -- by induction on the tree: a leaf, then a fork by its two sides, and by whether `cut` is below `number_of s v`
   least_under (Leaf x) s = omega arith
   least_under (Fork v cut below above) s = elim (cases_lt cut (number_of s v)) [
     | inl h ↦ omega (arith, least_under above s, ap number (value_above v cut below above s h))
@@ -21,6 +22,7 @@ module _ {T : Type 0} (number : T → ℕ) where
 
   -- no scenario has a greater number than the greatest leaf
   pub most_over : (a : TreeNode T) (s : Scenario) → number (value_at a s) ≤ greatest_leaf number a
+  -- by induction on the tree: a leaf, then a fork by its two sides, and by whether `cut` is below `number_of s v`
   most_over (Leaf x) s = omega arith
   most_over (Fork v cut below above) s = elim (cases_lt cut (number_of s v)) [
     | inl h ↦ omega (arith, most_over above s, ap number (value_above v cut below above s h))
@@ -37,7 +39,7 @@ module _ {T U V : Type 0} (number : T → ℕ) (other_number : U → ℕ) (makes
       (λ s z d e. subst (λ (n : ℕ). makes n z) (omega (arith, least s s)) e) (λ s u d. omega arith)
       (λ k s u d. omega arith)
 
-  -- the same if the second tree is at least the first
+  -- if the second tree is at least the first everywhere, its numbers are the greater ones
   pub second_greater : IsAtLeast other_number number b a →
       IsFillOf (λ x y z. makes (max x (other_number y)) z) space 0 b r →
       IsJoinOf (λ x y z. makes (max (number x) (other_number y)) z) space a b r

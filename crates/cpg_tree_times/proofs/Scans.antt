@@ -1,4 +1,5 @@
--- What a look at the leaves of a tree's list shows.
+-- What one pass over the leaves of a tree's list finds: the greatest number, or whether all are at least another.
+
 use Rattle.std.proofs.Common.{ℕ, ◌≡◌, ◌∙◌, max, min, Bool, true, false, ◌&&◌, List, [], ◌∷◌, ◌++◌, length, arith, refl}
 use Rattle.std.proofs.Common.{sym, ap, append_assoc}
 use Rattle.std.specs.Prelude.{nat_le}
@@ -36,6 +37,7 @@ most_is number items n are =
     ap (most_from number 0) (are ∙ sym (append-nil (flat n))) ∙ most-flat number n 0 []
     ∙ no_more (greatest_leaf number n)
   where
+    -- 0 raises no number
     no_more : (m : ℕ) → max m 0 ≡ m
     no_more m = omega arith
 
@@ -48,6 +50,7 @@ from_sides l a b r = grind (arith, nat_tests)
 -- a look at a tree's list finds whether its least leaf is at least a number, and goes on with the rest
 from-flat : {T : Type 0} (number : T → ℕ) (least : ℕ) (n : TreeNode T) (rest : List (TreeItem T))
     → are_from number least (flat n ++ rest) ≡ (nat_le least (least_leaf number n) && are_from number least rest)
+-- by induction on the tree: a fork's list is that of its sides and a cut, which the look passes over
 from-flat number least (Leaf x) rest = refl
 from-flat {T} number least (Fork v cut x y) rest =
     let last : List (TreeItem T) = Cut v cut (length (flat x)) ∷ [] in
@@ -64,6 +67,7 @@ from_is number least items n are =
     ap (are_from number least) (are ∙ sym (append-nil (flat n))) ∙ from-flat number least n []
     ∙ and_true (nat_le least (least_leaf number n))
   where
+    -- what holds behind the list's end, `true`, changes nothing
     and_true : (b : Bool) → (b && true) ≡ b
     and_true true = refl
     and_true false = refl

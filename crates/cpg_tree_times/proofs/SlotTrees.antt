@@ -32,9 +32,9 @@ wide_through k x y a b z of_a of_b of_z = record {
 
 -- given: the slot asked for, the later of it and when slots are free, and that where there is an end
 -- `share`: the node's share of the bus; `end`, `free`: when the item is there, and when the slots are free
--- `asked`, `both`, `r`: the slot asked for, the later of it and `free`, and that where there is an end; `each_asked`
--- and
--- `each_both` say that these have one path each; `first`, `second`, `third`: how each tree is made of those before
+-- `asked`, `both`, `r`: the slot asked for, the later of it and `free`, and that where there is an end
+-- `each_asked`, `each_both`: `asked` and `both` have one path for each scenario
+-- `first`, `second`, `third`: how each of the three trees is made of those before it
 module _ (share : ShareState) (end : TreeState (Option ℕ)) (free asked both : TreeState ℕ)
     (each_asked : HasOnePathEach asked.faults asked.paths) (each_both : HasOnePathEach both.faults both.paths)
     (r : TreeState (Option ℕ))

@@ -38,21 +38,22 @@ module _ {T U V : Type 0} (answers : T → U → V → Type 0) (none : V) (space
       IsJoinWhereOf answers none (IsInBothSpaces spaces) n a b r
   where_on n is r made = two_leaf_of fact low high (IsInBothSpaces spaces) true n is r made
 
-  -- if it is false, the result is the one value
+  -- if the chooser is false, the result is the value `none`
   pub where_off : (n : TreeNode Bool) → n ≡ Leaf false →
       IsJoinWhereOf answers none (IsInBothSpaces spaces) n a b (Leaf none)
   where_off n is = two_leaf_of fact low high (IsInBothSpaces spaces) false n is (Leaf none)
       (record { value = λ s d. refl; lows = λ s u d. omega arith; highs = λ k s u d. omega arith })
 
+  -- given: the chooser n is a fork, and r is the tree that is made
   module _ (v cut : ℕ) (below above n : TreeNode Bool) (is : n ≡ Fork v cut below above) (r : TreeNode V) where
-    -- if all scenarios go below, the result for the chooser's side below is that for the chooser
+    -- if all scenarios asked for go below the chooser's fork, a result for its side below is one for the whole chooser
     pub where_below : IsJoinWhereOf answers none (IsInBothSpaces spaces) below a b r →
         ((s : Scenario) → IsInSpace spaces.asked s → number_of s v ≤ cut)
         → IsJoinWhereOf answers none (IsInBothSpaces spaces) n a b r
     where_below made only =
         two_below_of fact low high (IsInBothSpaces spaces) v cut below above n is r made (λ s d. only s d.0)
 
-    -- if all scenarios go above, the result for the chooser's side above is that for the chooser
+    -- if all scenarios asked for go above the chooser's fork, a result for its side above is one for the whole chooser
     pub where_above : IsJoinWhereOf answers none (IsInBothSpaces spaces) above a b r →
         ((s : Scenario) → IsInSpace spaces.asked s → cut < number_of s v)
         → IsJoinWhereOf answers none (IsInBothSpaces spaces) n a b r
@@ -76,12 +77,15 @@ module _ {T U V : Type 0} (k : ℕ) (domain : Scenario → Type 0) (all : (s : S
     (answers : T → U → V → Type 0) (none : V) (chooser : TreeNode Bool)
     (a : TreeNode T)
     (b : TreeNode U) (r : TreeNode V) where
-  -- the paths of the result have the answers where the chooser is true, and the one value elsewhere
+  -- The paths of the result have the answers in the scenarios in which the chooser is true, and the one value in all others.
   pub where_paths : IsGood k chooser → IsGood k a → IsGood k b → IsGood k r →
       IsJoinWhereOf answers none domain chooser a b r →
       IsJoinWhere answers none (state k chooser) (state k a) (state k b) (state k r)
+  -- By `found` each path has the value and the ranges that its scenario finds in the tree, of which `made` speaks. fc, fx, fy
+  -- and fz are what is found for the paths c, x, y and z of the chooser, the two trees and the result.
   where_paths good_c good_a good_b good_r made = record {
     faults = refl;
+    -- the values on the paths are those that the trees have in the scenario, so `made` answers for them
     on = λ s c x y z few on_c is on_x on_y on_z.
         let fc = found k chooser good_c s c on_c in
         let fx = found k a good_a s x on_x in
@@ -92,6 +96,7 @@ module _ {T U V : Type 0} (k : ℕ) (domain : Scenario → Type 0) (all : (s : S
         (subst
         (λ (w : Bool). HoldsIfChosen w (answers (value_at a s) (value_at b s) (value_at r s)) none (value_at r s))
         (sym fc.value ∙ is) (made.value s (all s few)))));
+    -- and so are the ranges: where the chooser is true, those of all three trees meet
     on_ranges = λ s c x y z few on_c is on_x on_y on_z.
         let fc = found k chooser good_c s c on_c in
         let fx = found k a good_a s x on_x in
@@ -117,6 +122,7 @@ module _ {T U V : Type 0} (k : ℕ) (domain : Scenario → Type 0) (all : (s : S
             high_on s (sym fc.value ∙ is) v,
           );
         };
+    -- where the chooser is false, only the result and the chooser are looked at
     off = λ s c z few on_c is on_z.
         let fc = found k chooser good_c s c on_c in
         let fz = found k r good_r s z on_z in
@@ -133,6 +139,7 @@ module _ {T U V : Type 0} (k : ℕ) (domain : Scenario → Type 0) (all : (s : S
         };
   }
     where
+      -- where the chooser is true, the lows are those of both
       low_on : (s : Scenario) → value_at chooser s ≡ true → (v : ℕ) →
           (if value_at chooser s then max (low_at a s v) (low_at b s v) else 0) ≡ max (low_at a s v) (low_at b s v)
       low_on s e v = cond-true (value_at chooser s) _ _ e
@@ -158,7 +165,7 @@ module _ {T U V : Type 0} (chooser : TreeNode Bool) (a : TreeNode T) (b : TreeNo
     (first : TreeState Bool) (second : TreeState T) (third : TreeState U)
     (paths_c : first.paths ≡ paths_of first.faults chooser) (paths_a : second.paths ≡ paths_of second.faults a)
     (paths_b : third.paths ≡ paths_of third.faults b) (k : ℕ) where
-  -- callers see in the tree that is made the answers where the chooser is true, and the one value elsewhere
+  -- callers see in the tree that is made the answers if the chooser is true, and otherwise the one value
   pub where_seen : (answers : T → U → V → Type 0) (none : V) → k ≡ first.faults → first.faults ≡ second.faults →
       first.faults ≡ third.faults → IsGood first.faults chooser →
       IsGood second.faults a →
@@ -166,6 +173,7 @@ module _ {T U V : Type 0} (chooser : TreeNode Bool) (a : TreeNode T) (b : TreeNo
       (space : Space) → IsWhole k space → ((s : Scenario) → HasAtMostFaults k s → IsInSpace space s) → IsFit space r
       → IsJoinWhereOf answers none (IsInBothSpaces (record { asked = space; walked = space })) chooser a b r →
       IsJoinWhere answers none first second third (state k r)
+  -- by `where_paths`, with the states that callers see put in place of those of the trees, one after another
   where_seen answers none is same_a same_b good_c good_a good_b space whole all fit made =
       subst (λ (x : TreeState Bool). IsJoinWhere answers none x second third (state k r))
       (ap (λ (m : ℕ). state m chooser) is ∙ state_seen first chooser paths_c)

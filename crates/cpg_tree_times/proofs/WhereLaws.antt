@@ -24,6 +24,7 @@ module _ {T U V : Type 0} (answers : T → U → V → Type 0) (none : V) (space
   -- if the chooser is true, what is added of the two trees is the result
   pub where_value_on : items ≡ flat (Leaf true) → AddsTree (IsJoinedIn answers spaces n m) old new →
       AddsTree (IsJoinedWhere answers none spaces c n m) old new
+  -- p: the tree that was added, how its list stands in the new one, and what is known of it, which carries over
   where_value_on is p = (
     p.0,
     p.1,
@@ -53,10 +54,11 @@ module _ {T U V : Type 0} (answers : T → U → V → Type 0) (none : V) (space
     fork_is : c ≡ Fork v cut x y
     fork_is = flat-same c (Fork v cut x y) (sym are ∙ is)
 
-    -- if all scenarios go one way, the answers added with the chooser's side there are those of the fork
+    -- if all scenarios go below, the answers added with the chooser's side below are those of the fork
     pub where_side_below : ((s : Scenario) → IsInSpace spaces.asked s → number_of s v ≤ cut) →
         AddsTree (IsJoinedWhere answers none spaces x n m) old new
         → AddsTree (IsJoinedWhere answers none spaces c n m) old new
+    -- p: the tree that was added, how its list stands in the new one, and what is known of it, which carries over
     where_side_below only p = (
       p.0,
       p.1,
@@ -71,6 +73,7 @@ module _ {T U V : Type 0} (answers : T → U → V → Type 0) (none : V) (space
     pub where_side_above : ((s : Scenario) → IsInSpace spaces.asked s → cut < number_of s v) →
         AddsTree (IsJoinedWhere answers none spaces y n m) old new
         → AddsTree (IsJoinedWhere answers none spaces c n m) old new
+    -- p: the tree that was added, how its list stands in the new one, and what is known of it, which carries over
     where_side_above only p = (
       p.0,
       p.1,
@@ -94,6 +97,8 @@ module _ {T U V : Type 0} (answers : T → U → V → Type 0) (none : V) (space
       pub where_both_sides : AddsTree (IsJoinedWhere answers none shut x n m) old lower →
           AddsTree (IsJoinedWhere answers none upper y n m) lower higher
           → AddsTree (IsJoinedWhere answers none spaces c n m) old new
+      -- fork: the tree that takes the place of both; its values are those of the sides (`made`), it fits the space asked for,
+      -- as the sides fit their parts of it (`fit`), and its variables are v and those of the sides (`pass`)
       where_both_sides one two =
           let fork =
           forks old one.0 two.0 (split_of start middle old lower higher one.0 two.0 one.1 two.1 first second) in (

@@ -1,4 +1,4 @@
--- What is added to a list for the scenarios of two spaces.
+-- What a walk adds to a list if it follows two spaces: the scenarios asked for, and those walked.
 use Rattle.std.specs.Prelude.{ℕ, ◌≡◌, Bool, List}
 use Rattle.cpg_tree.specs.TreeNode.{TreeNode}
 use Rattle.cpg_tree.specs.declared.space.Space.{Space}
@@ -11,25 +11,29 @@ use Rattle.cpg_tree.specs.Results.{IsJoinIn, IsJoinWhereOf}
 use Rattle.cpg_tree_times.specs.declared.bounds.Span.{Span}
 use Rattle.cpg_tree.specs.declared.item.TreeItem.{TreeItem}
 
--- the list of the part of a tree that a space comes to, and the spans of its forks if the tree's spans are given
+-- `part` is the list of the part of the tree a that the space comes to. If `bounds` are the spans of a's forks under a
+-- reading, `spans` are those of the part's forks.
 abbrev pub IsBoundedPartList : {T : Type 0} → Space → TreeNode T → List Span → List (TreeItem T) → List Span → Type 0
 IsBoundedPartList {T} space a bounds part spans = (r : TreeNode T) × (part ≡ flat r) × IsPartInSpace space a r ×
     ((number : T → ℕ) → bounds ≡ bounds_in number a → spans ≡ bounds_in number r)
 
--- the answers of a function to the values of two trees
+-- r has a function's answers to the values of the trees a and b in the scenarios of both spaces
 pub record IsJoinedIn {T U V : Type 0} (answers : T → U → V → Type 0) (spaces : SpacePair) (a : TreeNode T)
     (b : TreeNode U) (r : TreeNode V) : Type 0 where
   -- the answers are right in the scenarios that lie in both spaces
   pub made : IsJoinIn answers (IsInBothSpaces spaces) a b r
-  -- the tree fits the space that is asked for alone
+  -- r fits the space asked for, whatever is walked
   pub fit : IsFit spaces.asked r
-  -- its forks are on variables of forks of either tree
+  -- a test that the variables of all forks of a and b pass is passed by those of r
   pub pass : (test : ℕ → Bool) → DoForksPass test a → DoForksPass test b → DoForksPass test r
 
--- such answers if a chooser is true, and otherwise one value
+-- in the scenarios of both spaces r has a function's answers to the values of a and b if the chooser is true there, and
+-- otherwise the value `none`
 pub record IsJoinedWhere {T U V : Type 0} (answers : T → U → V → Type 0) (none : V) (spaces : SpacePair)
     (chooser : TreeNode Bool) (a : TreeNode T) (b : TreeNode U) (r : TreeNode V) : Type 0 where
+  -- the values are right in the scenarios that lie in both spaces
   pub made : IsJoinWhereOf answers none (IsInBothSpaces spaces) chooser a b r
+  -- r fits the space asked for, whatever is walked
   pub fit : IsFit spaces.asked r
-  -- its forks are on variables of forks of the three
+  -- a test that the variables of all forks of the three trees pass is passed by those of r
   pub pass : (test : ℕ → Bool) → DoForksPass test chooser → DoForksPass test a → DoForksPass test b → DoForksPass test r

@@ -6,14 +6,16 @@ ghost use Rattle.cpg_tree.specs.Space.{above_cut, below_cut, is_open_above, is_o
 
 use cpg_tree::{Lifted, Space};
 
-/// The scenarios that are asked for, and those that the forks on the way to a place of a tree leave.
+/// Two spaces: an answer has to be right in the scenarios that lie in both.
 #[derive(Clone, Copy)]
 pub(crate) struct SpacePair {
+    /// The scenarios asked for.
     pub(crate) asked: Space,
+    /// The scenarios that the forks on the way to a place of a tree leave.
     pub(crate) walked: Space,
 }
 
-/// The greatest numbers of a variable in both spaces.
+/// The highs of a variable in both spaces, from before they were lowered.
 #[derive(Clone, Copy)]
 pub(crate) struct Highs {
     /// The high in the space asked for.
@@ -22,7 +24,7 @@ pub(crate) struct Highs {
     walked: u8,
 }
 
-/// The lows of a variable in both spaces, with the faults that were left.
+/// The lows of a variable in both spaces and the faults left, from before they were raised.
 #[derive(Clone, Copy)]
 pub(crate) struct Lows {
     /// The low in the space asked for.
@@ -34,16 +36,16 @@ pub(crate) struct Lows {
 /// Where the scenarios asked for go at a fork, with what takes the spaces back to what they were.
 #[derive(Clone, Copy)]
 pub(crate) enum Way {
-    /// All below it.
+    /// All go to the side below; the highs undo the narrowing.
     Below(Highs),
-    /// All above it.
+    /// All go to the side above; the lows undo the narrowing.
     Above(Lows),
-    /// Both ways, as far as the spaces show.
+    /// Both ways, as far as the spaces show: they stay as they are.
     Both,
 }
 
 impl SpacePair {
-    /// Leaves the scenarios up to a cut, and returns the highs that it had.
+    /// Narrows both spaces to the scenarios up to a cut, and returns the highs from before.
     pub(crate) fn close_above(&mut self, variable: u8, cut: u8) -> Highs
         ensures asked { self.new.asked ≡ below_cut self.old.asked variable cut }
         ensures back { lowered self.new variable result ≡ self.old }
@@ -55,7 +57,7 @@ impl SpacePair {
         }
     }
 
-    /// Gives the highs back.
+    /// Gives both spaces their highs back.
     pub(crate) fn reopen_above(&mut self, variable: u8, highs: Highs)
         ensures { self.new ≡ lowered self.old variable highs }
     {
@@ -63,7 +65,7 @@ impl SpacePair {
         self.walked.reopen_above(variable, highs.walked);
     }
 
-    /// Leaves the scenarios above a cut, and returns the lows that it had.
+    /// Narrows both spaces to the scenarios above a cut, and returns the lows from before.
     pub(crate) fn close_below(&mut self, variable: u8, cut: u8) -> Lows
         requires below { is_open_below self.old.asked variable cut ≡ true }
         requires above { is_open_above self.old.asked variable cut ≡ true }
@@ -79,7 +81,7 @@ impl SpacePair {
         }
     }
 
-    /// Gives the lows back.
+    /// Gives both spaces their lows and the faults left back.
     pub(crate) fn reopen_below(&mut self, variable: u8, lows: Lows)
         ensures { self.new ≡ raised_back self.old variable lows }
     {
@@ -87,7 +89,8 @@ impl SpacePair {
         self.walked.reopen_below(variable, lows.walked);
     }
 
-    /// Asks only for the scenarios up to a cut, and returns the highs that it had.
+    /// Narrows the space asked for to the scenarios up to a cut, and leaves the space walked as it is. It returns the highs of
+    /// both from before, so that `reopen_above` can undo it.
     pub(crate) fn ask_below(&mut self, variable: u8, cut: u8) -> Highs
         ensures asked { self.new.asked ≡ below_cut self.old.asked variable cut }
         ensures back { lowered self.new variable result ≡ self.old }
@@ -99,7 +102,8 @@ impl SpacePair {
         }
     }
 
-    /// Asks only for the scenarios above a cut, and returns the lows that it had.
+    /// Narrows the space asked for to the scenarios above a cut, and leaves the space walked as it is. It returns the lows of
+    /// both from before, so that `reopen_below` can undo it.
     pub(crate) fn ask_above(&mut self, variable: u8, cut: u8) -> Lows
         requires below { is_open_below self.old.asked variable cut ≡ true }
         requires above { is_open_above self.old.asked variable cut ≡ true }
@@ -113,7 +117,8 @@ impl SpacePair {
         }
     }
 
-    /// Walks only the scenarios up to a cut, and returns the highs that it had.
+    /// Narrows the space walked to the scenarios up to a cut, and leaves the space asked for as it is. It returns the highs of
+    /// both from before, so that `reopen_above` can undo it.
     fn walk_below(&mut self, variable: u8, cut: u8) -> Highs
         ensures asked { self.new.asked ≡ self.old.asked }
         ensures back { lowered self.new variable result ≡ self.old }
@@ -125,7 +130,8 @@ impl SpacePair {
         }
     }
 
-    /// Walks only the scenarios above a cut, and returns the lows that it had.
+    /// Narrows the space walked to the scenarios above a cut, and leaves the space asked for as it is. It returns the lows of
+    /// both from before, so that `reopen_below` can undo it.
     fn walk_above(&mut self, variable: u8, cut: u8) -> Lows
         requires below { is_open_below self.old.walked variable cut ≡ true }
         requires above { is_open_above self.old.walked variable cut ≡ true }
@@ -139,18 +145,19 @@ impl SpacePair {
         }
     }
 
-    /// Where the scenarios asked for go at a fork. If they all go one way, only those that go there are walked from now on.
+    /// Says where the scenarios of both spaces go at a fork. If one space shows that they all go one way, only those that go
+    /// there are walked from now on; otherwise both spaces stay as they are.
     pub(crate) fn way(&mut self, variable: u8, cut: u8) -> Way
         ensures { IsWay self.old self.new variable cut result }
     {
-        // the forks on the way leave only numbers above the cut, so both spaces stay as they are
+        // the forks on the way leave only numbers above the cut already
         if !self.walked.is_open_below(variable, cut) {
             return Way::Above(Lows {
                 asked: self.asked.lowest(variable),
                 walked: self.walked.lowest(variable),
             });
         }
-        // they leave only numbers up to the cut
+        // the forks on the way leave only numbers up to the cut already
         if !self.walked.is_open_above(variable, cut) {
             return Way::Below(Highs {
                 asked: self.asked.highest(variable),
@@ -161,7 +168,7 @@ impl SpacePair {
         if !self.asked.is_open_below(variable, cut) {
             return Way::Above(self.walk_above(variable, cut));
         }
-        // all scenarios asked for go below
+        // all scenarios asked for go below, so only those below are walked
         if !self.asked.is_open_above(variable, cut) {
             return Way::Below(self.walk_below(variable, cut));
         }

@@ -1,4 +1,4 @@
-//! The least and the greatest number below each fork of a tree whose leaves are read as numbers.
+//! The span, which is the least and the greatest number, below each fork of a tree whose leaves are read as numbers.
 ghost use Rattle.std.specs.Prelude.{◌≡◌, ◌++◌, ℕ, max, min, nat_le, IfOk};
 ghost use Rattle.std.specs.Bool.{OnTrue};
 ghost use Rattle.cpg_tree_times.specs.Bounds.{AreSpansOfSides, IsBounded, bounds_in, span_in};
@@ -9,15 +9,17 @@ ghost use Rattle.cpg_tree.specs.TreeNode.{TreeNode, Fork};
 use cpg_base::OutOfMemory;
 use cpg_tree::{Reading, Top, TreeItem, put, top_of};
 
-/// The least and the greatest number of a tree.
+/// The least and the greatest of the numbers that a tree's leaves are read as.
 #[derive(Clone, Copy)]
 pub(crate) struct Span {
+    /// The least number.
     least: u64,
+    /// The greatest number.
     most: u64,
 }
 
 impl Span {
-    /// The span of one number.
+    /// Returns the span of one number.
     pub(crate) fn of(number: u64) -> Span
         ensures { result ≡ record { least = number; most = number } }
     {
@@ -27,7 +29,7 @@ impl Span {
         }
     }
 
-    /// The span of two trees.
+    /// Returns the span of two trees together.
     fn with(self, other: Span) -> Span
         ensures { result ≡ record { least = min self.least other.least; most = max self.most other.most } }
     {
@@ -37,7 +39,7 @@ impl Span {
         }
     }
 
-    /// Whether each number is at least each number of another tree.
+    /// Whether each number of this span's tree is at least each number of the other's.
     pub(crate) fn is_at_least(self, other: Span) -> bool
         ensures { result ≡ nat_le other.most self.least }
     {
@@ -48,22 +50,25 @@ impl Span {
 /// The items of a tree, and the span of each fork in the order of the items.
 #[derive(Clone, Copy)]
 pub(crate) struct BoundedTree<'a, T> {
+    /// The tree's list.
     pub(crate) items: &'a [TreeItem<T>],
+    /// The span of each fork.
     pub(crate) bounds: &'a [Span],
 }
 
-/// The spans of the forks on both sides of a fork: the first `forks` of them are those of the side below.
+/// Splits the spans of a fork into those of its side below, which are the first `forks`, and those of its side above.
 fn bounds_of_sides(bounds: &[Span], forks: usize) -> (&[Span], &[Span])
     ensures { AreSpansOfSides bounds.now forks result.0.now result.1.now }
 {
-    // the last span is that of the fork itself
+    // the last span is that of the fork itself; without spans there is no fork, and nothing to split
     let Some((_, sides)) = bounds.split_last() else {
         return (bounds, bounds);
     };
+    // the side below has no more forks than both sides, so `min` only shows that the split is in range
     sides.split_at(forks.min(sides.len()))
 }
 
-/// The sides of a fork, by the spans of the whole.
+/// Returns the two sides of a fork with their spans, given their lists and the spans of the whole.
 pub(crate) fn sides<'a, T: Copy>(
     bounds: &'a [Span],
     below: &'a [TreeItem<T>],
@@ -88,7 +93,7 @@ pub(crate) fn sides<'a, T: Copy>(
     )
 }
 
-/// Adds the span of each fork behind those of its sides, and returns the span of the tree.
+/// Adds the span of each fork of a tree to `bounds`, behind those of its sides, and returns the span of the tree.
 #[cycle(bounds)]
 #[inline(always)]
 pub(crate) fn push_bounds<T: Copy, R: Reading<T>>(
@@ -129,7 +134,7 @@ fn push_fork_bounds<T: Copy, R: Reading<T>>(
     }
 }
 
-/// The least and the greatest number.
+/// Returns the span of a tree, without a look at its leaves if it has a fork.
 pub(crate) fn span_of<T: Copy, R: Reading<T>>(tree: BoundedTree<'_, T>, read: &R) -> Span
     requires { IsBounded (R.number read.now) tree.items.now tree.bounds.now }
     ensures { (n : TreeNode T) → tree.entry.items.now ≡ flat n → result ≡ span_in (R.number read.now) n }
@@ -139,12 +144,13 @@ pub(crate) fn span_of<T: Copy, R: Reading<T>>(tree: BoundedTree<'_, T>, read: &R
         Some((span, _)) => *span,
         None => match top_of(tree.items) {
             Top::Value(value) => Span::of(read.number(value)),
+            // a fork has a span
             Top::Cut { .. } => unreachable!(),
         },
     }
 }
 
-/// The greatest of a number and of the numbers of a tree.
+/// Returns the greatest of `number` and of the numbers of a tree's leaves.
 fn most_from<T: Copy, R: Reading<T>>(items: &[TreeItem<T>], read: &R, number: u64) -> u64
     ensures { result ≡ most_from (R.number read.now) number items.now }
 {
@@ -157,7 +163,7 @@ fn most_from<T: Copy, R: Reading<T>>(items: &[TreeItem<T>], read: &R, number: u6
     most
 }
 
-/// Whether each number of a tree is at least this.
+/// Whether the number of each leaf of a tree is at least `least`.
 fn are_from<T: Copy, R: Reading<T>>(items: &[TreeItem<T>], read: &R, least: u64) -> bool
     ensures { result ≡ are_from (R.number read.now) least items.now }
 {
@@ -171,7 +177,7 @@ fn are_from<T: Copy, R: Reading<T>>(items: &[TreeItem<T>], read: &R, least: u64)
     true
 }
 
-/// Whether each number of a tree is at least each number of another.
+/// Whether each number of a tree is at least each number of another, by the other's greatest number.
 pub(crate) fn is_at_least<T: Copy, U: Copy, R: Reading<T>, S: Reading<U>>(
     own: &[TreeItem<T>],
     read: &R,

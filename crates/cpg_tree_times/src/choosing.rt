@@ -1,4 +1,4 @@
-//! The greater of two trees where a chooser is true.
+//! The greater number of two trees in the scenarios in which a chooser is true.
 ghost use Rattle.std.specs.Prelude.{◌≡◌, ◌≤◌, max, ℕ, Bool, All, IfOk, true, vec_len};
 ghost use Rattle.cpg_tree.specs.Added.{AddsTree};
 ghost use Rattle.cpg_tree_times.specs.AddedInBoth.{IsJoinedWhere};
@@ -17,13 +17,15 @@ use cpg_tree::{Reading, Space, Top, Tree, TreeItem, put, top_of};
 /// Two trees with the spans of their forks.
 #[derive(Clone, Copy)]
 struct TreePair<'a, T, U> {
+    /// The first tree.
     own: BoundedTree<'a, T>,
+    /// The second tree.
     other: BoundedTree<'a, U>,
 }
 
-/// Adds what is made of the greater number of two trees if a chooser is true, and otherwise one value, in the
-/// scenarios of two spaces. On the way only what is asked for is narrowed, so the answer has the forks that the two
-/// trees' answer has in the whole space.
+/// Adds the tree of what is made of the greater number of two trees if a chooser is true, and otherwise of the value `none`,
+/// for the scenarios of two spaces. The chooser's forks narrow only the space asked for, so the answer has the forks that
+/// the two trees' answer has in the whole space.
 fn greater_where<T: Copy, U: Copy, V: Copy + Eq, R: Reading<T>, S: Reading<U>, F: Fn(u64) -> V>(
     chooser: &[TreeItem<bool>],
     pair: &TreePair<'_, T, U>,
@@ -57,12 +59,15 @@ fn greater_where<T: Copy, U: Copy, V: Copy + Eq, R: Reading<T>, S: Reading<U>, F
             below,
             above,
         } => {
+            // all scenarios asked for go above the cut
             if !spaces.asked.is_open_below(variable, cut) {
                 return greater_where(above, pair, spaces, how, none, out);
             }
+            // all scenarios asked for go below the cut
             if !spaces.asked.is_open_above(variable, cut) {
                 return greater_where(below, pair, spaces, how, none, out);
             }
+            // the answers of both sides are added, each for its part of the space, and then a fork of the two
             let start = out.len();
             let highs = spaces.ask_below(variable, cut);
             greater_where(below, pair, spaces, how, none, out)?;
@@ -76,9 +81,9 @@ fn greater_where<T: Copy, U: Copy, V: Copy + Eq, R: Reading<T>, S: Reading<U>, F
     }
 }
 
-/// In each scenario in which a tree is true, what a function makes of the greater number of two trees whose
-/// leaves are read as numbers. In the others it is one value, and nothing is made of the two others. The one error
-/// is `OutOfMemory`.
+/// Returns a tree that has, in each scenario in which a given tree is true, what a function makes of the greater number
+/// of two trees whose leaves are read as numbers. In the other scenarios it has one value, and nothing is made of the
+/// two others. The one error is `OutOfMemory`.
 pub fn greater_of_where<
     T: Copy,
     U: Copy,

@@ -1,4 +1,4 @@
-//! The greater of two trees whose leaves are read as numbers.
+//! The greater number of two trees whose leaves are read as numbers.
 ghost use Rattle.std.specs.Prelude.{◌≡◌, ◌≤◌, max, ℕ, Bool, All, IfOk, true, vec_len};
 ghost use Rattle.cpg_tree.specs.Added.{AddsTree, IsFilled, IsJoined, IsMapped};
 ghost use Rattle.cpg_tree_times.specs.AddedInBoth.{IsBoundedPartList, IsJoinedIn};
@@ -26,7 +26,7 @@ pub(crate) struct Greater<'a, R, S, F> {
     pub(crate) made: &'a F,
 }
 
-/// The part of a tree that all scenarios of a space come to.
+/// Returns the part of a tree that all scenarios of a space come to, with its spans.
 fn bounded_part<'a, T: Copy>(tree: BoundedTree<'a, T>, space: &Space) -> BoundedTree<'a, T>
     requires { IsFlat tree.items.now }
     ensures part { (n : TreeNode T) → tree.entry.items.now ≡ flat n → IsBoundedPartList space.now n tree.entry.bounds.now result.items.now result.bounds.now }
@@ -53,7 +53,7 @@ fn bounded_part<'a, T: Copy>(tree: BoundedTree<'a, T>, space: &Space) -> Bounded
     }
 }
 
-/// Adds what is made of a value or the tree's number, whichever is greater, for the scenarios of a space.
+/// Adds the tree of what is made of `value` or a tree's number, whichever is greater, for the scenarios of a space.
 pub(crate) fn at_least<T: Copy, V: Copy + Eq, R: Reading<T>, F: Fn(u64) -> V>(
     items: &[TreeItem<T>],
     space: &mut Space,
@@ -79,9 +79,9 @@ pub(crate) fn at_least<T: Copy, V: Copy + Eq, R: Reading<T>, F: Fn(u64) -> V>(
     )
 }
 
-/// Adds what is made of the greater number of two trees in the scenarios of two spaces. If one is at least the other
-/// everywhere, nothing of the other is tested. Only the first space is asked for. The second is what the forks on the
-/// way have left, so the answer has the forks that it has in the whole space.
+/// Adds the tree of what is made of the greater number of two trees, for the scenarios of two spaces. If one tree's numbers
+/// are at least the other's everywhere, the other plays no part. The answer fits the space asked for. The space walked is
+/// what the forks on the way have left, and only says which parts of the trees are compared.
 pub(crate) fn greater_by<
     T: Copy,
     U: Copy,
@@ -106,14 +106,15 @@ pub(crate) fn greater_by<
         AddsTree (IsJoinedIn (λ x y z. F.post how.now.made.now (max (R.number how.now.read.now x) (S.number how.now.other_reading.now y)) z) spaces.old n m)
         out.old.items out.new.items) }
 {
+    // only the part of the other tree that the walk can come to counts
     let other = bounded_part(other, &spaces.walked);
     let own_span = span_of(own, how.read);
     let other_span = span_of(other, how.other_reading);
-    // no number of the other tree is above one of the first tree
+    // no number of the other tree is above one of the first tree: the first tree's numbers are the answer, and 0 raises none
     if own_span.is_at_least(other_span) {
         return at_least(own.items, &mut spaces.asked, 0, how.read, how.made, out);
     }
-    // no number of the first tree is above one of the other
+    // no number of the first tree is above one of the other: the other's numbers are the answer
     if other_span.is_at_least(own_span) {
         return at_least(
             other.items,
@@ -125,6 +126,7 @@ pub(crate) fn greater_by<
         );
     }
     match top_of(own.items) {
+        // one number is left of the first tree, so it is filled in below the other's
         Top::Value(value) => {
             let number = how.read.number(value);
             at_least(
@@ -143,6 +145,7 @@ pub(crate) fn greater_by<
             above,
         } => {
             let (below, above) = sides(own.bounds, below, above);
+            // if all scenarios go one way, the fork is left out
             match spaces.way(variable, cut) {
                 Way::Above(lows) => {
                     greater_by(above, other, spaces, how, out)?;
@@ -171,7 +174,7 @@ pub(crate) fn greater_by<
     }
 }
 
-/// Adds what is made of a value or the tree's number, whichever is greater, for all scenarios.
+/// Adds the tree of what is made of `value` or a tree's number, whichever is greater, for all scenarios.
 fn at_least_everywhere<T: Copy, V: Copy + Eq, R: Reading<T>, F: Fn(u64) -> V>(
     items: &[TreeItem<T>],
     value: u64,
@@ -186,11 +189,12 @@ fn at_least_everywhere<T: Copy, V: Copy + Eq, R: Reading<T>, F: Fn(u64) -> V>(
     ensures made { IfOk result (λ _. (n : TreeNode T) → items.now ≡ flat n →
         AddsTree (IsMapped (λ y z. F.post made.now (max value (R.number read.now y)) z) n) out.old.items out.new.items) }
 {
+    // the answer has no more items than the tree
     out.reserve(items.len())?;
     map_items(items, &|leaf: T| made(value.max(read.number(leaf))), out)
 }
 
-/// Adds what is made of the greater number of two trees in the scenarios of a space that the forks of both fit.
+/// Adds the tree of what is made of the greater number of two trees, for the scenarios of a space that both trees fit.
 fn greater_items<T: Copy, U: Copy, V: Copy + Eq, R: Reading<T>, S: Reading<U>, F: Fn(u64) -> V>(
     own: &[TreeItem<T>],
     other: &[TreeItem<U>],
@@ -209,6 +213,7 @@ fn greater_items<T: Copy, U: Copy, V: Copy + Eq, R: Reading<T>, S: Reading<U>, F
         AddsTree (IsJoined (λ x y z. F.post how.now.made.now (max (R.number how.now.read.now x) (S.number how.now.other_reading.now y)) z) space.now n m)
         out.old.items out.new.items) }
 {
+    // one of the trees is one number: the other is mapped, without a look at the space
     if let Top::Value(value) = top_of(own) {
         let number = how.read.number(value);
         return at_least_everywhere(other, number, how.other_reading, how.made, out);
@@ -217,7 +222,8 @@ fn greater_items<T: Copy, U: Copy, V: Copy + Eq, R: Reading<T>, S: Reading<U>, F
         let number = how.other_reading.number(value);
         return at_least_everywhere(own, number, how.read, how.made, out);
     }
-    // this looks at the leaves only, before any span of a fork is kept
+    // One tree is at least the other everywhere, and 0 raises none of its numbers. This looks at the leaves alone, before any
+    // span of a fork is kept.
     if is_at_least(own, how.read, other, how.other_reading) {
         return at_least_everywhere(own, 0, how.read, how.made, out);
     }
@@ -244,7 +250,7 @@ fn greater_by_bounds<T: Copy, U: Copy, V: Copy + Eq, R: Reading<T>, S: Reading<U
         AddsTree (IsJoined (λ x y z. F.post how.now.made.now (max (R.number how.now.read.now x) (S.number how.now.other_reading.now y)) z) space.now n m)
         out.old.items out.new.items) }
 {
-    // one list for both takes fewer and larger blocks than two
+    // one list for the spans of both takes fewer and larger blocks than two; half of a tree's items are forks
     let mut bounds = Vec::with_capacity(*out.allocator(), own.len() / 2 + other.len() / 2)?;
     push_bounds(own, how.read, &mut bounds)?;
     let forks = bounds.len();
@@ -262,13 +268,14 @@ fn greater_by_bounds<T: Copy, U: Copy, V: Copy + Eq, R: Reading<T>, S: Reading<U
         asked: *space,
         walked: *space,
     };
+    // a guess: the answer mostly has about as many items as the larger tree
     out.reserve(own.items.len().max(other.items.len()))?;
     greater_by(own, other, &mut spaces, how, out)
 }
 
-/// What a function makes in each scenario of the greater number of two trees whose leaves are read as numbers. If
-/// one tree's numbers are at least the other's everywhere, nothing of the other is tested; no clause asks for
-/// this. The one error is `OutOfMemory`.
+/// Returns what a function makes in each scenario of the greater number of two trees whose leaves are read as numbers.
+/// If one tree's numbers are at least the other's everywhere, nothing of the other is tested; no clause asks for this.
+/// The one error is `OutOfMemory`.
 pub fn greater_of<T: Copy, U: Copy, V: Copy + Eq, R: Reading<T>, S: Reading<U>, F: Fn(u64) -> V>(
     tree: &Tree<T>,
     read: &R,
@@ -297,7 +304,7 @@ pub fn greater_of<T: Copy, U: Copy, V: Copy + Eq, R: Reading<T>, S: Reading<U>, 
     Ok(Tree::of(tree.alloc(), faults, items))
 }
 
-/// In each scenario the greater value of two trees.
+/// Returns a tree that has in each scenario the greater of the values of two trees.
 pub fn max_of(tree: &Tree<u64>, other: &Tree<u64>) -> Result<Tree<u64>, OutOfMemory>
     requires same { tree.now.faults ≡ other.now.faults }
     ensures is { IfOk result (IsJoin (λ x y z. z ≡ max x y) tree.now other.now) }
@@ -308,7 +315,8 @@ pub fn max_of(tree: &Tree<u64>, other: &Tree<u64>) -> Result<Tree<u64>, OutOfMem
     greater_of(tree, &AsIs, other, &AsIs, &|number: u64| number)
 }
 
-/// In each scenario the greater of a tree's number and another's, 0 if that has none, later by a delay.
+/// Returns a tree that has in each scenario the greater of two numbers: that of `tree`, and that of `other` with the
+/// delay added (`time_later`). A scenario in which `other` has no number counts as 0 before the delay is added.
 pub fn max_later(
     tree: &Tree<u64>,
     other: &Tree<Option<u64>>,

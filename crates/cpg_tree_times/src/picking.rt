@@ -1,4 +1,5 @@
-//! What a chooser picks of a tree whose leaves are read as numbers and of a tree of numbers.
+//! The tree of the numbers that a chooser picks from two trees: from the first as its leaves are read, from the second as
+//! they are.
 ghost use Rattle.std.specs.Prelude.{◌≡◌, ◌≤◌, ℕ, Bool, All, IfOk, vec_len};
 ghost use Rattle.cpg_tree.specs.Added.{AddsTree, IsPicked};
 ghost use Rattle.cpg_tree.specs.Flat.{IsFlat, flat};
@@ -11,8 +12,8 @@ use cpg_base::OutOfMemory;
 use cpg_tree::fork::fork;
 use cpg_tree::{Later, Reading, Space, Top, Tree, TreeItem, part_in, top_of, within_items};
 
-/// Adds the numbers of one of two trees in the scenarios of a space: those of the first, as it is read, if a chooser
-/// is true.
+/// Adds the tree of the numbers of `on`, as they are read, if the chooser, whose list is `items`, is true, and otherwise of
+/// `off`, for the scenarios of a space.
 fn pick_read<T: Copy, R: Reading<T>>(
     items: &[TreeItem<bool>],
     space: &mut Space,
@@ -29,12 +30,13 @@ fn pick_read<T: Copy, R: Reading<T>>(
     ensures made { IfOk result (λ _. (c : TreeNode Bool) (n : TreeNode T) (m : TreeNode ℕ) → items.now ≡ flat c → on.now ≡ flat n → off.now ≡ flat m →
         AddsTree (IsPicked space.old c (read_by (R.number read.now) n) m) out.old.items out.new.items) }
 {
-    // this way no leaf walks through them from their tops
+    // both are cut down on the way, so that no leaf of the chooser walks through them from their tops
     let on = part_in(on, space);
     let off = part_in(off, space);
     match top_of(items) {
         Top::Value(is_on) => {
             if is_on {
+                // each number is at least 0, so this is the number itself
                 at_least(on, space, 0, read, &|number: u64| number, out)
             } else {
                 within_items(off, space, out)
@@ -46,12 +48,15 @@ fn pick_read<T: Copy, R: Reading<T>>(
             below,
             above,
         } => {
+            // all scenarios of the space go above the cut
             if !space.is_open_below(variable, cut) {
                 return pick_read(above, space, on, off, read, out);
             }
+            // all scenarios of the space go below the cut
             if !space.is_open_above(variable, cut) {
                 return pick_read(below, space, on, off, read, out);
             }
+            // the answers of both sides are added, each for its part of the space, and then a fork of the two
             let start = out.len();
             let most = space.close_above(variable, cut);
             pick_read(below, space, on, off, read, out)?;
@@ -65,8 +70,8 @@ fn pick_read<T: Copy, R: Reading<T>>(
     }
 }
 
-/// In each scenario the number of one of two trees. If a chooser is true there, it is the time of the first, 0 if
-/// that has none, later by a delay.
+/// Returns a tree that has in each scenario the number of one of two trees. Where a chooser is true, it is the time of
+/// the first with a delay added (`time_later`; no time counts as 0). Elsewhere it is the number of the second.
 pub fn pick_later(
     chooser: &Tree<bool>,
     times: &Tree<Option<u64>>,

@@ -1,4 +1,4 @@
-//! What becomes of the values of trees.
+//! Functions that make a tree from the values of others. In each, `tree` and `other` are over the same scenarios.
 ghost use Rattle.std.specs.Prelude.{ℕ, ◌≡◌, max, Bool, None, Some, IfOk};
 ghost use Rattle.cpg_base.specs.Numbers.{same_bool};
 ghost use Rattle.cpg_tree_times.specs.Values.{time_if, ended, slot_at, slot_if, slot_from};
@@ -11,10 +11,11 @@ use cpg_base::OutOfMemory;
 use cpg_bus::Share;
 use cpg_tree::{AsIs, Later, Tree, time_later};
 
-/// A time from which the next slot isn't asked for.
+/// From this time on no slot is looked for, since the next one might go past 64 bits. The ends of an admitted graph
+/// are below it.
 const LATE: u64 = 1 << 59;
 
-/// The times of a tree, or 0, later by a delay.
+/// Returns the times of a tree later by a delay, as `time_later` adds it; a scenario without a time counts as time 0.
 pub fn later(tree: &Tree<Option<u64>>, delay: u64) -> Result<Tree<u64>, OutOfMemory>
     ensures is { IfOk result (IsMap (λ x z. z ≡ time_later delay x) tree.now) }
     ensures each { IfOk result (λ t. HasOnePathEach t.faults t.paths) }
@@ -23,7 +24,7 @@ pub fn later(tree: &Tree<Option<u64>>, delay: u64) -> Result<Tree<u64>, OutOfMem
     tree.map(&|time: Option<u64>| time_later(time, delay))
 }
 
-/// The times of a tree or a release, whichever is later, as starts in all scenarios.
+/// Returns the times of a tree or a release, whichever is later, as starts in all scenarios.
 pub fn started(tree: &Tree<u64>, release: u64) -> Result<Tree<Option<u64>>, OutOfMemory>
     ensures is { IfOk result (λ t. IsMap (λ x z. z ≡ Some (max x release)) tree.now t) }
     ensures each { IfOk result (λ t. HasOnePathEach t.faults t.paths) }
@@ -32,7 +33,8 @@ pub fn started(tree: &Tree<u64>, release: u64) -> Result<Tree<Option<u64>>, OutO
     tree.map(&|time: u64| Some(time.max(release)))
 }
 
-/// The times of a tree, or 0, later by a delay, or the numbers of another tree, whichever are later.
+/// Returns in each scenario the later of two: the time of a tree (0 if it has none) with a delay added, and the number
+/// of another tree.
 pub fn later_or(
     tree: &Tree<Option<u64>>,
     delay: u64,
@@ -46,7 +48,8 @@ pub fn later_or(
     greater_of(tree, &Later { delay }, other, &AsIs, &|number: u64| number)
 }
 
-/// The times of a tree, or 0, later by a delay, or those of another tree, or 0, whichever are later.
+/// Returns in each scenario the later of two: the time of a tree with a delay added, and the time of another tree. A
+/// scenario without a time counts as time 0.
 pub fn later_of(
     tree: &Tree<Option<u64>>,
     delay: u64,
@@ -66,8 +69,8 @@ pub fn later_of(
     )
 }
 
-/// The numbers of a tree, the times of another one later by a delay, or a release, whichever are later, as starts in all
-/// scenarios.
+/// Returns the numbers of a tree, the times of another one later by a delay, or a release, whichever are later, as
+/// starts in all scenarios.
 pub fn started_or(
     tree: &Tree<u64>,
     other: &Tree<Option<u64>>,
@@ -88,7 +91,8 @@ pub fn started_or(
     )
 }
 
-/// The times of a tree later by a delay, those of another one, or a release, whichever are later, as starts in all scenarios.
+/// Returns the times of a tree later by a delay, those of another one, or a release, whichever are later, as starts in
+/// all scenarios.
 pub fn started_of(
     tree: &Tree<Option<u64>>,
     delay: u64,
@@ -109,7 +113,7 @@ pub fn started_of(
     )
 }
 
-/// The starts that `started_or` has where a tree is true, and no start elsewhere.
+/// Returns the starts that `started_or` has where a tree is true, and no start elsewhere.
 pub fn started_or_where(
     active: &Tree<bool>,
     tree: &Tree<u64>,
@@ -135,7 +139,7 @@ pub fn started_or_where(
     )
 }
 
-/// The starts that `started_of` has where a tree is true, and no start elsewhere.
+/// Returns the starts that `started_of` has where a tree is true, and no start elsewhere.
 pub fn started_of_where(
     active: &Tree<bool>,
     tree: &Tree<Option<u64>>,
@@ -161,7 +165,7 @@ pub fn started_of_where(
     )
 }
 
-/// A tree that is true where a given one has a value.
+/// Returns a tree that is true where a given one has a value.
 pub fn same_as(tree: &Tree<bool>, wanted: bool) -> Result<Tree<bool>, OutOfMemory>
     ensures is { IfOk result (IsMap (λ x z. z ≡ same_bool wanted x) tree.now) }
     ensures each { IfOk result (λ t. HasOnePathEach t.faults t.paths) }
@@ -170,21 +174,21 @@ pub fn same_as(tree: &Tree<bool>, wanted: bool) -> Result<Tree<bool>, OutOfMemor
     tree.map(&|value: bool| is_same(wanted, value))
 }
 
-/// Whether two values are equal.
+/// Whether two values are equal; by a function of its own, since a definition speaks of it.
 fn is_same(first: bool, second: bool) -> bool
     ensures { result ≡ same_bool first second }
 {
     first == second
 }
 
-/// The time, if the value is true.
+/// Returns the time if `is` is true, and `None` otherwise.
 fn time_if(is: bool, time: u64) -> Option<u64>
     ensures { result ≡ time_if time is }
 {
     if is { Some(time) } else { None }
 }
 
-/// One time wherever a tree is true.
+/// Returns a tree that has one time wherever the given tree is true, and no time elsewhere.
 pub fn fixed(tree: &Tree<bool>, time: u64) -> Result<Tree<Option<u64>>, OutOfMemory>
     ensures is { IfOk result (IsMap (λ x z. z ≡ time_if time x) tree.now) }
     ensures each { IfOk result (λ t. HasOnePathEach t.faults t.paths) }
@@ -193,11 +197,13 @@ pub fn fixed(tree: &Tree<bool>, time: u64) -> Result<Tree<Option<u64>>, OutOfMem
     tree.map(&|is: bool| time_if(is, time))
 }
 
-/// The end of an execution with this number of faults, if there is a start.
+/// Returns the end of an execution that starts at this time and has this many faults, at most `u64::MAX`; `None` if it
+/// doesn't start. `durations` has the duration for each number of faults.
 fn ended(start: Option<u64>, durations: &[u64], faults: u8) -> Option<u64>
     ensures { result ≡ ended durations.now faults start }
 {
     let start = start?;
+    // 0 if `durations` has no such number; callers have one for each up to k
     let duration = match durations.get(faults as usize) {
         Some(duration) => *duration,
         None => 0,
@@ -205,7 +211,7 @@ fn ended(start: Option<u64>, durations: &[u64], faults: u8) -> Option<u64>
     Some(start.saturating_add(duration))
 }
 
-/// The ends of executions that start at the times of a tree, if one with this number of faults lasts that long.
+/// Returns the ends of executions that start at the times of a tree, if one with this number of faults lasts that long.
 pub fn ends(
     start: &Tree<Option<u64>>,
     faults: &Tree<u8>,
@@ -222,7 +228,7 @@ pub fn ends(
     )
 }
 
-/// The first slot at the time or later, and 0 if none is asked for.
+/// Returns the first slot at the time or later, and 0 if none is asked for.
 pub fn slot_at(share: Share, time: Option<u64>) -> u64
     ensures { result ≡ slot_at share time }
 {
@@ -238,7 +244,7 @@ pub fn slot_at(share: Share, time: Option<u64>) -> u64
     }
 }
 
-/// The slot, if one is asked for.
+/// Returns the slot if there is a time and it is before `LATE`, and `None` otherwise.
 fn slot_if(time: Option<u64>, slot: u64) -> Option<u64>
     ensures { result ≡ slot_if slot time }
 {
@@ -246,7 +252,8 @@ fn slot_if(time: Option<u64>, slot: u64) -> Option<u64>
     if time < LATE { Some(slot) } else { None }
 }
 
-/// The first slots at the times of a tree or later, and 0 if none is asked for.
+/// Returns a tree with the first slot at the time of `end` or later, and 0 where there is no time or it is `LATE` or
+/// later.
 fn next_slots(share: Share, end: &Tree<Option<u64>>) -> Result<Tree<u64>, OutOfMemory>
     ensures is { IfOk result (IsMap (λ x z. z ≡ slot_at share x) end.now) }
     ensures each { IfOk result (λ t. HasOnePathEach t.faults t.paths) }
@@ -255,7 +262,7 @@ fn next_slots(share: Share, end: &Tree<Option<u64>>) -> Result<Tree<u64>, OutOfM
     end.map(&|time: Option<u64>| slot_at(share, time))
 }
 
-/// The slots of a tree, if one is asked for.
+/// Returns a tree with the slot of `slots` where `end` has a time before `LATE`, and none elsewhere.
 fn asked(end: &Tree<Option<u64>>, slots: &Tree<u64>) -> Result<Tree<Option<u64>>, OutOfMemory>
     requires { end.now.faults ≡ slots.now.faults }
     ensures is { IfOk result (IsJoin (λ x y z. z ≡ slot_if y x) end.now slots.now) }
@@ -268,7 +275,7 @@ fn asked(end: &Tree<Option<u64>>, slots: &Tree<u64>) -> Result<Tree<Option<u64>>
     )
 }
 
-/// The first slots at the times of a tree or later that are free.
+/// Returns the first slots at the times of a tree or later that are free.
 pub fn slots(
     share: Share,
     end: &Tree<Option<u64>>,

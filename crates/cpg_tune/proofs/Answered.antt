@@ -1,4 +1,4 @@
--- One more answer of a judge.
+-- A list of a judge's answers, by fault number, with one answer more.
 use Rattle.std.proofs.Common.{ℕ, ◌+◌, ◌<◌, ◌≡◌, List, [], ◌∷◌, ◌++◌, sym, ap, ◌∙◌, subst, inl, inr, arith}
 use Rattle.std.proofs.Common.{ltb-true, ltb-false}
 use Rattle.std.specs.Prelude.{nat_lt}
@@ -10,7 +10,8 @@ use Rattle.cpg_tune.specs.declared.judge.Judged.{Judged}
 use Rattle.cpg_tune.specs.declared.judge.Judged.TheVariants.{Wide}
 use Rattle.cpg_tune.specs.Tuned.{AreAnswers, row_at}
 
--- one more answer, for the next number of faults
+-- With the answer for the next fault number at its end, a list of answers has one more.
+-- A number is one of those before, or the next one, whose answer stands at the end.
 pub answers_push : (answers : Graph → Judged → Type 0) (g : Graph) (count : ℕ) (judged : List Judged) (next : Judged) →
     AreAnswers answers g count judged → answers (with_fault_number g count) next →
     AreAnswers answers g (count + 1) (judged ++ next ∷ [])
@@ -22,6 +23,7 @@ answers_push answers g count judged next are new = record {
   ];
 }
   where
+    -- the new answer is that for the fault number `count`
     last : answers (with_fault_number g count) (row_at (judged ++ next ∷ []) count)
     last = subst (answers (with_fault_number g count)) (sym (get_or_push judged next (Wide 0) count are.long)) new
 

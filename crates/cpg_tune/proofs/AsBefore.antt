@@ -103,7 +103,8 @@ retuned_within g parts faults w a few = record {
         (get_or (in_parts_each g.processes parts) i d).name ≡ (get_or g.processes i d).name
     name_at i d l = ap (λ (p : Process). p.name) (each_at g.processes parts i d a.one_each l)
 
--- the best parts are from 1 to 255
+-- The best parts are from 1 to 255.
+-- Each is a best number of parts, which lies in this range.
 pub best_parts_of : (g : Graph) → ArePartsOf g (best_parts g)
 best_parts_of g = record {
   one_each = length-map g.processes (λ (p : Process). best_of p g.faults);
@@ -133,7 +134,8 @@ duration_at : (g : Graph) (parts : List ℕ) → ArePartsOf g parts → (faults 
     duration (retuned g parts faults) p f ≡ duration_in (process_at g p) f (get_or parts p 0)
 duration_at g parts a faults p f l = ap (λ (q : Process). duration_of q f) (each_at g.processes parts p _ a.one_each l)
 
--- with the best parts no execution with all the faults lasts longer than with any other parts
+-- With the best parts no execution with all the faults lasts longer than with any other parts.
+-- The parts of a process are the best ones in the one graph, and others from 1 to 255 in the other.
 pub tuned_least : (g : Graph) (parts : List ℕ) → ArePartsOf g parts → (p : ℕ) → p < process_count g →
     duration (row_graph g g.faults) p g.faults ≤ duration (retuned g parts g.faults) p g.faults
 tuned_least g parts a p l =

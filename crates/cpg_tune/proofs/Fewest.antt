@@ -22,9 +22,12 @@ range_push a n j e =
 
 -- the first of 1 to n where a function is least
 record IsFirstLeast (d : ℕ → ℕ) (n best : ℕ) : Type 0 where
+  -- it is one of 1 to n
   some : 1 ≤ best
   few : best ≤ n
+  -- the function is nowhere less
   least : (m : ℕ) → 1 ≤ m → m ≤ n → d best ≤ d m
+  -- before it, the function is greater
   first : (m : ℕ) → 1 ≤ m → m < best → d best < d m
 
 -- the first least number is compared with one more
@@ -32,6 +35,7 @@ first_next : (d : ℕ → ℕ) (n best : ℕ) → IsFirstLeast d n best →
     IsFirstLeast d (n + 1) (cond (nat_lt (d (n + 1)) (d best)) (n + 1) best)
 first_next d n best h = go (nat_lt (d (n + 1)) (d best)) refl
   where
+    -- a number up to n + 1 is at most n, or is n + 1
     or_last : (m : ℕ) → m ≤ n + 1 → (m ≤ n) ⊎ (m ≡ n + 1)
     or_last m l = elim (cases_lt n m) [ inl a ↦ inr (omega (arith, a, l)) | inr b ↦ inl b ]
 
@@ -74,7 +78,8 @@ one_first d = record {
   first = λ m some l. absurd (omega (arith, some, l));
 }
 
--- with at least as many parts as units of work each part is one unit
+-- With at least as many parts as units of work each part is one unit.
+-- It is less than two units, since the parts would be longer than the work, and not none.
 one_unit : (work parts : ℕ) → 1 ≤ work → work ≤ parts → div_ceil work parts ≡ 1
 one_unit work parts some many =
     let whole = div_ceil_times work parts (omega (arith, some, many)) in
@@ -125,7 +130,8 @@ module _ (p : Process) (faults : ℕ) where
       (one_unit p.wcet n some many ∙ sym (one_unit p.wcet (n + 1) some (omega (arith, many)))) in
       omega (arith, more, same)
 
-  -- beyond as many parts as units of work the first that lasts least stays the same
+  -- Beyond as many parts as units of work the first that lasts least stays the same.
+  -- By induction on how many beyond: one part more is no shorter, so it doesn't take the place.
   fewest_stays : (n : ℕ) → 1 ≤ p.wcet → p.wcet ≤ n → (k : ℕ) → fewest (n + k) ≡ fewest n
   fewest_stays n some many zero = ap fewest (let e : n + zero ≡ n = omega arith in e)
   fewest_stays n some many (suc k) =

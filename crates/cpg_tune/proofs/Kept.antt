@@ -39,7 +39,9 @@ use Rattle.cpg_tune.specs.RetunedLaws.{KeepsRules, ShowsNoFault}
 
 -- a process keeps its node and whether it is a join
 record IsAlike (p q : Process) : Type 0 where
+  -- both are on the same node
   pub node : p.node ≡ q.node
+  -- both are joins, or neither is
   pub join : p.join ≡ q.join
 
 -- a retuned process keeps its node and whether it is a join
@@ -71,7 +73,7 @@ module _ (g : Graph) (parts : List ℕ) (faults : ℕ) (one_each : length parts 
   conditions_same : condition_count h ≡ condition_count g
   conditions_same = ap length (disjunctions_same g parts faults one_each)
 
-  -- of the same processes
+  -- each condition is of the same process
   process_of_same : (c : ℕ) → process_of h c ≡ process_of g c
   process_of_same c = ap (λ ps. get_or ps c 0) (disjunctions_same g parts faults one_each)
 
@@ -82,7 +84,8 @@ module _ (g : Graph) (parts : List ℕ) (faults : ℕ) (one_each : length parts 
   value_same values p = ap (λ ps. get_or values (unwrap_or (position (λ q. q == p) ps) 0) false)
       (disjunctions_same g parts faults one_each)
 
-  -- a retuned graph has the same activations
+  -- A retuned graph has the same activations.
+  -- By induction on the depth: joins, inputs and conditions are the same.
   within_same : (depth : ℕ) (values : List Bool) (p : ℕ) →
       activation_within depth h values p ≡ activation_within depth g values p
   within_same zero values p = refl
@@ -122,7 +125,7 @@ module _ (g : Graph) (parts : List ℕ) (faults : ℕ) (one_each : length parts 
       ap (λ n. length (filter (is_track h) (outcomes n))) conditions_same
       ∙ ap length (same_filter (is_track h) (is_track g) (outcomes (condition_count g)) (λ o among. track_same o))
 
-  -- single joins stay so
+  -- no join of the retuned graph has two live inputs either
   joins_same : HasSingleJoins g → HasSingleJoins h
   joins_same single p values l join long =
       subst (λ n. n ≤ 1)
@@ -146,13 +149,13 @@ module _ (g : Graph) (parts : List ℕ) (faults : ℕ) (one_each : length parts 
   sent_same (Message e) = message_same e
   sent_same (Broadcast c) = refl
 
-  -- by the same processes
+  -- each item has the same producer
   producer_same : (i : Item) → producer_of_item h i ≡ producer_of_item g i
   producer_same (Start p) = refl
   producer_same (Message e) = refl
   producer_same (Broadcast c) = process_of_same c
 
-  -- of the same nodes
+  -- each item has the same home
   home_same : (x : ℕ) → home h x ≡ home g x
   home_same x =
       node_same (producer h x) ∙ ap (node_of g) (ap (producer_of_item h) (item_same x) ∙ producer_same (item_at g x))
@@ -190,6 +193,7 @@ module _ (g : Graph) (parts : List ℕ) (faults : ℕ) (one_each : length parts 
   given_same : GivesTopological g → GivesTopological h
   given_same = go g.order
     where
+      -- by whether the graph gives an order
       go : (o : Option (List ℕ)) → IfSome o (IsTopological g) → IfSome o (IsTopological h)
       go None none = none
       go (Some order) top = topological_same order top
@@ -205,7 +209,8 @@ module _ (g : Graph) (parts : List ℕ) (faults : ℕ) (one_each : length parts 
     given = given_same;
   }
 
--- a graph that keeps the rules of an admitted one shows no fault but that memory runs out
+-- A graph that keeps the rules of an admitted one shows no fault but that memory runs out.
+-- Fault by fault: each would break a rule that the graph keeps.
 pub no_fault : (g h : Graph) (order : List ℕ) (guards : Guards) → IsAdmitted g order guards → KeepsRules g h →
     ShowsNoFault h
 no_fault g h order guards is keeps (Cycle walk) shows =

@@ -11,13 +11,15 @@ IsLastFrom from found rows last =
     ⊎ ((k : ℕ) × (k < length rows) × (last ≡ Some (from + k)) × (is_accepted (row_at rows k) ≡ true) ×
     ((m : ℕ) → k < m → m < length rows → is_accepted (row_at rows m) ≡ false))
 
--- counting the rows finds the last one that is accepted
+-- Counting the rows finds the last one that is accepted.
+-- By induction on the rows: a later accepted row takes the place of what was found.
 last_from : (from : ℕ) (found : Option ℕ) (rows : List Judged) →
     IsLastFrom from found rows (tolerated_from from found rows)
 last_from from found [] = inl (refl, λ k l. absurd (omega (arith, l)))
 last_from from found (row ∷ rows) =
     go (is_accepted row) refl (last_from (from + 1) (cond (is_accepted row) (Some from) found) rows)
   where
+    -- if no later row is accepted, none behind the first is
     none_later : ((k : ℕ) → k < length rows → is_accepted (row_at rows k) ≡ false) → (m : ℕ) → 0 < m →
         m < suc (length rows) →
         is_accepted (row_at (row ∷ rows) m) ≡ false
@@ -54,6 +56,7 @@ last_from from found (row ∷ rows) =
 pub tolerated_greatest : (rows : List Judged) → IsGreatestAccepted rows (tolerated rows)
 tolerated_greatest rows = go (tolerated rows) (last_from 0 None rows)
   where
+    -- by what the search from the first row finds
     go : (last : Option ℕ) → IsLastFrom 0 None rows last → IsGreatestAccepted rows last
     go last (inl (is, none)) = subst (IsGreatestAccepted rows) (sym is) none
     go last (inr (k, within, is, accepted, none)) =

@@ -9,15 +9,15 @@ use Rattle.cpg_tune.specs.Retuned.{retuned, ArePartsOf}
 use Rattle.cpg_tune.specs.Asked.{row_graph}
 use Rattle.cpg_tune.specs.Tuned.{tolerated, IsGreatestAccepted}
 
--- no number of parts lasts less than the best, and each lesser one lasts longer
+-- `best_of` is the best number of parts of each process for any fault number
 abbrev pub BestPartsAreBest : Type 0
 BestPartsAreBest = (p : Process) (faults : ℕ) → IsBest p faults (best_of p faults)
 
--- each process of the tuned graph lasts at most as long as in the graph in any other parts
+-- with the best parts an execution with k faults lasts at most as long as with any other parts
 abbrev pub TunedLastLeast : Type 0
 TunedLastLeast = (g : Graph) (parts : List ℕ) → ArePartsOf g parts → (p : ℕ) → p < process_count g →
     duration (row_graph g g.faults) p g.faults ≤ duration (retuned g parts g.faults) p g.faults
 
--- the faults that are tolerated are the greatest number whose row is accepted
+-- `tolerated` is the greatest fault number whose row is accepted, and None exactly if no row is
 abbrev pub ToleratedIsGreatest : Type 0
 ToleratedIsGreatest = (rows : List Judged) → IsGreatestAccepted rows (tolerated rows)

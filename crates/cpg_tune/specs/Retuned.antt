@@ -6,7 +6,8 @@ use Rattle.cpg_base.specs.declared.process.Process.{Process}
 use Rattle.cpg_base.specs.Graph.{Graph, process_count}
 use Rattle.cpg_tune.specs.Best.{in_parts}
 
--- each process with the number of parts at its place
+-- Each process with the number of parts at its place: `pair.0` is the process, `pair.1` its parts. If one list is longer,
+-- the rest of it is left out.
 abbrev pub in_parts_each : List Process → List ℕ → List Process
 in_parts_each ps parts = map (λ pair. in_parts pair.0 pair.1) (zip ps parts)
 
@@ -14,8 +15,9 @@ in_parts_each ps parts = map (λ pair. in_parts pair.0 pair.1) (zip ps parts)
 abbrev pub retuned : Graph → List ℕ → ℕ → Graph
 retuned g parts faults = record g { faults = faults; processes = in_parts_each g.processes parts }
 
--- one number of parts for each process, each from 1 to 255
+-- the list has a number of parts for each process of the graph
 pub record ArePartsOf (g : Graph) (parts : List ℕ) : Type 0 where
+  -- there is one for each process
   pub one_each : length parts ≡ process_count g
   -- each number is from 1 to 255
   pub divided : All (λ n. 1 ≤ n) parts

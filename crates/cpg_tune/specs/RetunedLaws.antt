@@ -1,4 +1,4 @@
--- A graph that keeps all rules keeps them with other parts and another fault number: no rule rests on these.
+-- A graph that keeps the rules of admission keeps them with other parts and another fault number: no rule looks at these.
 use Rattle.std.specs.Prelude.{ℕ, ◌≡◌, List, length}
 use Rattle.cpg_base.specs.Graph.{Graph, process_count}
 use Rattle.cpg_base.specs.WellFormed.{HasSingleJoins, HasSenderSlots}
@@ -14,23 +14,24 @@ use Rattle.cpg_rules.specs.Faults.{ShowsFault}
 use Rattle.cpg_tune.specs.Retuned.{retuned}
 use Rattle.cpg_tune.specs.Asked.{row_graph}
 
--- if the first graph keeps the rules, so does the second
+-- graph h keeps each rule of admission that graph g keeps
 pub record KeepsRules (g h : Graph) : Type 0 where
-  -- a cycle of the second graph is one of the first
+  -- if the second graph has a cycle, the first has one
   pub cycle : HasCycle h → HasCycle g
   -- both have equally many tracks
   pub tracks : track_count h ≡ track_count g
+  -- the other rules: on joins, on slots, on sizes of messages, and on a given order
   pub joins : HasSingleJoins g → HasSingleJoins h
   pub slots : HasSenderSlots g → HasSenderSlots h
   pub sizes : AllFit g → AllFit h
   pub given : GivesTopological g → GivesTopological h
 
--- with a number of parts for each process, and any fault number
+-- a graph with any parts and any fault number keeps the rules that the graph itself keeps
 abbrev pub RetunedKeepRules : Type 0
 RetunedKeepRules =
     (g : Graph) (parts : List ℕ) (faults : ℕ) → length parts ≡ process_count g → KeepsRules g (retuned g parts faults)
 
--- no fault is shown but that memory runs out
+-- the graph isn't refused, except that memory may run out
 abbrev pub ShowsNoFault : Graph → Type 0
 ShowsNoFault g = (fault : RuleFault) → ShowsFault g fault → fault ≡ OutOfMemory
 

@@ -1,4 +1,5 @@
--- The least scenario by a tree of tests: at a leaf, and from those of both arms of a test.
+-- The least scenario of a cube in which a guard's process is active, or isn't: at a leaf of the guard, and at a test
+-- from the answers for its two sides, for false and for true.
 use Rattle.std.proofs.Common.{ℕ, ◌≡◌, Bool, true, false, cond, not, ◌&&◌, ◌||◌, List, get_or, Option, None, refl, ap}
 use Rattle.std.proofs.Common.{◌∙◌}
 use Rattle.std.specs.Prelude.{nat_le}
@@ -22,7 +23,7 @@ use Rattle.cpg_violation.proofs.Tests.{with_true}
 
 -- ---- a value's literal
 
--- a value has the number of another exactly if it is that value
+-- the number of value `v` is at least and at most that of `b` exactly if the two values are the same
 same_value : (b v : Bool) →
     (nat_le (number_of_value b) (number_of_value v) && nat_le (number_of_value v) (number_of_value b)) ≡ same_bool b v
 same_value true true = refl
@@ -38,7 +39,8 @@ value_holds s c b = ap (λ n. nat_le (number_of_value b) n && nat_le n (number_o
 
 -- ---- the steps
 
--- one of the two arms of a test has what is wanted exactly if the arm that the value chooses has it
+-- a test goes on at the side for the condition's value, `v`, so what is asked (`m`, and that the test comes to what is
+-- wanted) passes just if it passes at the one side and `v` is the value for it
 of_arms : (v m : Bool) (wanted : Bool) (off on : Activation) →
     ((same_bool false v && (m && same_bool wanted (is_active off)))
     || (same_bool true v && (m && same_bool wanted (is_active on)))) ≡
@@ -46,34 +48,36 @@ of_arms : (v m : Bool) (wanted : Bool) (off on : Activation) →
 of_arms true m wanted off on = refl
 of_arms false m wanted off on = or-false (m && same_bool wanted (is_active off))
 
--- the first part of a conjunction put in front of the others together
+-- of four tests that all have to pass, the first may be put in front of the others
 moved : (h m n x : Bool) → (((h && m) && n) && x) ≡ (h && ((m && n) && x))
 moved true m n x = refl
 moved false m n x = refl
 
--- if two parts don't hold together, nothing holds with them
+-- if the first two of four tests don't both pass, not all do
 never : (h m n x : Bool) → (h && m) ≡ false → (h && ((m && n) && x)) ≡ false
 never true m n x e = ap (λ b. (b && n) && x) e
 never false m n x e = refl
 
+-- the scenarios that `cube` matches and no cube of `by` does, and in which a process is active (`wanted`) or isn't
 module _ (g : Graph) (order : List ℕ) (by : List (List Literal)) (wanted : Bool) (cube : List Literal) where
-  -- at a leaf that comes to what is wanted, the first scenario left of the cube is the answer
+  -- at a leaf that is what is wanted, the least scenario that is left of the cube is the answer
   pub at_leaf : (a : Activation) (o : Option Scenario) → same_bool wanted (is_active a) ≡ true →
       IsFirst g order (is_left by cube) o →
       IsFirst g order (λ s. is_left by cube s && comes_to (Leaf a) wanted s) o
   at_leaf a o e f = first_same g order (is_left by cube) (λ s. is_left by cube s && comes_to (Leaf a) wanted s) o
       (λ s _. with_true (is_left by cube s) (same_bool wanted (is_active a)) e) f
 
-  -- at another leaf, there is none
+  -- at a leaf that isn't, there is none
   pub at_other_leaf : (a : Activation) → same_bool wanted (is_active a) ≡ false →
       IsFirst g order (λ s. is_left by cube s && comes_to (Leaf a) wanted s) None
   at_other_leaf a e = λ s _. and_right (is_left by cube s) (same_bool wanted (is_active a)) e
 
-  -- at a test, the earlier of the answers with the condition false and true is the answer
+  -- at a test, the earlier of the answers with the condition false and with it true is the answer
   pub at_test : (c : ℕ) (off on : Guard) (a b : Option Scenario)
       → IsFirst g order (λ s. holds s (value_literal c false) && (is_left by cube s && comes_to off wanted s)) a
       → IsFirst g order (λ s. holds s (value_literal c true) && (is_left by cube s && comes_to on wanted s)) b
       → IsFirst g order (λ s. is_left by cube s && comes_to (Test c off on) wanted s) (earlier g order a b)
+  -- by `first_or` it is the answer for one or the other; and in each scenario only the side for the value there counts
   at_test c off on a b f h = first_same g order
       (λ s. (holds s (value_literal c false) && (is_left by cube s && comes_to off wanted s))
       || (holds s (value_literal c true) && (is_left by cube s && comes_to on wanted s)))
@@ -85,8 +89,9 @@ module _ (g : Graph) (order : List ℕ) (by : List (List Literal)) (wanted : Boo
       ∙ of_arms (get_or s.values c false) (is_left by cube s) wanted (outcome_at off s.values) (outcome_at on s.values))
       (first_or g order _ _ a b f h)
 
+  -- a literal that has to hold as well, and the guard that is asked there
   module _ (l : Literal) (tree : Guard) where
-    -- what is first in the part of the cube that has the literal is first in the cube where the literal holds
+    -- the answer for the part of the cube that the literal leaves is that for the cube where the literal holds
     pub where_holds : (part : List Literal) (o : Option Scenario) →
         ((s : Scenario) → matches part s ≡ (holds s l && matches cube s)) →
         IsFirst g order (λ s. is_left by part s && comes_to tree wanted s) o
@@ -96,7 +101,7 @@ module _ (g : Graph) (order : List ℕ) (by : List (List Literal)) (wanted : Boo
         (λ s _. ap (λ m. (m && not (list_any (λ b. matches b s) by)) && comes_to tree wanted s) (both s) ∙
         moved (holds s l) (matches cube s) (not (list_any (λ b. matches b s) by)) (comes_to tree wanted s)) f
 
-    -- if the cube never matches together with the literal, there is none
+    -- if the literal holds nowhere that the cube matches, there is none
     pub where_never : ((s : Scenario) → (holds s l && matches cube s) ≡ false) →
         IsFirst g order (λ s. holds s l && (is_left by cube s && comes_to tree wanted s)) None
     where_never none = λ s _.

@@ -1,4 +1,4 @@
--- Columns that no scenario matches together with a cube are left out of the places that are found.
+-- The loop of `meeting`: it keeps the place of each column that some scenario matches together with a cube.
 use Rattle.std.proofs.Common.{ℕ, ◌+◌, ◌<◌, ◌≤◌, ◌≡◌, true, false, ◌&&◌, List, [], ◌∷◌, ◌++◌, length, get_or, take}
 use Rattle.std.proofs.Common.{Contains, sym, subst, ⊎_elim}
 use Rattle.std.proofs.lemmas.Bool.{and_from, both_ways}
@@ -10,21 +10,24 @@ use Rattle.cpg_cube.specs.declared.literal.Literal.{Literal}
 use Rattle.cpg_cube.specs.declared.column.Column.{Column}
 use Rattle.cpg_cube.specs.Column.{column_at}
 
+-- the columns of a row, the cube, and the places that the loop goes over
 module _ (columns : List Column) (cube : List Literal) (places : List ℕ) where
-  -- those of the places so far are there whose columns match together with the cube
+  -- `kept` has each of the first `n` places whose column matches together with the cube in some scenario
   abbrev pub MeetsFirst : ℕ → List ℕ → Type 0
   MeetsFirst n kept = (s : Scenario) (i : ℕ) → Contains (take n places) i → i < length columns →
       matches (column_at columns i).cube s ≡ true → matches cube s ≡ true → Contains kept i
 
-  -- past the last place, all columns that match together with the cube are kept
+  -- after the last place, `kept` has all such places
   pub meets_all : (kept : List ℕ) (k : ℕ) → length places ≤ k → MeetsFirst k kept
       → (s : Scenario) (i : ℕ) → Contains places i → i < length columns → matches (column_at columns i).cube s ≡ true →
       matches cube s ≡ true → Contains kept i
   meets_all kept k past h s i c l m e = h s i (subst (λ xs. Contains xs i) (sym (take_all k places past)) c) l m e
 
+  -- place `k` is the next one (`d` is only the default of `get_or`)
   module _ (kept : List ℕ) (k d : ℕ) (within : k < length places) where
-    -- with the next place kept, those of one place more are kept
+    -- if the next place is added, `kept` has all such places up to it
     pub meets_push : MeetsFirst k kept → MeetsFirst (k + 1) (kept ++ get_or places k d ∷ [])
+    -- a place that is asked for is one of those before, or this one
     meets_push h s i c l m e = ⊎_elim
         (λ (b : Contains (take k places) i). Contains-append_left kept (get_or places k d ∷ []) i (h s i b l m e))
         (λ (q : get_or places k d ≡ i).
@@ -32,11 +35,12 @@ module _ (columns : List Column) (cube : List Literal) (places : List ℕ) where
         (Contains-push_cases (take k places) (get_or places k d) i
         (subst (λ xs. Contains xs i) (take_more places k d within) c))
 
-    -- so they are without it if its column never matches together with the cube
+    -- so it has without it, if its column matches together with the cube in no scenario
     pub meets_skip : ((s : Scenario) → get_or places k d < length columns →
         (matches cube s && matches (column_at columns (get_or places k d)).cube s) ≡ false) →
         MeetsFirst k kept →
         MeetsFirst (k + 1) kept
+    -- a place that is asked for is one of those before: this one isn't, as its column doesn't match where the cube does
     meets_skip off h s i c l m e = ⊎_elim
         (λ (b : Contains (take k places) i). h s i b l m e)
         (λ (q : get_or places k d ≡ i).

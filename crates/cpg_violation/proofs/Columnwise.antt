@@ -1,4 +1,4 @@
--- Going over the elements of a list, and over the columns of a row, by the least scenario that breaks each.
+-- The least scenario for any of several elements, from those for each; and for the column at a place of a row.
 use Rattle.std.proofs.Common.{ℕ, ◌+◌, ◌<◌, ◌≤◌, ◌≡◌, Bool, true, false, cond, ◌&&◌, ◌||◌, List, [], ◌∷◌, length, get_or}
 use Rattle.std.proofs.Common.{take, filter, Option, refl, sym, ap, ◌∙◌}
 use Rattle.std.specs.List.{list_any}
@@ -13,12 +13,12 @@ use Rattle.cpg_cube.specs.Cube.{matches}
 use Rattle.cpg_cube.specs.declared.column.Column.{Column}
 use Rattle.cpg_violation.specs.Broken.{is_broken}
 
--- what is common to both sides of a disjunction may be put in front
+-- a test that is asked along with either of two may be asked once
 both_or : (m a b : Bool) → ((m && a) || (m && b)) ≡ (m && (a || b))
 both_or true a b = refl
 both_or false a b = refl
 
--- some element that was kept passes exactly if some element was kept and passes
+-- some element of those that are kept passes exactly if some element is kept and passes; by induction on `xs`
 pub any_filter : {X : Type 0} (test keep : X → Bool) (xs : List X) →
     list_any test (filter keep xs) ≡ list_any (λ x. keep x && test x) xs
 any_filter test keep [] = refl
@@ -31,10 +31,10 @@ any_filter test keep (x ∷ xs) = go (keep x) (any_filter test keep xs)
     go true ih = ap (λ r. test x || r) ih
     go false ih = ih
 
--- a fact of scenarios, and a test of scenarios and the elements of a list
+-- a fact that has to hold in a scenario, and a test of an element of a list there
 module _ {X : Type 0} (g : Graph) (order : List ℕ) (fact : Scenario → Bool) (test : Scenario → X → Bool)
     (xs : List X) where
-  -- the earlier of the answers for the first elements and for the next one is that for one element more
+  -- the earlier of the answers for the first `i` elements and for the next one is the answer for one element more
   pub first_any_more : (i : ℕ) (d : X) → i < length xs → (a b : Option Scenario) →
       IsFirst g order (λ s. fact s && list_any (test s) (take i xs)) a
       → IsFirst g order (λ s. fact s && test s (get_or xs i d)) b →
@@ -46,7 +46,7 @@ module _ {X : Type 0} (g : Graph) (order : List ℕ) (fact : Scenario → Bool) 
       ∙ ap (λ m. fact s && m) (sym (list_any_more (test s) xs i d h)))
       (first_or g order (λ s. fact s && list_any (test s) (take i xs)) (λ s. fact s && test s (get_or xs i d)) a b f k)
 
--- the earlier of the answers for two failures is that for either of them
+-- the earlier of the answers for two tests is the answer for their disjunction, with a fact that has to hold as well
 pub first_either : (g : Graph) (order : List ℕ) (fact p q : Scenario → Bool) (a b : Option Scenario) →
     IsFirst g order (λ s. fact s && p s) a →
     IsFirst g order (λ s. fact s && q s) b
@@ -55,18 +55,20 @@ first_either g order fact p q a b f h =
     first_same g order (λ s. (fact s && p s) || (fact s && q s)) (λ s. fact s && (p s || q s)) (earlier g order a b)
     (λ s _. both_or (fact s) (p s) (q s)) (first_or g order (λ s. fact s && p s) (λ s. fact s && q s) a b f h)
 
+-- a test that says whether a column that matches breaks a rule, and a place of a row
 module _ (test : Scenario → Column → Bool) (columns : List Column) (i : ℕ) where
-  -- the column at a place is broken exactly if it matches and fails the test
+  -- if there is a column at the place, `is_broken` says of the place that this column matches and breaks the rule
   pub broken_at : (d : Column) (s : Scenario) → i < length columns →
       (matches (get_or columns i d).cube s && test s (get_or columns i d)) ≡ is_broken test columns i s
   broken_at d s h = sym (or-false (matches (get_or columns i d).cube s && test s (get_or columns i d)))
       ∙ sym (ap (λ l. list_any (λ (c : Column). matches c.cube s && test s c) (take 1 l)) (drop_more columns i d h))
 
-  -- no column is broken past the last place
+  -- past the last place, `is_broken` is false
   pub broken_past : (s : Scenario) → length columns ≤ i → is_broken test columns i s ≡ false
   broken_past s h = ap (λ l. list_any (λ (c : Column). matches c.cube s && test s c) (take 1 l)) (drop_all i columns h)
 
-  -- the answer for a column is that for its place
+  -- the least scenario in which the column at the place breaks the rule is that in which `is_broken` says so of the
+  -- place
   pub broken_place : (g : Graph) (order : List ℕ) (d : Column) → i < length columns → (o : Option Scenario)
       → IsFirst g order (λ s. matches (get_or columns i d).cube s && test s (get_or columns i d)) o →
       IsFirst g order (is_broken test columns i) o

@@ -1,4 +1,4 @@
--- An execution takes the longer the more faults it has, and has no more than there may be.
+-- How the duration of an execution depends on its faults, and how many these may be.
 use Rattle.std.proofs.Common.{ℕ, ◌+◌, ◌*◌, ◌<◌, ◌≤◌, arith, inl}
 use Rattle.std.specs.Int.{div_ceil}
 use Rattle.std.proofs.Math.Nat.{mul-le-mul_right}
@@ -8,7 +8,7 @@ use Rattle.cpg_base.specs.Scenario.{Scenario, IsScenario, fault_of}
 use Rattle.cpg_base.proofs.NumbersOf.{number_of-fault}
 use Rattle.cpg_cube.proofs.Boxes.{number_within, top_of_count}
 
--- an execution with more faults takes no less time
+-- an execution with more faults doesn't last shorter: each fault adds the same time
 pub duration_grows : (g : Graph) (p m n : ℕ) → m ≤ n → duration g p m ≤ duration g p n
 duration_grows g p m n h =
     let more : m
@@ -18,7 +18,7 @@ duration_grows g p m n h =
     ((process_at g p).mu + div_ceil (process_at g p).wcet (process_at g p).parts + (process_at g p).alpha) h in
     omega arith
 
--- a process fails no more often than there may be faults
+-- in a scenario of a graph a process has at most as many faults as the graph allows
 pub fault_within : (g : Graph) → process_count g ≤ 128 → (p : ℕ) → p < process_count g → (s : Scenario) →
     IsScenario g s →
     fault_of s p ≤ g.faults

@@ -1,4 +1,5 @@
--- What version 2 says of the processes, compared with the graph's one process after another.
+-- The extras of a head of version 2, compared with the graph's processes one by one. A head of version 1 has none
+-- (`None`).
 use Rattle.std.proofs.Common.{ℕ, ◌+◌, ◌<◌, ◌≤◌, ◌≡◌, List, Option, Some, None, IfSome, length, get_or, take, map, arith}
 use Rattle.std.proofs.Common.{sym, ◌∙◌, inl, inr}
 use Rattle.std.specs.Prelude.{slice_get}
@@ -12,8 +13,9 @@ use Rattle.cpg_head.specs.declared.head_parts.Extra.{Extra}
 use Rattle.cpg_head.specs.Head.{AreExtras}
 use Rattle.cpg_violation.proofs.Differences.{same_more, same_whole}
 
+-- process `p` of the graph, and the extra that a head has for it
 module _ (ps : List Process) (p : ℕ) (e : Extra) (d : Process) (l : p < length ps) where
-  -- if version 2 says of the first processes what the graph does, and of the next one, it does of one more
+  -- if the extras are right for the first `p` processes and for process `p`, they are for one process more
   pub extras_more : (o : Option (List Extra)) → Some e ≡ option_and_then (λ es. slice_get es p) o →
       e ≡ extra_of (get_or ps p d)
       → IfSome o (λ es. take p es ≡ take p (map extra_of ps)) →
@@ -26,7 +28,7 @@ module _ (ps : List Process) (p : ℕ) (e : Extra) (d : Process) (l : p < length
     | inr ge ↦ absurd (none-some e (sym (slice_get_past es p ge) ∙ sym i))
   ]
 
--- past the last process, it says so of all
+-- if they are right for the first `p` processes, and there are no others, they are all right
 pub extras_whole : (ps : List Process) (p : ℕ) (o : Option (List Extra)) → length ps ≤ p →
     IfSome o (AreExtras (length ps))
     → IfSome o (λ es. take p es ≡ take p (map extra_of ps)) → IfSome o (λ es. es ≡ map extra_of ps)

@@ -1,4 +1,6 @@
--- Processes and items that are active in all scenarios of a space, or in none.
+-- Why a process or an item is active in all scenarios of a space, or in none: by the two sides of a test of its guard,
+-- and by what makes the item active. A guard comes to what is wanted where its process is active, if `wanted` is true,
+-- or inactive, if it is false; a test goes on at its side for the condition's value.
 use Rattle.std.proofs.Common.{ℕ, ◌<◌, ◌≡◌, Bool, true, false, not, ◌&&◌, List, Option, Some, get_or, refl, sym, ap, ◌∙◌}
 use Rattle.std.proofs.Common.{subst}
 use Rattle.std.specs.Bool.{OnTrue}
@@ -20,35 +22,35 @@ use Rattle.cpg_violation.specs.Sources.{is_active_by}
 use Rattle.cpg_violation.specs.declared.sources.ItemSource.{ItemSource}
 use Rattle.cpg_violation.proofs.ActiveWhere.{value_holds}
 
--- a test doesn't come to what is wanted if the arms that may be taken don't
+-- a test of condition `c`, with its sides for false and true, in one scenario
 module _ (wanted : Bool) (c : ℕ) (off on : Guard) (s : Scenario) where
-  -- if the arm that the value chooses doesn't come to what is wanted, the test doesn't
+  -- if the side for the condition's value doesn't come to what is wanted, the test doesn't
   arms : (v : Bool) → get_or s.values c false ≡ v → (v ≡ false → comes_to off wanted s ≡ false) →
       (v ≡ true → comes_to on wanted s ≡ false) →
       comes_to (Test c off on) wanted s ≡ false
   arms true e low high = rw e (high refl)
   arms false e low high = rw e (low refl)
 
-  -- if the condition is true, the test doesn't come to what is wanted if its second arm doesn't
+  -- if the condition is true and the side for true doesn't come to what is wanted, the test doesn't
   pub only_on : holds s (value_literal c true) ≡ true → comes_to on wanted s ≡ false →
       comes_to (Test c off on) wanted s ≡ false
   only_on h high = arms (get_or s.values c false) refl (λ e.
       absurd (both_ways (holds s (value_literal c true)) (value_holds s c true ∙ ap (same_bool true) e) h)) (λ e. high)
 
-  -- if the condition is false, it doesn't if its first arm doesn't
+  -- if the condition is false and the side for false doesn't, the test doesn't
   pub only_off : holds s (value_literal c false) ≡ true → comes_to off wanted s ≡ false →
       comes_to (Test c off on) wanted s ≡ false
   only_off h low = arms (get_or s.values c false) refl (λ e. low)
       (λ e. absurd (both_ways (holds s (value_literal c false)) (value_holds s c false ∙ ap (same_bool false) e) h))
 
-  -- in either case, it doesn't if neither arm does
+  -- if neither side does, the test doesn't
   pub both_arms : comes_to off wanted s ≡ false → comes_to on wanted s ≡ false →
       comes_to (Test c off on) wanted s ≡ false
   both_arms low high = arms (get_or s.values c false) refl (λ e. low) (λ e. high)
 
--- the same in all scenarios of a space
+-- the same in all scenarios of a space, for a guard that is a test
 module _ (wanted : Bool) (tree : Guard) (c : ℕ) (off on : Guard) (is : tree ≡ Test c off on) (space : Space) where
-  -- in a space in which the condition is true, asking the second arm is enough
+  -- if the condition is true in the whole space, what is answered of the side for true is true of the guard
   pub step_on : (b : Bool) → OnTrue b ((s : Scenario) → IsInSpace space s → comes_to on wanted s ≡ false) →
       ((s : Scenario) → IsInSpace space s → holds s (value_literal c true) ≡ true)
       → OnTrue b ((s : Scenario) → IsInSpace space s → comes_to tree wanted s ≡ false)
@@ -56,14 +58,16 @@ module _ (wanted : Bool) (tree : Guard) (c : ℕ) (off on : Guard) (is : tree �
       of_true b high (λ h. subst (λ t. (s : Scenario) → IsInSpace space s → comes_to t wanted s ≡ false) (sym is)
       (λ s lies. only_on wanted c off on s (some s lies) (h s lies)))
 
-  -- in a space in which the condition is false, asking the first arm is enough
+  -- if the condition is false in the whole space and the side for false never comes to what is wanted there, neither
+  -- does the guard
   pub step_off : ((s : Scenario) → IsInSpace space s → comes_to off wanted s ≡ false) →
       ((s : Scenario) → IsInSpace space s → holds s (value_literal c false) ≡ true)
       → (s : Scenario) → IsInSpace space s → comes_to tree wanted s ≡ false
   step_off low none = subst (λ t. (s : Scenario) → IsInSpace space s → comes_to t wanted s ≡ false) (sym is)
       (λ s lies. only_off wanted c off on s (none s lies) (low s lies))
 
-  -- in any space, asking both arms is enough
+  -- if the side for false never comes to what is wanted in the space, what is answered of the side for true is true of
+  -- the guard
   pub step_both : (b : Bool) → ((s : Scenario) → IsInSpace space s → comes_to off wanted s ≡ false) →
       OnTrue b ((s : Scenario) → IsInSpace space s → comes_to on wanted s ≡ false)
       → OnTrue b ((s : Scenario) → IsInSpace space s → comes_to tree wanted s ≡ false)
@@ -71,35 +75,35 @@ module _ (wanted : Bool) (tree : Guard) (c : ℕ) (off on : Guard) (is : tree �
       of_true b high (λ h. subst (λ t. (s : Scenario) → IsInSpace space s → comes_to t wanted s ≡ false) (sym is)
       (λ s lies. both_arms wanted c off on s (low s lies) (h s lies)))
 
--- a process by its tree
+-- a process of an admitted graph, in a scenario
 module _ {g : Graph} {order : List ℕ} {guards : Guards} (admitted : IsAdmitted g order guards) (p : ℕ)
     (l : p < process_count g) (s : Scenario) (law : IsScenario g s) where
-  -- the tree of a process says whether it is active
+  -- the guard of the process says whether it is active
   by_tree : is_active (outcome_at (tree_of guards p) s.values) ≡ active g s.values p
   by_tree = ap is_active ((admitted.guards.trees p l).is s.values law.values)
 
-  -- the same as true is what is true
+  -- a value equals `true` just if it is true
   same_true : (b : Bool) → same_bool true b ≡ b
   same_true true = refl
   same_true false = refl
 
-  -- what isn't the same as false is true
+  -- a value that doesn't equal `false` is true
   same_false : (b : Bool) → same_bool false b ≡ false → b ≡ true
   same_false true e = refl
   same_false false e = sym e
 
-  -- a process whose guard comes to no activation is inactive
+  -- if the guard doesn't say active, the process is inactive
   pub idle_of : comes_to (tree_of guards p) true s ≡ false → active g s.values p ≡ false
   idle_of e = sym by_tree ∙ sym (same_true (is_active (outcome_at (tree_of guards p) s.values))) ∙ e
 
-  -- a process whose guard doesn't come to none is active
+  -- if the guard doesn't say inactive, the process is active
   pub running_of : comes_to (tree_of guards p) false s ≡ false → active g s.values p ≡ true
   running_of e = sym by_tree ∙ same_false (is_active (outcome_at (tree_of guards p) s.values)) e
 
--- the value that an edge asks for
+-- an edge that asks for a value of condition `c`, which is that of its source `p`
 module _ (g : Graph) (s : Scenario) (p c : ℕ) (when : Option Bool) (value : Bool) (is : condition_of g p ≡ Some c)
     (asks : when ≡ Some value) where
-  -- the value is what the edge asks for if it is the one in the test
+  -- the edge takes the source's value exactly if the condition has the value that it asks for
   taken_as : takes when (value_of g s.values p) ≡ same_bool value (get_or s.values c false)
   taken_as = ap (λ w. takes w (value_of g s.values p)) asks
       ∙ ap (λ o. same_bool value (get_or s.values (unwrap_or o 0) false)) is
@@ -108,7 +112,7 @@ module _ (g : Graph) (s : Scenario) (p c : ℕ) (when : Option Bool) (value : Bo
   pub taken_of : holds s (value_literal c value) ≡ true → takes when (value_of g s.values p) ≡ true
   taken_of h = taken_as ∙ sym (value_holds s c value) ∙ h
 
-  -- what is the same as one value isn't the same as the other
+  -- what equals the other value than `v` doesn't equal `v`
   other : (v b : Bool) → same_bool (not v) b ≡ true → same_bool v b ≡ false
   other true true e = sym e
   other true false e = refl
@@ -119,21 +123,21 @@ module _ (g : Graph) (s : Scenario) (p c : ℕ) (when : Option Bool) (value : Bo
   pub refused_of : holds s (value_literal c (not value)) ≡ true → takes when (value_of g s.values p) ≡ false
   refused_of h = taken_as ∙ other value (get_or s.values c false) (sym (value_holds s c (not value)) ∙ h)
 
--- an edge is live if its source is active and has the value
+-- if the first of two tests fails, not both pass: an edge isn't live if its source is idle
 pub idle_source : (a t : Bool) → a ≡ false → (a && t) ≡ false
 idle_source true t e = absurd (both_ways true e refl)
 idle_source false t e = refl
 
--- if the second of two tests fails, not both pass
+-- if the second of two tests fails, not both pass: an edge isn't live if its source has the other value
 pub other_value : (a t : Bool) → t ≡ false → (a && t) ≡ false
 other_value true t e = e
 other_value false t e = refl
 
--- if both tests pass, they pass together
+-- if each of two tests passes, both do: then an edge is live
 pub both_there : (a t : Bool) → a ≡ true → t ≡ true → (a && t) ≡ true
 both_there a t e f = rw (e, f) refl
 
--- an item is active as its source is
+-- if an item is active exactly when the source that was found says so, it is when a source that is the same says so
 pub as_source : (g : Graph) (x : ℕ) (found source : ItemSource) →
     ((values : List Bool) → item_active g values (item_at g x) ≡ is_active_by g values found) → found ≡ source
     → (values : List Bool) → item_active g values (item_at g x) ≡ is_active_by g values source

@@ -1,4 +1,4 @@
--- Heads that are a graph's.
+-- Heads that are a graph's: what tables lawful under them are for the graph.
 use Rattle.std.proofs.Common.{◌≡◌, ◌<◌, ◌∙◌, ℕ, Bool, true, false, cond, length, map, ap, subst, refl}
 use Rattle.cpg_base.specs.Graph.{Graph}
 use Rattle.cpg_base.specs.Limits.{IsWithinLimits}
@@ -14,13 +14,14 @@ use Rattle.cpg_violation.specs.Heads.{IsHeadFor}
 use Rattle.std.specs.List.{list_all}
 use Rattle.std.specs.Prelude.{IfSome, List, None, Some}
 
--- a head for a graph is the graph's, but for what version 2 says beside
+-- a head that is a graph's is the graph's own head, but that it may have no extras
 same_but_extras : (g : Graph) (h : Head) → IsHeadFor g h → record h { extras = extras_of g } ≡ head_of g
 same_but_extras g h k = rw (k.faults, k.nodes, k.processes.processes, k.edges) refl
 
--- tables under it are tables under the graph's own head
+-- tables that are lawful under it are lawful under the graph's own head
 pub tables_of_graph : (g : Graph) (h : Head) (tables : List NodeTable) → IsHeadFor g h → AreTablesOf h tables →
     AreTablesOf (head_of g) tables
+-- no field of lawful tables depends on the extras, so they can be put together again for a head with the graph's extras
 tables_of_graph g h tables k are = subst (λ (head : Head). AreTablesOf head tables) (same_but_extras g h k)
     (record {
       count = are.count;
@@ -37,19 +38,19 @@ tables_of_graph g h tables k are = subst (λ (head : Head). AreTablesOf head tab
       few = are.few;
     })
 
--- and a node hears by it what it hears in the graph
+-- a node hears the same items by it as in the graph
 pub hears_of_graph : (g : Graph) (h : Head) → IsHeadFor g h → IsWithinLimits g → (node : ℕ) → node < length g.nodes →
     hears_of h node ≡ heard_by g node
 hears_of_graph g h k within node l =
     ap (λ (head : Head). hears_of head node) (same_but_extras g h k) ∙ hears_are g within node l
 
--- the additions of version 2, if a head has them, are those of the processes
+-- the extras of a graph's own head, if it has them, are those of the processes; plain processes need none
 own_extras : (ps : List Process) (plain : Bool) →
     IfSome (cond plain None (Some (map extra_of ps))) (λ extras. extras ≡ map extra_of ps)
 own_extras ps true = tt
 own_extras ps false = refl
 
--- the head that is made for a graph is one
+-- the graph's own head is the graph's
 pub own_head : (g : Graph) → IsHeadFor g (head_of g)
 own_head g = record {
   faults = refl;

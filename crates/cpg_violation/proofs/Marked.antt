@@ -1,4 +1,4 @@
--- Items that are marked keep a rule, and all do if all are marked.
+-- What marks say of a rule: it isn't broken at an item that is marked, and holds if all are.
 use Rattle.std.proofs.Common.{ℕ, ◌+◌, ◌<◌, ◌≡◌, true, false, Bool, List, Option, get_or, arith, subst, inl, inr}
 use Rattle.std.proofs.lemmas.Bool.{cases_lt}
 use Rattle.cpg_base.specs.Graph.{Graph, item_count}
@@ -12,11 +12,11 @@ use Rattle.cpg_violation.specs.Violation.{Holds}
 -- marks of items at which a rule is sure
 module _ (g : Graph) (tables : List NodeTable) (rule : Rule) (marks : List Bool)
     (sure : AreSure g tables rule marks) where
-  -- a rule holds if all items are marked
+  -- the rule holds if all items are marked
   pub holds_all : ((x : ℕ) → x < item_count g → get_or marks x false ≡ true) → Holds g tables rule
   holds_all all x column s i l = sure x l (all x l) column s i
 
-  -- if no item before one breaks the rule and it is marked, none of one item more breaks it
+  -- if the rule is broken at no item before `x`, and `x` is marked, it is broken at none before the item after `x`
   pub marked_more : (x : ℕ) → x < item_count g → get_or marks x false ≡ true
       → ((y : ℕ) (column : Option ℕ) (s : Scenario) → y < x → IsScenario g s → breaks rule g tables s y column ≡ false)
       → (y : ℕ) (column : Option ℕ) (s : Scenario) → y < x + 1 → IsScenario g s →

@@ -19,10 +19,10 @@ use Rattle.cpg_table.proofs.Settings.{second_false}
 use Rattle.cpg_violation.specs.Sure.{IsSure}
 use Rattle.cpg_violation.specs.Violation.{AllHold, Holds, row_rules}
 
--- a scenario, and an item
+-- a scenario, and an item of the graph
 module _ (g : Graph) (tables : List NodeTable) (s : Scenario) (law : IsScenario g s) (x : ℕ)
     (l : x < item_count g) where
-  -- a rule that is sure, at a column that matches
+  -- if a rule is sure at the item, no column of the item's row that matches breaks it
   pub sure_rule : (rule : Rule) → IsSure g tables rule x → (i : ℕ) (d : Column) → i < length (columns_of tables x) →
       matches (get_or (columns_of tables x) i d).cube s ≡ true
       → breaks_rule rule g tables s x (take i (columns_of tables x)) (get_or (columns_of tables x) i d) ≡ false
@@ -33,20 +33,21 @@ module _ (g : Graph) (tables : List NodeTable) (s : Scenario) (law : IsScenario 
       (drop_more (columns_of tables x) i d h)) ∙ sure (Some i) s law in
       second_false _ _ m (or_parts _ _ here).0
 
-  -- a column that matches doesn't break a rule that holds
+  -- so it is for a rule that holds
   pub at_rule : (rule : Rule) → Holds g tables rule → (i : ℕ) (d : Column) → i < length (columns_of tables x) →
       matches (get_or (columns_of tables x) i d).cube s ≡ true
       → breaks_rule rule g tables s x (take i (columns_of tables x)) (get_or (columns_of tables x) i d) ≡ false
   at_rule rule holds i d h m = sure_rule rule (λ column t lawful. holds x column t lawful l) i d h m
 
+  -- the tables keep V1 to V3
   module _ (rules : AllHold g tables row_rules) where
-    -- the item of a column that matches is active
+    -- by V1, the item of a column that matches is active
     pub active_where : (d : Column) → Contains (columns_of tables x) d → matches d.cube s ≡ true →
         item_active g s.values (item_at g x) ≡ true
     active_where d k m = not-false _
         (or_parts _ _ (at_rule Rule.Activity rules.0 k.0 d k.1 (ap (λ (c : Column). matches c.cube s) k.2 ∙ m))).0
 
-    -- the processes of its literals are active
+    -- by V1, the process of each of its literals is active
     pub literal_active : (d : Column) → Contains (columns_of tables x) d → matches d.cube s ≡ true → (l : Literal) →
         Contains d.cube l →
         active g s.values (process_of_variable g l.variable) ≡ true
@@ -58,7 +59,7 @@ module _ (g : Graph) (tables : List NodeTable) (s : Scenario) (law : IsScenario 
         (sym (ap (λ (c : Column). list_any (λ (l : Literal). not (active g s.values (process_of_variable g l.variable)))
         c.cube) k.2) ∙ none) c)
 
-    -- an active item has a column that matches
+    -- by V3, an active item has a column that matches
     pub match_where : item_active g s.values (item_at g x) ≡ true →
         (d : Column) × Contains (columns_of tables x) d × (matches d.cube s ≡ true)
     match_where a = list_any_parts (λ (d : Column). matches d.cube s) (columns_of tables x)

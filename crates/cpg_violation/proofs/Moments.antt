@@ -1,4 +1,4 @@
--- The moments of an item in a scenario, by the columns that match; and what a send waits for.
+-- The times of an item in a scenario (`at`), by the columns that match; and what a send waits for.
 use Rattle.std.proofs.Common.{ℕ, ◌<◌, ◌≤◌, ◌≡◌, true, not, List, filter, Contains, sym, ap, ◌∙◌, arith, inl, inr}
 use Rattle.std.proofs.lemmas.Bool.{and_parts}
 use Rattle.cpg_base.specs.Activity.{active, live, item_active}
@@ -13,15 +13,16 @@ use Rattle.cpg_table.specs.Table.{NodeTable, columns_of, at}
 use Rattle.cpg_cube.specs.declared.column.Column.{Column}
 use Rattle.cpg_table.specs.Valid.{ends_of, is_by, breaks_inputs_of}
 
+-- the tables of all nodes
 module _ (tables : List NodeTable) where
-  -- the time of a column that matches is a moment of the item
+  -- the time of a column that matches is one of the item's times
   pub in_at : (x : ℕ) (s : Scenario) (d : Column) → Contains (columns_of tables x) d → matches d.cube s ≡ true →
       Contains (at tables x s) d.time
   in_at x s d h m =
       Contains-map (λ (c : Column). c.time) (filter (λ (c : Column). matches c.cube s) (columns_of tables x)) d
       (Contains-filter (λ (c : Column). matches c.cube s) (columns_of tables x) d m h)
 
-  -- a moment of the item is the time of a column that matches
+  -- each of the item's times is that of a column that matches
   pub at_parts : (x : ℕ) (s : Scenario) (time : ℕ) → Contains (at tables x s) time →
       (d : Column) × Contains (columns_of tables x) d × (matches d.cube s ≡ true) × (d.time ≡ time)
   at_parts x s time h =
@@ -30,8 +31,9 @@ module _ (tables : List NodeTable) where
       let q = Contains-filter_parts (λ (c : Column). matches c.cube s) (columns_of tables x) r.0 r.1 in
       (r.0, q.0, q.1, r.2)
 
+-- a message or a broadcast, in a scenario
 module _ (g : Graph) (s : Scenario) (x : ℕ) (l : x < item_count g) (send : process_count g ≤ x) where
-  -- a send breaks V5 exactly if its producer hasn't ended
+  -- a send at a time breaks V5 exactly if its producer hasn't ended by then; by cases: it is a message or a broadcast
   pub waits : (tables : List NodeTable) (time : ℕ) →
       breaks_inputs_of g tables s time (item_at g x) ≡ not (is_by time (ends_of g tables s (producer g x)))
   waits tables time = elim (item_cases g x l) [
@@ -42,7 +44,7 @@ module _ (g : Graph) (s : Scenario) (x : ℕ) (l : x < item_count g) (send : pro
         ∙ sym (ap (λ i. not (is_by time (ends_of g tables s (producer_of_item g i)))) b.3)
   ]
 
-  -- the producer of an active item is active
+  -- if the item is active, its producer is: the source of a live edge, or the process of the condition
   pub made : item_active g s.values (item_at g x) ≡ true → active g s.values (producer g x) ≡ true
   made a = elim (item_cases g x l) [
     | inl start ↦ absurd (omega (arith, start.0))

@@ -1,4 +1,4 @@
--- To which side a cut parts places; and tests of columns by the places at which they are found.
+-- How a cut parts places between its sides; and tests of columns by the places that a sieve finds.
 use Rattle.std.proofs.Common.{ℕ, ◌+◌, ◌<◌, ◌≤◌, ◌≡◌, Bool, true, false, not, ◌&&◌, cond, List, [], ◌∷◌, ◌++◌, length}
 use Rattle.std.proofs.Common.{get_or, take, Contains, arith, refl, sym, ap, ◌∙◌, subst, ⊎_elim, true≢false}
 use Rattle.std.proofs.Common.{lt-ltb, ltb-true}
@@ -16,45 +16,47 @@ use Rattle.cpg_cube.specs.Column.{column_at}
 use Rattle.cpg_violation.specs.Parted.{Parted, Cut}
 use Rattle.cpg_violation.specs.Sieves.{places_in, Sifts, is_at}
 
--- a test isn't its own negation
+-- nothing is both a value and its negation
 pub not_itself : (b x : Bool) → x ≡ b → x ≡ not b → ⊥
 not_itself true true e f = true≢false f
 not_itself true false e f = true≢false (sym e)
 not_itself false true e f = true≢false e
 not_itself false false e f = true≢false (sym f)
 
--- the side of a cut to which a scenario comes
+-- what is on the side that a scenario goes to was found, if it was found on either side that the scenario may go to
 pub side_of : (b : Bool) (below above found : List ℕ) (i : ℕ) → (b ≡ true → Contains below i → Contains found i) →
     (b ≡ false → Contains above i → Contains found i) →
     Contains (cond b below above) i → Contains found i
 side_of true below above found i h k c = h refl c
 side_of false below above found i h k c = k refl c
 
--- a place on the side to which a scenario comes is found there
+-- a place is on the side that a scenario goes to, if it is on either side that the scenario may go to
 pub side_found : (b : Bool) (below above : List ℕ) (i : ℕ) → (b ≡ true → Contains below i) →
     (b ≡ false → Contains above i) →
     Contains (cond b below above) i
 side_found true below above i h k = h refl
 side_found false below above i h k = k refl
 
+-- the loop of `places_on_side`: one side of a cut by whether variable `v` is at most `most`
 module _ (columns : List Column) (v most : ℕ) (below : Bool) (places kept : List ℕ) (k : ℕ) where
-  -- the places so far go to this side
+  -- `kept` has each of the first `n` places whose column matches a scenario on this side
   abbrev pub KeepsFirst : ℕ → List ℕ → Type 0
   KeepsFirst n kept = (s : Scenario) (i : ℕ) → Contains (take n places) i → i < length columns →
       matches (column_at columns i).cube s ≡ true → nat_le (number_of s v) most ≡ below → Contains kept i
 
-  -- past the last place, all columns that match on the side are kept
+  -- after the last place, `kept` has all such places
   pub keeps_all : length places ≤ k → KeepsFirst k kept
       → (s : Scenario) (i : ℕ) → Contains places i → i < length columns → matches (column_at columns i).cube s ≡ true →
       nat_le (number_of s v) most ≡ below → Contains kept i
   keeps_all past h s i c l m e = h s i (subst (λ xs. Contains xs i) (sym (take_all k places past)) c) l m e
 
--- the places kept of the first ones on one side of a cut
+-- the next step of that loop: place `k` is the next one (`d` is only the default of `get_or`)
 module _ (columns : List Column) (v most : ℕ) (below : Bool) (places kept : List ℕ) (k d : ℕ)
     (within : k < length places) where
-  -- with the next place kept, those of one place more are kept
+  -- if the next place is added, `kept` has all such places up to it
   pub keeps_push : KeepsFirst columns v most below places kept k k kept →
       KeepsFirst columns v most below places kept k (k + 1) (kept ++ get_or places k d ∷ [])
+  -- a place that is asked for is one of those before, or this one
   keeps_push h s i c l m e = ⊎_elim
       (λ (b : Contains (take k places) i). Contains-append_left kept (get_or places k d ∷ []) i (h s i b l m e))
       (λ (q : get_or places k d ≡ i).
@@ -62,11 +64,13 @@ module _ (columns : List Column) (v most : ℕ) (below : Bool) (places kept : Li
       (Contains-push_cases (take k places) (get_or places k d) i
       (subst (λ xs. Contains xs i) (take_more places k d within) c))
 
-  -- so they are without it if its column never matches on the side
+  -- so it has without it, if its column matches no scenario on this side
   pub keeps_skip : ((s : Scenario) → get_or places k d < length columns →
       matches (column_at columns (get_or places k d)).cube s ≡ true → nat_le (number_of s v) most ≡ not below)
       → KeepsFirst columns v most below places kept k k kept →
       KeepsFirst columns v most below places kept k (k + 1) kept
+  -- a place that is asked for is one of those before: this one isn't, as each scenario of its column is on the other
+  -- side
   keeps_skip off h s i c l m e = ⊎_elim
       (λ (b : Contains (take k places) i). h s i b l m e)
       (λ (q : get_or places k d ≡ i). absurd (not_itself below (nat_le (number_of s v) most) e
@@ -75,7 +79,8 @@ module _ (columns : List Column) (v most : ℕ) (below : Bool) (places kept : Li
       (Contains-push_cases (take k places) (get_or places k d) i
       (subst (λ xs. Contains xs i) (take_more places k d within) c))
 
--- what a cut's sides find, the cut finds
+-- if the sides of a cut lose no place that a scenario on them needs, and each side's sieve finds its places, the cut's
+-- sieve finds all places
 pub sifts_cut : (columns : List Column) (v most : ℕ) (places low high : List ℕ) (below above : Parted)
     → ((s : Scenario) (i : ℕ) → Contains places i → i < length columns → matches (column_at columns i).cube s ≡ true →
     nat_le (number_of s v) most ≡ true → Contains low i)
@@ -87,24 +92,27 @@ sifts_cut columns v most places low high below above h k f g = record {
       (λ e. f.found s i (h s i c l m e) l m) (λ e. g.found s i (k s i c l m e) l m);
 }
 
--- a test of some column, by places among which each is that passes
+-- whether some column passes a test may be asked of places, if the place of each column that passes is among them
 pub any_at : (test : Column → Bool) (columns : List Column) (places : List ℕ) →
     ((i : ℕ) → i < length columns → test (column_at columns i) ≡ true → Contains places i)
     → list_any test columns ≡ list_any (λ i. nat_lt i (length columns) && test (column_at columns i)) places
 any_at test columns places among =
     same_truth (list_any test columns) (list_any (λ i. nat_lt i (length columns) && test (column_at columns i)) places)
+    -- a column that passes has a place, which is among them
     (λ e. let found = list_any_parts test columns e in
     let i : ℕ = found.1.0 in
     let at : column_at columns i ≡ found.0 = get_or_default columns i _ found.0 found.1.1 ∙ found.1.2 in
     let passes : test (column_at columns i) ≡ true = ap test at ∙ found.2 in
     list_any_true (λ i. nat_lt i (length columns) && test (column_at columns i)) places i (among i found.1.1 passes)
     (and_from (nat_lt i (length columns)) (test (column_at columns i)) (lt-ltb i (length columns) found.1.1) passes))
+    -- a place at which the test passes has a column
     (λ e. let found = list_any_parts (λ i. nat_lt i (length columns) && test (column_at columns i)) places e in
     let parts = and_parts (nat_lt found.0 (length columns)) (test (column_at columns found.0)) found.2 in
     list_any_true test columns (column_at columns found.0)
     (Contains-get_or columns found.0 _ (ltb-true _ _ parts.0)) parts.1)
 
--- the columns before a place that match where a cube does, by the places that a sieve finds
+-- whether a column before place `j` matches in a scenario may be asked of places, if those of all columns that match
+-- there are among them
 pub before_at : (columns : List Column) (j : ℕ) (places : List ℕ) (s : Scenario) → j ≤ length columns →
     ((i : ℕ) → i < length columns → matches (column_at columns i).cube s ≡ true → Contains places i)
     → list_any (is_at (take j columns) s) places ≡ list_any (λ d. matches d.cube s) (take j columns)
@@ -113,7 +121,7 @@ before_at columns j places s h among = sym (any_at (λ d. matches d.cube s) (tak
     let at : column_at (take j columns) i ≡ column_at columns i = get_or-take j columns i _ below in
     among i (omega arith) (sym (ap (λ (d : Column). matches d.cube s) at) ∙ m)))
 
--- the column that is found at a place
+-- the column that is looked up at a place matches exactly if `is_at` says so of the place
 pub at_found : (columns : List Column) (i : ℕ) (d : Column) → slice_get columns i ≡ Some d → (s : Scenario) →
     matches d.cube s ≡ is_at columns s i
 at_found columns i d e s =

@@ -1,4 +1,4 @@
--- Items at which a rule is sure: by their columns, one after another; and lists of marks.
+-- Why a rule is sure at an item: by its columns; and lists of marks that are made one by one.
 use Rattle.std.proofs.Common.{ℕ, ◌+◌, ◌<◌, ◌≤◌, ◌≡◌, Bool, true, false, ◌&&◌, List, [], ◌∷◌, ◌++◌, None, Some, Contains}
 use Rattle.std.proofs.Common.{All, length, get_or, take, arith, refl, sym, ap, ◌∙◌, subst, inl, inr}
 use Rattle.std.specs.Bool.{OnTrue}
@@ -18,12 +18,14 @@ use Rattle.cpg_tree.proofs.Passes.{of_true}
 use Rattle.cpg_violation.specs.Sure.{AreSure, IsSure}
 use Rattle.cpg_violation.proofs.Tests.{off_where}
 
--- a fact that follows from an order holds if the test of that order passes
+-- what follows from `a ≤ b` is true wherever the test of it is
 pub on_le : {P : Type 0} (a b : ℕ) → (a ≤ b → P) → OnTrue (nat_le a b) P
 on_le {P} a b f = OnTrue_from (nat_le a b) P (λ e. f (leb-true a b e))
 
+-- a rule and an item
 module _ (g : Graph) (tables : List NodeTable) (rule : Rule) (x : ℕ) where
-  -- no column breaks the rule if it matches
+  -- a rule that isn't about the lack of a column is sure at the item if no column breaks it in a scenario that it
+  -- matches
   pub sure_of : asks_for_one rule ≡ false
       → ((s : Scenario) (c : Column) (earlier : List Column) → IsScenario g s → Contains (columns_of tables x) c →
       matches c.cube s ≡ true → breaks_rule rule g tables s x earlier c ≡ false)
@@ -34,14 +36,16 @@ module _ (g : Graph) (tables : List NodeTable) (rule : Rule) (x : ℕ) where
       (λ c k. off_where (matches c.cube s) (breaks_rule rule g tables s x (take i (columns_of tables x)) c)
       (λ m. each s c (take i (columns_of tables x)) law k m))
 
--- without marks, no rule is said to be sure
+-- an empty list of marks marks no item, so it is right
 pub none_sure : (g : Graph) (tables : List NodeTable) (rule : Rule) → AreSure g tables rule []
 none_sure g tables rule x l e = absurd (both_ways false refl e)
 
--- a fact of all that are marked, and of one more if it is marked
+-- if `P` holds for all that are marked, and for `x` if the mark `b` is set, it holds for all that are marked once `b`
+-- is added at place `x`
 pub marked_push : (P : ℕ → Type 0) (x : ℕ) (marks : List Bool) → length marks ≡ x →
     ((y : ℕ) → get_or marks y false ≡ true → P y) → (b : Bool) → OnTrue b (P x)
     → (y : ℕ) → get_or (marks ++ b ∷ []) y false ≡ true → P y
+-- a marked number is below `x`, or `x` itself: past the end nothing is marked
 marked_push P x marks long before b here y e = elim (cases_lt y x) [
   | inl lt ↦ before y (sym (get_or_append_left marks (b ∷ []) false y (omega (arith, long, lt))) ∙ e)
   | inr ge ↦ elim (cases_eq y x) [
@@ -51,16 +55,16 @@ marked_push P x marks long before b here y e = elim (cases_lt y x) [
   ]
 ]
 
--- the marks of the first x items
+-- there are marks for the first `x` items, and the rule is sure at each item that is marked
 pub record AreSoFar (g : Graph) (tables : List NodeTable) (rule : Rule) (x : ℕ) (marks : List Bool) : Type 0 where
   pub long : length marks ≡ x
   pub sure : AreSure g tables rule marks
 
--- no marks are right for no items
+-- before the first item there are no marks
 pub first_none : (g : Graph) (tables : List NodeTable) (rule : Rule) → AreSoFar g tables rule 0 []
 first_none g tables rule = record { long = refl; sure = none_sure g tables rule }
 
--- a mark for the next item that is set only if the item keeps the rule makes right marks of one item more
+-- with a mark for item `x` that is set only if the rule is sure there, there are right marks for one item more
 pub one_more : (g : Graph) (tables : List NodeTable) (rule : Rule) (x : ℕ) (marks : List Bool) (b : Bool) →
     AreSoFar g tables rule x marks →
     OnTrue b (IsSure g tables rule x) →
@@ -71,12 +75,12 @@ one_more g tables rule x marks b before here = record {
       (λ z f k. before.sure z k f) b (of_true b here (λ h k. h)) y e l;
 }
 
--- a fact that holds for the elements so far and for the next one holds for one element more
+-- if `P` holds for the first `i` elements and for the next one, `x`, it holds for one element more
 pub each_more : {X : Type 0} (P : X → Type 0) (xs : List X) (i : ℕ) (x : X) → i < length xs → x ≡ get_or xs i x →
     All P (take i xs) → P x →
     All P (take (i + 1) xs)
 each_more P xs i x l is before here = All-more P xs i x l before (subst P is here)
 
--- past the last element, what holds for those so far holds for all
+-- if `P` holds for the first `i` elements, and there are no others, it holds for all
 pub each_all : {X : Type 0} (P : X → Type 0) (xs : List X) (i : ℕ) → length xs ≤ i → All P (take i xs) → All P xs
 each_all P xs i past before = subst (All P) (take_all i xs past) before

@@ -1,17 +1,17 @@
--- Two tests, of which one is asked beside the other.
+-- Laws of two tests that have to pass together.
 use Rattle.std.proofs.Common.{◌≡◌, Bool, true, false, not, ◌&&◌, ◌||◌, refl, sym}
 
--- a test beside one that passes is the test itself
+-- if the second test passes, both pass exactly if the first does
 pub with_true : (m b : Bool) → b ≡ true → m ≡ (m && b)
 with_true true b e = sym e
 with_true false b e = refl
 
--- if the first one passes, the second ones are equal
+-- if two second tests agree where the first passes, either may be asked along with it
 pub same_where : (m a b : Bool) → (m ≡ true → a ≡ b) → (m && a) ≡ (m && b)
 same_where true a b h = h refl
 same_where false a b h = refl
 
--- if the first one passes, the second doesn't
+-- if the second test fails where the first passes, never both pass
 pub off_where : (m b : Bool) → (m ≡ true → b ≡ false) → (m && b) ≡ false
 off_where true b h = h refl
 off_where false b h = refl

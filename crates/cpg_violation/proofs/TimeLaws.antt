@@ -1,4 +1,4 @@
--- Rows that are at one time keep V8, and V9 if each end is early enough.
+-- When V8 is sure at an item: its columns have one time; and when V9 is: each end is early enough.
 use Rattle.std.proofs.Common.{ℕ, ◌+◌, ◌-◌, ◌^◌, ◌≤◌, ◌≡◌, true, false, not, ◌&&◌, List, Option, None, Some, Contains}
 use Rattle.std.proofs.Common.{All, find, min, arith, refl, sym, ap, ◌∙◌, le-ltb}
 use Rattle.std.specs.Prelude.{nat_lt}
@@ -22,22 +22,25 @@ use Rattle.cpg_violation.proofs.SureLaws.{sure_of}
 due_le : (g : Graph) (p : ℕ) → due g p ≤ g.deadline
 due_le g p = go (process_at g p).deadline
   where
+    -- by cases of whether the process has a deadline of its own
     go : (own : Option ℕ) → lesser_due g.deadline own ≤ g.deadline
     go None = omega arith
     go (Some own) = omega arith
 
--- an end that is capped is in time if the end is
+-- if an end, capped at the greatest number of 64 bits, is by a process's due, so is the end itself: a due is far below
+-- that number
 pub by_due : (g : Graph) → IsWithinLimits g → (p end capped limit : ℕ) → capped ≡ min end (2 ^ 64 - 1) →
     limit ≡ due g p → capped ≤ limit → end ≤ limit
 by_due g within p end capped limit is by h = omega (arith, is, by, h, due_le g p, within.deadline)
 
+-- an item
 module _ (g : Graph) (tables : List NodeTable) (x : ℕ) where
-  -- V8: an item that isn't frozen, and one whose columns are all at one time
+  -- V8 is sure at an item that isn't frozen
   pub loose_sure : is_frozen g x ≡ false → IsSure g tables Rule.Frozen x
   loose_sure loose = sure_of g tables Rule.Frozen x refl
       (λ s c earlier law k m. ap (λ b. b && differs_from c.time (find (is_possible g) (columns_of tables x))) loose)
 
-  -- an item whose columns are all at one time keeps V8
+  -- V8 is sure at an item whose columns all have one time
   pub frozen_sure : (time : ℕ) → All (λ (c : Column). c.time ≡ time) (columns_of tables x) →
       IsSure g tables Rule.Frozen x
   frozen_sure time all = sure_of g tables Rule.Frozen x refl
@@ -54,12 +57,12 @@ module _ (g : Graph) (tables : List NodeTable) (x : ℕ) where
           ap not (eq-eqb d.time c.time (All-contains (λ (c : Column). c.time ≡ time) (columns_of tables x) d all l
           ∙ sym (All-contains (λ (c : Column). c.time ≡ time) (columns_of tables x) c all k)))
 
-  -- V9: what isn't a start, and a process that always ends in time
+  -- V9 is sure at a message or a broadcast
   pub message_sure : process_count g ≤ x → IsSure g tables Rule.Due x
   message_sure past = sure_of g tables Rule.Due x refl (λ s c earlier law k m.
       ap (λ b. b && nat_lt (due g x) (c.time + duration g x (fault_of s x))) (le-ltb x (process_count g) past))
 
-  -- a process whose executions end by its due from each column that matches keeps V9
+  -- V9 is sure at a process each of whose columns ends by its due in every scenario that it matches
   pub due_sure : All (λ (c : Column). (s : Scenario) → IsScenario g s → matches c.cube s ≡ true →
       c.time + duration g x (fault_of s x) ≤ due g x) (columns_of tables x) →
       IsSure g tables Rule.Due x

@@ -1,4 +1,4 @@
--- Going over the items: what is known about the columns of each, and where the first violation is.
+-- Going over the items one by one: what is known of their columns, and where the first violation is.
 use Rattle.std.proofs.Common.{ℕ, ◌+◌, ◌<◌, ◌≡◌, false, List, [], ◌∷◌, Option, Some, None, Contains, All, length, arith}
 use Rattle.std.proofs.Common.{subst, inl, inr}
 use Rattle.std.proofs.lemmas.Bool.{cases_lt}
@@ -22,12 +22,13 @@ use Rattle.cpg_table.proofs.GraphTables.{has_shape}
 use Rattle.cpg_table.proofs.Rows.{variables_exist}
 use Rattle.cpg_violation.specs.Violation.{IsFirstColumn, IsFirstViolation, IsFirstOf}
 
+-- an admitted graph
 module _ {g : Graph} {order : List ℕ} {guards : Guards} (admitted : IsAdmitted g order guards) where
-  -- the order has as many processes as the graph
+  -- its order has as many places as the graph has processes
   pub long_order : length order ≡ process_count g
   long_order = length_order (process_count g) order admitted.urgency.all
 
-  -- the variables of an item's columns are the graph's
+  -- in tables of the graph, each item's columns are on variables of the graph
   pub columns_known : (tables : List NodeTable) → AreTablesOf (head_of g) tables → (x : ℕ) →
       All (λ (c : Column). IsKnown g c.cube) (columns_of tables x)
   columns_known tables are x = All-weaker (Contains (columns_of tables x)) (λ (c : Column). IsKnown g c.cube)
@@ -36,10 +37,10 @@ module _ {g : Graph} {order : List ℕ} {guards : Guards} (admitted : IsAdmitted
       (All-contains_itself c.cube))
       (columns_of tables x) (All-contains_itself (columns_of tables x))
 
--- a rule that speaks of columns alone
+-- a rule that is never broken for lack of a column, and an item
 module _ (rule : Rule) (g : Graph) (tables : List NodeTable) (x : ℕ)
     (never : (y : ℕ) (s : Scenario) → breaks rule g tables s y None ≡ false) where
-  -- one item more whose columns keep it
+  -- if it is broken at no item before `x`, and at no column of `x`, it is broken at none before the item after `x`
   pub none_more :
       ((y : ℕ) (column : Option ℕ) (s : Scenario) → y < x → IsScenario g s → breaks rule g tables s y column ≡ false)
       → ((i : ℕ) (s : Scenario) → IsScenario g s → breaks rule g tables s x (Some i) ≡ false)
@@ -52,7 +53,7 @@ module _ (rule : Rule) (g : Graph) (tables : List NodeTable) (x : ℕ)
         subst (λ z. breaks rule g tables s z (Some c) ≡ false) same (here c s i)
   ]
 
-  -- the first of its columns that breaks it, after items that keep it
+  -- if it is broken at no item before `x`, the first column of `x` that breaks it is the first violation
   pub first_violation : (number : ℕ) → number ≡ number_of_rule rule → (order : List ℕ) (j : ℕ) (s : Scenario) →
       x < item_count g
       → ((y : ℕ) (column : Option ℕ) (s : Scenario) → y < x → IsScenario g s → breaks rule g tables s y column ≡ false)
@@ -66,7 +67,7 @@ module _ (rule : Rule) (g : Graph) (tables : List NodeTable) (x : ℕ)
     columns = λ i t h k. first.columns i t h k;
   }
 
--- a first violation of some rules breaks one of them
+-- the first violation of several rules is the first of one of them; by induction on the rules
 pub first_broken : (g : Graph) (order : List ℕ) (tables : List NodeTable) (f : Fault) (rules : List Rule) →
     IsFirstOf g order tables rules f →
     (rule : Rule) × IsFirstViolation g order tables rule f

@@ -7,7 +7,7 @@ use Rattle.cpg_violation.specs.declared.sieve.Sieve.TheDeep.{deep-SieveNode}
 use Rattle.cpg_violation.specs.Parted.{size_of}
 use Rattle.cpg_violation.specs.PartedView.{parted_of}
 
--- how deep a node is nested is at most the size of its tree
+-- a node is nested no deeper than its tree has leaves and cuts, so a walk down its sides ends
 pub deep_le-size : (n : SieveNode) → max (deep-SieveNode n) 0 ≤ size_of (parted_of n)
 deep_le-size (Leaf places) = omega arith
 deep_le-size (Cut v most below above) = omega arith

@@ -1,9 +1,10 @@
--- Room for a scenario.
+-- A scenario into which others can be written.
 use Rattle.std.specs.Prelude.{◌≡◌, length}
 use Rattle.cpg_base.specs.Graph.{Graph, process_count, condition_count}
 use Rattle.cpg_base.specs.Scenario.{Scenario}
 
--- a scenario that another can be written to: as long as the graph's are
+-- the scenario has a value for each condition of the graph and a count for each process, so any other of the graph can
+-- be written over it
 pub record HasRoom (g : Graph) (s : Scenario) : Type 0 where
   pub values : length s.values ≡ condition_count g
   pub faults : length s.faults ≡ process_count g

@@ -8,22 +8,24 @@ use Rattle.cpg_table.specs.declared.rule.Rule.{Rule}
 use Rattle.cpg_violation.specs.declared.marks.RowMarks.{RowMarks}
 use Rattle.cpg_violation.specs.declared.marks.TimeMarks.{TimeMarks}
 
--- no scenario breaks the rule at the item
+-- the rule is broken at item `x` in no scenario, at none of its columns and not for lack of one (`None`)
 abbrev pub IsSure : Graph → List NodeTable → Rule → ℕ → Type 0
 IsSure g tables rule x = (column : Option ℕ) (s : Scenario) → IsScenario g s → breaks rule g tables s x column ≡ false
 
--- no scenario breaks the rule at any item that is marked
+-- the rule is sure at each item that is marked; none is marked past the end of `marks`
 abbrev pub AreSure : Graph → List NodeTable → Rule → List Bool → Type 0
 AreSure g tables rule marks = (x : ℕ) → x < item_count g → get_or marks x false ≡ true → IsSure g tables rule x
 
--- the marks of V1 to V3 are set only at items at which the rules are sure
+-- each item that is marked for one of V1 to V3 is one at which that rule is sure; others may be, too
 pub record AreRowMarks (g : Graph) (tables : List NodeTable) (marks : RowMarks) : Type 0 where
+  -- V1, V2 and V3, each with its marks by item
   pub activity : AreSure g tables Rule.Activity marks.activity.items
   pub single : AreSure g tables Rule.Single marks.single.items
   pub present : AreSure g tables Rule.Present marks.present.items
 
--- the marks of V4 to V9 are set only at items at which the rules are sure
+-- each item that is marked for one of V4 to V9 is one at which that rule is sure; others may be, too
 pub record AreTimeMarks (g : Graph) (tables : List NodeTable) (marks : TimeMarks) : Type 0 where
+  -- V4 to V9, one after another, each with its marks by item
   pub heard : AreSure g tables Rule.Heard marks.heard.items
   pub inputs : AreSure g tables Rule.Inputs marks.inputs.items
   pub processor : AreSure g tables Rule.Processor marks.processor.items

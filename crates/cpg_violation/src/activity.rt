@@ -1,4 +1,4 @@
-//! The least scenario in which a process is active, or isn't, of those that a cube matches and others don't.
+//! The least scenario in which a process is active, or isn't, of those that one cube matches and none of a list does.
 ghost use Rattle.std.specs.Prelude.{◌≡◌, ◌<◌, ◌&&◌, All, IfOk, map};
 ghost use Rattle.cpg_base.specs.declared.limits.TheConstants.{MOST_CONDITIONS};
 ghost use Rattle.cpg_base.specs.Graph.{IsVariable, condition_count};
@@ -15,7 +15,7 @@ use cpg_cube::{Cube, Literal};
 use cpg_rules::{Admitted, GuardTop, GuardTree};
 use std::alloc::Global;
 
-/// The literal which says that a condition has a value.
+/// The literal that says that a condition has a value: false is the number 0, true is 1.
 pub fn value_literal(condition: u32, value: bool) -> Literal
     requires { condition < MOST_CONDITIONS }
     ensures { result ≡ value_literal condition value }
@@ -28,8 +28,8 @@ pub fn value_literal(condition: u32, value: bool) -> Literal
     }
 }
 
-/// The least scenario in which a guard comes to what is wanted and a literal holds, of those that a cube matches and
-/// others don't.
+/// What `least_at` answers of the scenarios in which a literal holds as well: the value of a condition by which a test
+/// leads to this side of the guard.
 #[cycle(activity)]
 fn least_where(
     alloc: Global,
@@ -55,8 +55,8 @@ fn least_where(
     Ok(found)
 }
 
-/// The least scenario that a cube matches, none of a list does, and in which a tree comes to an activation, or else to
-/// none, as wanted; if there is one.
+/// The least scenario that `cube` matches and none of the cubes `by` does, and in which the process of a guard is
+/// active, if `wanted` is true, or inactive, if it is false. `None` exactly if there is none.
 #[cycle(activity)]
 pub fn least_at(
     alloc: Global,
@@ -76,7 +76,7 @@ pub fn least_at(
     let order = admitted.order();
     match tree.top() {
         GuardTop::Leaf(activation) => {
-            // the whole cube comes to the other outcome
+            // in every scenario of the cube the process is what isn't wanted
             if activation.is_active() != wanted {
                 return Ok(None);
             }
@@ -84,7 +84,7 @@ pub fn least_at(
             Ok(found)
         }
         GuardTop::Test { condition, no, yes } => {
-            // the least scenario of each side, and of the two the one that is earlier in the order
+            // every scenario is on one side, so the least of all is the earlier of the two sides' least ones
             let off = value_literal(condition, false);
             let on = value_literal(condition, true);
             let first = least_where(alloc, admitted, no, wanted, cube, off, by)?;

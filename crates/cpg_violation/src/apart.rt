@@ -7,15 +7,15 @@ ghost use Rattle.cpg_violation.specs.Sieves.{touch};
 
 use cpg_cube::Literal;
 
-/// Whether two ranges have a number in common.
+/// Whether the ranges of two literals have a number in common.
 fn touch(first: &Literal, second: &Literal) -> bool
     ensures { result ≡ touch first.now second.now }
 {
     first.low <= second.high && second.low <= first.high
 }
 
-/// Whether a scenario may match two lists of literals, both by rising variables: not if they ask for different numbers of a
-/// variable.
+/// Whether a scenario may match both of two lists of literals, whose variables rise. It can't if their ranges of some
+/// variable have no number in common. True guarantees nothing: the ranges may ask for more faults than there are.
 pub(crate) fn may_meet(first: &[Literal], second: &[Literal]) -> bool
     ensures { OnFalse result ((s : Scenario) → (matches first.now s && matches second.now s) ≡ false) }
 {
@@ -24,11 +24,11 @@ pub(crate) fn may_meet(first: &[Literal], second: &[Literal]) -> bool
     else {
         return true;
     };
-    // the variables rise, so the second list doesn't ask for this one
+    // the variables rise, so the second list says nothing of the first one's next variable
     if one.variable < other.variable {
         return may_meet(rest, second);
     }
-    // the first list doesn't ask for this one
+    // nor does the first list of the second one's
     if one.variable > other.variable {
         return may_meet(first, others);
     }

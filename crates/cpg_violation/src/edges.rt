@@ -1,4 +1,4 @@
-//! The scenarios that let edges be live.
+//! The scenarios in which the source of an edge has the value that the edge asks for.
 ghost use Rattle.std.specs.Prelude.{◌≡◌, ◌<◌, IfOk};
 ghost use Rattle.cpg_base.specs.Graph.{condition_of, edge_at, edge_count, process_count, source};
 ghost use Rattle.cpg_rules.specs.Guards.{is_passed, test_of};
@@ -11,7 +11,8 @@ use cpg_base::{OutOfMemory, Problem};
 use cpg_cube::Cube;
 use std::alloc::Global;
 
-/// The cube of the scenarios in which the source of an edge has the value that the edge asks for.
+/// The cube of the scenarios in which the source of an edge has the value that the edge asks for: all of them if it
+/// asks for none.
 pub fn edge_cube(alloc: Global, problem: &Problem, edge: u32) -> Result<Cube, OutOfMemory>
     requires edge { edge < edge_count problem.now }
     requires source { source problem.now edge < process_count problem.now }
@@ -21,9 +22,11 @@ pub fn edge_cube(alloc: Global, problem: &Problem, edge: u32) -> Result<Cube, Ou
 {
     let edge = problem.edges()[edge as usize];
     let mut cube = Cube::whole(alloc);
+    // a source without a condition has no value that could be asked for
     let Some(condition) = problem.condition_of(edge.from) else {
         return Ok(cube);
     };
+    // the edge asks for no value
     let Some(value) = edge.when else {
         return Ok(cube);
     };

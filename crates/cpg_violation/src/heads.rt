@@ -8,7 +8,8 @@ use cpg_base::{OutOfMemory, Problem, Process, are_same_names};
 use cpg_head::{Extra, Head, HeadProcess, head_of};
 use std::alloc::Global;
 
-/// A part of a pack's head. The first that differs from the graph's is reported.
+/// A part of a pack's head, in the order in which they are compared with the graph's. The first that differs is
+/// reported.
 #[derive(Clone, Copy, Debug, PartialEq, Eq)]
 pub enum HeadPart {
     /// The number of faults.
@@ -21,7 +22,7 @@ pub enum HeadPart {
     Edges,
 }
 
-/// Whether two processes of heads are the same.
+/// Whether two processes of heads are the same: in name, node, whether they have a condition, and how long they take.
 fn is_same_process(process: &HeadProcess, other: &HeadProcess) -> bool
     ensures { IsTrue result ↔ (process.now ≡ other.now) }
 {
@@ -37,7 +38,7 @@ fn is_same_process(process: &HeadProcess, other: &HeadProcess) -> bool
     process.times.times() == other.times.times()
 }
 
-/// Whether two lists of processes of heads are the same.
+/// Whether two lists of processes of heads are the same, place by place.
 fn are_same_processes(processes: &[HeadProcess], others: &[HeadProcess]) -> bool
     ensures { IsTrue result ↔ (processes.now ≡ others.now) }
 {
@@ -52,14 +53,14 @@ fn are_same_processes(processes: &[HeadProcess], others: &[HeadProcess]) -> bool
     true
 }
 
-/// Whether two edges have the same ends.
+/// Whether two edges, given by their source and target, have the same ends.
 fn is_same_edge(edge: (u32, u32), other: (u32, u32)) -> bool
     ensures { IsTrue result ↔ (edge ≡ other) }
 {
     edge.0 == other.0 && edge.1 == other.1
 }
 
-/// Whether two lists of edges have the same ends.
+/// Whether the edges of two lists have the same ends, place by place.
 fn are_same_edges(edges: &[(u32, u32)], others: &[(u32, u32)]) -> bool
     ensures { IsTrue result ↔ (edges.now ≡ others.now) }
 {
@@ -81,16 +82,16 @@ fn is_same_extra(extra: &Extra, process: &Process) -> bool
     extra.release == process.release && extra.deadline == process.deadline
 }
 
-/// Whether the head says of the processes what the graph does in the parts that version 2 adds, if it has them.
+/// Whether a head has the graph's releases and own deadlines, which only version 2 has. A head of version 1 passes.
 fn are_same_extras(problem: &Problem, head: &Head) -> bool
     requires { length head.now.processes ≡ process_count problem.now }
     ensures { IsTrue result ↔ IfSome head.now.extras (λ extras. extras ≡ map extra_of problem.now.processes) }
 {
     let processes = problem.processes();
-    // for `within`: if the head says more of the processes, it does of each
+    // called for its clause `within` alone: a head that has extras has one for each process
     let _described = head.processes();
     for process in 0..processes.len() {
-        // a head of version 1 says nothing more of the processes
+        // a head of version 1
         let Some(extra) = head.extra(process as u32) else {
             return true;
         };
@@ -101,7 +102,7 @@ fn are_same_extras(problem: &Problem, head: &Head) -> bool
     true
 }
 
-/// Whether the processes are the graph's.
+/// Whether a head says of the processes what the graph does. `own` is the graph's own head.
 fn are_processes_of(problem: &Problem, own: &Head, head: &Head) -> bool
     requires { own.now ≡ head_of problem.now }
     ensures { IsTrue result ↔ AreProcessesOf problem.now head.now }
@@ -112,7 +113,8 @@ fn are_processes_of(problem: &Problem, own: &Head, head: &Head) -> bool
     are_same_extras(problem, head)
 }
 
-/// The first part in which a head differs from the graph's, and `None` exactly if it is the graph's.
+/// The first part in which a head differs from the graph's, and `None` exactly if it is the graph's. The one error is
+/// `OutOfMemory`.
 pub fn first_difference(
     alloc: Global,
     problem: &Problem,

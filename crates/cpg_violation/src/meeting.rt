@@ -9,8 +9,9 @@ ghost use Rattle.cpg_violation.specs.Room.{HasRoom};
 use cpg_base::{OutOfMemory, Problem, Scenario};
 use cpg_cube::Cube;
 
-/// The least scenario that two cubes match, if there is one. `room` is that scenario then, also if no memory is
-/// left for its copy; if there is none, `room` stays as it was.
+/// The least scenario that two cubes match, and `None` exactly if no scenario matches both. Any scenario of the graph
+/// may be passed as `room`: it becomes the least one, even if no memory is left for its copy, and stays as it was if
+/// there is none.
 pub fn met(
     problem: &Problem,
     cube: &Cube,

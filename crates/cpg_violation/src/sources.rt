@@ -1,4 +1,4 @@
-//! What makes an item active.
+//! What makes an item active: a process, an edge, or nothing.
 ghost use Rattle.std.specs.Prelude.{◌≡◌, ◌<◌, List, Bool};
 ghost use Rattle.cpg_base.specs.Activity.{item_active};
 ghost use Rattle.cpg_base.specs.Graph.{condition_count, edge_count, item_at, item_count};
@@ -7,18 +7,18 @@ ghost use Rattle.cpg_violation.specs.Sources.{IsSourceIn, is_active_by};
 
 use cpg_base::{Item, Problem};
 
-/// What makes an item active.
+/// What has to be active or live for an item to be active.
 #[derive(Clone, Copy, Debug, PartialEq, Eq)]
 pub enum ItemSource {
-    /// Nothing: it is never sent.
+    /// Nothing makes it active: it is never sent.
     Nothing,
-    /// A process that is active.
+    /// The process with this number, when it is active.
     Process(u32),
-    /// An edge that is live.
+    /// The edge with this number, when it is live.
     Edge(u32),
 }
 
-/// What makes an edge's message active: the edge, if its ends lie on two nodes.
+/// What makes an edge's message active: the edge, if its ends lie on two nodes. Otherwise it has no message.
 fn message_source(problem: &Problem, edge: u32) -> ItemSource
     requires { edge < edge_count problem.now }
     ensures active { (values : List Bool) → item_active problem.now values (Item.Message edge) ≡ is_active_by problem.now values result }
@@ -31,7 +31,7 @@ fn message_source(problem: &Problem, edge: u32) -> ItemSource
     }
 }
 
-/// What makes a condition's broadcast active: the condition's process, if there are two nodes or more.
+/// What makes a condition's broadcast active: the condition's process. With a single node nothing is broadcast.
 fn broadcast_source(problem: &Problem, condition: u32) -> ItemSource
     requires { condition < condition_count problem.now }
     ensures active { (values : List Bool) → item_active problem.now values (Item.Broadcast condition) ≡ is_active_by problem.now values result }
@@ -44,7 +44,7 @@ fn broadcast_source(problem: &Problem, condition: u32) -> ItemSource
     }
 }
 
-/// What makes an item active.
+/// What makes an item active: a start its process, a message its edge, a broadcast the process of its condition.
 pub fn item_source(problem: &Problem, item: u32) -> ItemSource
     requires { item < item_count problem.now }
     ensures active { (values : List Bool) → item_active problem.now values (item_at problem.now item) ≡ is_active_by problem.now values result }

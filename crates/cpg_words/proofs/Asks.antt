@@ -48,6 +48,7 @@ ok_asks app words m is text faults found = elim (line_reads forms forms_refuse w
 pub bad_asks : (app : App) (words : List Text) (e : Error) → app ≡ line_app → AllTexts words
     → (is_simple_and_free app ≡ true → HasKind (fault_of app words) e) → kind_of e ≢ OutOfMemory →
     command_of words ≡ None
+-- if both took the words, `clap` would have no fault but for memory; so both refuse them
 bad_asks app words e is text faults other = elim (line_reads forms forms_refuse words text) [
   | inl a ↦ let none : fault_of app words ≡ [] = ap (λ (x : App). fault_of x words) is ∙ a.no_fault in
       elim (subst (λ (k : Kinds). HasKind k e) none (faults (ap is_simple_and_free is))) [

@@ -39,7 +39,7 @@ first_flag y rest [] e text =
     cc
 first_flag y rest (c ∷ cs) e text = (c, refl)
 
--- one byte, and then n more
+-- the first n + 1 bytes of a text are its first byte and then n more
 take_one : (n x : ℕ) (xs : Text) → take (1 + n) (x ∷ xs) ≡ x ∷ take n xs
 take_one n x xs = let e : 1 + n ≡ suc n = omega arith in rw e refl
 
@@ -63,7 +63,7 @@ turns_long w = rw (before_minus (45 ∷ w), before_minus w) refl
 value_long : (w : Text) → value_in (45 ∷ 45 ∷ w) ≡ (name_and_value w).1
 value_long w = rw (after_minus (45 ∷ w), after_minus w) refl
 
--- a byte that isn't a minus, asked the other way around
+-- a byte that isn't a minus (45), with the sides of the test exchanged
 not_minus : (y : ℕ) → (y == 45) ≡ false → (45 == y) ≡ false
 not_minus y h = grind (arith, nat_tests)
 
@@ -77,6 +77,7 @@ other_second y rest false e h = rw (e, take_one (prefix_len (λ x. not (is_equal
 look_long : (x y z : ℕ) (zs : Text) → (x == 45) ≡ true → (y == 45) ≡ true → (b : Bool) →
     bytes_eq (codes "turns") (name_and_value (z ∷ zs)).0 ≡ b
     → Look (x ∷ y ∷ z ∷ zs)
+-- by whether what is before an equals sign is `turns`
 look_long x y z zs e d true n =
     let x_is : x ≡ 45 = eqb-true x 45 e in
     let y_is : y ≡ 45 = eqb-true y 45 d in
@@ -91,6 +92,7 @@ look_long x y z zs e d false n =
 -- a word of two bytes or more is plain, two dashes alone, a long option or a short one; by its first two bytes
 look_two : (x y : ℕ) (rest : Text) (b c : Bool) → (x == 45) ≡ b → (y == 45) ≡ c → IsUtf8 (x ∷ y ∷ rest) →
     Look (x ∷ y ∷ rest)
+-- no dash first; two dashes alone; two dashes and more; one dash alone
 look_two x y rest false c e d text = plain e (rw e refl) (rw e refl) (rw e refl)
 look_two x y [] true true e d text = dashes e (rw (e, d) refl)
 look_two x y (z ∷ zs) true true e d text = look_long x y z zs e d _ refl

@@ -42,6 +42,7 @@ pub pairs_step : (left : List (Bor Text)) (d : Bor Text) (items now : List Pair)
     → number (get_or left 0 d).now ≡ Some p.period → p.graph ≡ (get_or left 1 d).now → now ≡ items ++ p ∷ []
     → joined items (pairs_of (texts left)) ≡ whole
     → joined now (pairs_of (texts (take (length left - 2) (drop 2 left)))) ≡ whole
+-- the words left are a period, a graph and others, so their pairs are the one that was read and those of the others
 pairs_step left d items now p whole long period graph more so_far =
     let rest = pairs_of (texts (take (length left - 2) (drop 2 left))) in
     let ps = items in

@@ -25,6 +25,7 @@ add_past : (id other v : Text) (r : Row) (rs : List Row) (b c : Bool) → bytes_
     bytes_eq id other ≡ false
     → values_in other (add id v rs) ≡ values_in other rs →
     values_in other (add id v (r ∷ rs)) ≡ values_in other (r ∷ rs)
+-- the first row is that of `id`, that of the other argument, or of neither
 add_past id other v r rs true c e f off h =
     let same : r.id ≡ id = (bytes_eq-Decides r.id id).0 e in
     let not_other : bytes_eq r.id other ≡ false = rw same off in

@@ -25,12 +25,12 @@ abbrev pub is_refused : Option Parts → Bool
 is_refused None = true
 is_refused (Some p) = list_any (λ v. not (is_some (number v))) p.turns
 
--- what is refused is so with one word more
+-- parts that are refused are refused with one positional more
 refused_positional : (w : Text) (o : Option Parts) → is_refused o ≡ true → is_refused (with_positional w o) ≡ true
 refused_positional w None h = refl
 refused_positional w (Some p) h = h
 
--- what is refused is so with a number of turns more
+-- parts that are refused are refused with one value of `--turns` more
 refused_turns : (v : Text) (o : Option Parts) → is_refused o ≡ true → is_refused (with_turns v o) ≡ true
 refused_turns v None h = refl
 refused_turns v (Some p) h = rw h (or-true (not (is_some (number v))))
@@ -40,7 +40,8 @@ refused_value : (v : Text) (o : Option Parts) → number v ≡ None → is_refus
 refused_value v None e = refl
 refused_value v (Some p) e = rw e refl
 
--- both take the words, and the rows have what the parts have
+-- both take the words: `clap` has no fault, and its rows have the positionals and the values of the parts that the rule found,
+-- behind those of the rows at the start
 pub record Taken (fault : Kinds) (rows start : List Row) (parts : Option Parts) : Type 0 where
   pub found : Parts
   pub parts_are : parts ≡ Some found
@@ -48,7 +49,7 @@ pub record Taken (fault : Kinds) (rows start : List Row) (parts : Option Parts) 
   pub words : values_in (codes "words") rows ≡ values_in (codes "words") start ++ found.positionals
   pub turns : values_in (codes "turns") rows ≡ values_in (codes "turns") start ++ found.turns
 
--- both refuse them
+-- both refuse the words: `clap` has a fault, and each command refuses the parts
 pub record Refused (fault : Kinds) (parts : Option Parts) : Type 0 where
   pub fails : Walking.Fails fault
   pub refused : is_refused parts ≡ true
@@ -67,6 +68,7 @@ fails_as a b e f = subst Walking.Fails (sym e) f
 trail_fault : (ws : List Text) (last : Walking.Last) (rows : List Row) →
     Walking.fault_from (Walking.at true last rows) ws ≡ []
 unfolding walk_fault
+-- by induction on the words
 trail_fault [] last rows = Walking.settles last rows
 trail_fault (w ∷ ws) last rows =
     Walking.fault_steps _ _ w ws (Walking.trailing_passes last rows w) (Walking.trailing_step last rows w)
@@ -76,6 +78,7 @@ trail_fault (w ∷ ws) last rows =
 trail_words : (ws : List Text) (last : Walking.Last) (rows : List Row)
     → values_in (codes "words") (Walking.rows_from (Walking.at true last rows) ws)
     ≡ values_in (codes "words") (Walking.rows_with last rows) ++ ws
+-- by induction on the words
 trail_words [] last rows = ap (values_in (codes "words")) (Walking.settled_is last rows) ∙ sym (append-nil _)
 trail_words (w ∷ ws) last rows =
     let start = Walking.rows_with last rows in
@@ -88,6 +91,7 @@ trail_words (w ∷ ws) last rows =
 trail_turns : (ws : List Text) (last : Walking.Last) (rows : List Row)
     → values_in (codes "turns") (Walking.rows_from (Walking.at true last rows) ws)
     ≡ values_in (codes "turns") (Walking.rows_with last rows)
+-- by induction on the words
 trail_turns [] last rows = ap (values_in (codes "turns")) (Walking.settled_is last rows)
 trail_turns (w ∷ ws) last rows =
     let start = Walking.rows_with last rows in
@@ -100,6 +104,7 @@ trail_turns (w ∷ ws) last rows =
 with_word : (w : Text) (fault now : Kinds) (rows rows_now start : List Row) (parts parts_now : Option Parts)
     → now ≡ fault → rows_now ≡ rows → parts_now ≡ with_positional w parts
     → Verdict fault rows (Walking.add (codes "words") w start) parts → Verdict now rows_now start parts_now
+-- if both take the others, the word comes first among the positionals of both; if both refuse the others, they refuse all
 with_word w fault now rows rows_now start parts parts_now f r p (inl t) = inl (record {
   found = record { positionals = w ∷ t.found.positionals; turns = t.found.turns };
   parts_are = p ∙ ap (with_positional w) t.parts_are;
@@ -119,6 +124,7 @@ with_word w fault now rows rows_now start parts parts_now f r p (inr t) = inr (r
 with_turn : (v : Text) (fault now : Kinds) (rows rows_now start : List Row) (parts parts_now : Option Parts)
     → now ≡ fault → rows_now ≡ rows → parts_now ≡ with_turns v parts
     → Verdict fault rows (Walking.add (codes "turns") v start) parts → Verdict now rows_now start parts_now
+-- if both take the others, the value comes first among the values of both; if both refuse the others, they refuse all
 with_turn v fault now rows rows_now start parts parts_now f r p (inl t) = inl (record {
   found = record { positionals = t.found.positionals; turns = v ∷ t.found.turns };
   parts_are = p ∙ ap (with_turns v) t.parts_are;
@@ -178,6 +184,8 @@ read_no_value rows = inr (record { fails = tt; refused = refl })
 
 -- a word and the words behind it are read as the rule says; by how the word looks
 read_word : (w : Text) (ws : List Text) → Look w → Reads ws → ReadsValue ws → Reads (w ∷ ws)
+-- A plain word is a positional. After `--` all are. `--turns=V` is a value, and `--turns` awaits one. Any other option is
+-- refused by both.
 read_word w ws (plain o d l s) more value last rows =
     with_word w _ _ _ _ (Walking.rows_with last rows) (parts_from false ws) _
     (Walking.fault_steps _ _ w ws (Walking.plain_passes last rows w d l s) (Walking.plain_step last rows w d l s))
@@ -216,6 +224,7 @@ read_word w ws (short flags c o d t l s f) more value last rows = inr (record {
 
 -- the same if the word stands where the value of `turns` is awaited
 read_value : (w : Text) (ws : List Text) → Look w → Reads ws → ReadsValue (w ∷ ws)
+-- a plain word is the value; any option is refused by `clap`, and by the rule since it is no number
 read_value w ws (plain o d l s) more rows = with_turn w _ _ _ _ rows (parts_from false ws) _
     (Walking.fault_steps _ _ w ws (Walking.turn_passes rows w d l s) (Walking.turn_step rows w d l s))
     (Walking.rows_step _ _ w ws (Walking.turn_step rows w d l s))
@@ -239,6 +248,7 @@ read_value w ws (short flags c o d t l s f) more rows = inr (record {
 
 -- `clap` and the rule take the same words, with the same positionals and values, or both refuse them
 pub reads : (ws : List Text) → AllTexts ws → Reads ws × ReadsValue ws
+-- by induction on the words
 reads [] text = (read_none, read_no_value)
 reads (w ∷ ws) text =
     let seen = look w text.0 in

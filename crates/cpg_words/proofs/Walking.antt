@@ -22,7 +22,7 @@ level name = built_leaf (inherited (with_leaf_noted (marked_built top_app.top)) 
 abbrev pub level_rules : List Rule
 level_rules = (level []).rules
 
--- what was read last, and is not yet among the rows
+-- what was read last and isn't among the rows yet: nothing, a positional, or a value of `--turns`
 pub data Last : Type 0 where
   clear : Last
   after_word : Text → Last
@@ -77,7 +77,7 @@ step_of w word = walked level_rules [] w word
 abbrev pub fault_at : Walk → Text → Kinds
 fault_at w word = turn_fault (level []) [] w word
 
--- the kinds of a failed parse
+-- a parse fails: there is a kind of fault
 abbrev pub Fails : Kinds → Type 0
 Fails [] = ⊥
 Fails (k ∷ ks) = Unit {0}
@@ -148,7 +148,7 @@ value_passes clear rows w name v d l n = rw (d, l, n) refl
 value_passes (after_word x) rows w name v d l n = rw (d, l, n) refl
 value_passes (after_turn x) rows w name v d l n = rw (d, l, n) refl
 
--- `--turns=VALUE` adds the value
+-- the word `--turns=VALUE` adds its value to the rows
 pub value_step : (last : Last) (rows : List Row) (w name v : Text) → bytes_eq w (codes "--") ≡ false →
     long_of w ≡ Some (name, Some v)
     → bytes_eq (codes "turns") name ≡ true →
@@ -158,7 +158,7 @@ value_step clear rows w name v d l n = rw (d, l, n) refl
 value_step (after_word x) rows w name v d l n = rw (d, l, n) refl
 value_step (after_turn x) rows w name v d l n = rw (d, l, n) refl
 
--- `--turns` is no fault
+-- the word `--turns` is no fault by itself: its value may follow
 pub turns_passes : (last : Last) (rows : List Row) (w name : Text) → bytes_eq w (codes "--") ≡ false →
     long_of w ≡ Some (name, None)
     → bytes_eq (codes "turns") name ≡ true → fault_at (at false last rows) w ≡ []
@@ -230,7 +230,7 @@ awaiting_short rows w (y ∷ ys) c d l s f = rw (d, l, s, f) tt
 abbrev pub fault_from : Walk → List Text → Kinds
 fault_from w ws = or_else (walk_fault (level []) [] w ws) (settle_fault level_rules false (fold step_of w ws).held)
 
--- the rows at its end
+-- the rows of the walk at its end
 abbrev pub rows_from : Walk → List Text → List Row
 rows_from w ws = (settled level_rules (fold step_of w ws).held).rows
 

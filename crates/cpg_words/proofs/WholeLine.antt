@@ -64,6 +64,7 @@ or_else_none (k ∷ ks) = refl
 level_fault_is : (n : Text) (ws : List Text) →
     level_fault (Walking.level n) [] nothing_held ws false []
     ≡ Walking.fault_from (Walking.at false Walking.clear []) ws
+-- the walk's fault doesn't depend on the level's name, and defaults and what comes after add none
 level_fault_is n ws =
     let end = (fold Walking.step_of (Walking.at false Walking.clear []) ws).held in
     let at_end = settle_fault Walking.level_rules false end in
@@ -231,7 +232,7 @@ EachRefuses (f ∷ fs) =
     ((ps ts : List Text) → is_refused (Some (record { positionals = ps; turns = ts })) ≡ true → f.1 ps ts ≡ None) ×
     EachRefuses fs
 
--- if one form refuses the parts and so do the others, all do
+-- if the first form refuses the parts and the others do, all do
 form_refuses : (f : Form) (fs : List Form) (w : Text) (p : Parts) (b : Bool) → bytes_eq f.0 w ≡ b →
     (f.1 p.positionals p.turns ≡ None) →
     command_named fs w p ≡ None
@@ -280,6 +281,7 @@ pub record Rejected (fs : List Form) (words : List Text) : Type 0 where
 -- words that begin with a command's name are accepted by both, or refused by both
 with_name : (fs : List Form) → EachRefuses fs → (w : Text) (ws : List Text) → Named fs w → AllTexts ws →
     Accepted fs (w ∷ ws) ⊎ Rejected fs (w ∷ ws)
+-- by `reads` both take the words behind the name, or both refuse them
 with_name fs each w ws n text = elim ((reads ws text).0 Walking.clear []) [
   | inl t ↦ inl (record {
     name = w;
@@ -310,7 +312,7 @@ line_reads fs each (w ∷ ws) text = elim (named fs w) [
 
 -- ---- the forms
 
--- a number that isn't there
+-- an option that is tested to have no number is None
 not_number : (o : Option ℕ) → (not (is_some o) || false) ≡ true → o ≡ None
 not_number None e = refl
 not_number (Some n) e = cc
@@ -370,7 +372,8 @@ hyper_refuses : (ps ts : List Text) → is_refused (Some (record { positionals =
 hyper_refuses ps [] h = cc
 hyper_refuses ps (t ∷ ts) h = refl
 
--- each form of the command line refuses a value of `--turns` that is no number
+-- Each form of the command line refuses a value of `--turns` that is no number: one proof for each form, in the order of the
+-- list.
 pub forms_refuse : EachRefuses forms
 forms_refuse = (
   one_word_refuses Show,

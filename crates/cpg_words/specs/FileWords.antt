@@ -19,7 +19,7 @@ file_words (Hyper parts) = map (λ part. part.graph) parts
 file_words (Tune graph) = graph ∷ []
 file_words (Audit graph pack log) = graph ∷ pack ∷ log ∷ []
 
--- If there is no command, no files are named.
+-- The files of a command, or none if there is no command.
 abbrev pub file_words_if : Option Command → List Text
 file_words_if None = []
 file_words_if (Some command) = file_words command

@@ -1,19 +1,19 @@
--- The command line as `clap` sees it: each command has a list of words and a list of values of `--turns`.
+-- The command line as `clap` sees it: each command takes positionals and values of `--turns`, both any number of times.
 use Rattle.std.specs.Prelude.{List, codes, Some, true, fold, map}
 use Rattle.clap.specs.Words.{App, Rule, new_app, new_rule, with_rule, with_subcommand}
 use Rattle.clap.specs.declared.builder.ArgAction.TheVariants.{Append}
 use Rattle.cpg_words.specs.Parts.{Text}
 use Rattle.cpg_words.specs.Forms.{forms}
 
--- The argument that takes the positionals.
+-- The argument `words`, which takes all positionals.
 abbrev pub positionals_rule : Rule
 positionals_rule = record (new_rule (codes "words")) { action = Some Append }
 
--- The option `--turns` with its values.
+-- The option `--turns`, which takes a value each time.
 abbrev pub turns_rule : Rule
 turns_rule = record (new_rule (codes "turns")) { long = Some (codes "turns"); action = Some Append }
 
--- A command without help and version.
+-- A command without the flags for help and version, which `clap` would add.
 abbrev pub plain_app : Text → App
 plain_app name = record (new_app name)
     { top = record ((new_app name).top) { disable_help_flag = true; disable_version_flag = true } }
@@ -22,7 +22,7 @@ plain_app name = record (new_app name)
 abbrev pub sub_app : Text → App
 sub_app name = with_rule (with_rule (plain_app name) positionals_rule) turns_rule
 
--- The command line without its commands.
+-- The command line before its commands are added: its first word is the name of a command, and one is required.
 abbrev pub top_app : App
 top_app = record (plain_app (codes "cpgc")) {
   top = record ((plain_app (codes "cpgc")).top)

@@ -1,15 +1,15 @@
--- What a parse by `clap` asks for.
+-- Which command a parse by `clap` asks for.
 use Rattle.std.specs.Prelude.{codes, List, [], Option, Some, None, unwrap_or}
 use Rattle.clap.specs.Walk.{Row, all_of}
 use Rattle.cpg_words.specs.Parts.{Text}
 use Rattle.cpg_words.specs.Forms.{command_named, forms}
 use Rattle.cpg_words.specs.declared.command.Command.{Command}
 
--- The values of one argument among the rows of a parse.
+-- The values of the argument `id` among the rows of a parse, or none if it isn't there.
 abbrev pub values_in : Text → List Row → List Text
 values_in id rows = unwrap_or (all_of id rows) []
 
--- What the subcommand of a parse and its rows ask for.
+-- The command that the subcommand of a parse asks for, given by its name and its rows; None without a subcommand.
 abbrev pub command_at : Option (Text × List Row) → Option Command
 command_at None = None
 command_at (Some p) =

@@ -3,7 +3,7 @@ use Rattle.std.specs.Prelude.{ℕ, ◌&&◌, ◌^◌, Bool, List, length, Option
 use Rattle.std.specs.Str.{all_ascii_digits}
 use Rattle.std.specs.Str.Parse.{digits_value}
 
--- 1 to 20 decimal digits, and nothing else.
+-- Whether a word is 1 to 20 decimal digits, and nothing else. The greatest number below 2^64 has 20.
 abbrev pub is_numeral : List ℕ → Bool
 is_numeral w = all_ascii_digits w && (nat_lt 0 (length w) && nat_le (length w) 20)
 

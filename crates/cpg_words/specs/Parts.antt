@@ -26,26 +26,26 @@ with_positional w = option_map (λ p. record { positionals = w ∷ p.positionals
 abbrev pub with_turns : Text → Option Parts → Option Parts
 with_turns v = option_map (λ p. record { positionals = p.positionals; turns = v ∷ p.turns })
 
--- The byte `=`.
+-- Whether a byte is `=`.
 abbrev pub is_equals : ℕ → Bool
 is_equals b = b == 61
 
--- A word longer than one byte that begins with `-`.
+-- Whether a word begins with `-` (byte 45) and is longer than that.
 abbrev pub is_option : Text → Bool
 is_option [] = false
 is_option (b ∷ []) = false
 is_option (b ∷ c ∷ rest) = b == 45
 
--- The word `--turns`, or one that begins with `--turns=`.
+-- Whether a word is `--turns` or begins with `--turns=`.
 abbrev pub is_turns : Text → Bool
 is_turns w = bytes_eq (codes "--turns") (before_first is_equals w)
 
--- What follows the first `=` of a word.
+-- What follows the first `=` of a word, or None if it has no `=`.
 abbrev pub value_in : Text → Option Text
 value_in w = if list_any is_equals w then Some (after_first is_equals w) else None
 
--- An option and the words after it. `--turns` is the only option. Its value follows `=`, and the words after it are
--- then read by themselves (`others`); without a `=` its value is the next word (`value_first`).
+-- The parts of an option w and the words after it; None if it isn't `--turns`, the only option. If its value follows a `=`,
+-- the words after it are read by themselves (`others`). Otherwise its value is the next word (`value_first`).
 abbrev pub with_option : Text → Option Parts → Option Parts → Option Parts
 with_option w others value_first =
     if is_turns w then (elim (value_in w) [ Some v ↦ with_turns v others | None ↦ value_first ]) else None

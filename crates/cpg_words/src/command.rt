@@ -1,4 +1,4 @@
-//! The command that a command line asks for.
+//! Commands: what a command line may ask for.
 ghost use Rattle.std.specs.Prelude.{◌≡◌, ◌<◌, ◌≤◌, length};
 ghost use Rattle.cpg_words.specs.Forms.{one_to_four};
 
@@ -90,6 +90,7 @@ pub struct Pair {
 /// One to four pairs, seen as their list in the order of the words.
 #[derive(Debug, Drop)]
 pub struct Pairs {
+    /// The pairs, in the order of the words.
     pairs: Vec<Pair>,
 }
 
@@ -105,7 +106,7 @@ impl Model for Pairs {
 }
 
 impl Pairs {
-    /// Takes one to four pairs. `None` exactly if there are fewer or more.
+    /// Returns these pairs if there are one to four; `None` exactly if there are fewer or more.
     pub(crate) fn new(pairs: Vec<Pair>) -> Option<Pairs>
         ensures { result ≡ one_to_four pairs.items }
     {
@@ -118,7 +119,7 @@ impl Pairs {
         Some(Pairs { pairs })
     }
 
-    /// The pairs, in the order of the words.
+    /// Returns the pairs, in the order of the words.
     pub fn as_slice(&self) -> &[Pair]
         ensures pairs { result.now ≡ self.now }
         ensures some { 0 < length self.now }

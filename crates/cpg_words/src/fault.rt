@@ -1,12 +1,12 @@
-//! Why words make no command.
+//! Why a list of words makes no command.
 
 use std::alloc::{AllocError, AllocFailed};
 use thiserror::Error;
 
-/// Why words make no command.
+/// Why a list of words makes no command.
 #[derive(Clone, Copy, Debug, PartialEq, Eq, Error)]
 pub enum WordsFault {
-    /// The words have no form of the command line.
+    /// The words don't have the form of any command.
     #[error("the words have no form")]
     Bad,
     /// Out of memory.

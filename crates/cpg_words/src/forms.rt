@@ -1,5 +1,5 @@
-//! The form of each command: from its positionals and the values of `--turns` to the command, and `Bad` if they
-//! aren't exactly those that it has.
+//! The form of each command. Each function here takes the positionals (`words`) and the values of `--turns` (`turns`), and
+//! returns the command, or the error `Bad` if they aren't exactly those that it has. `OutOfMemory` may come in place of either.
 ghost use Rattle.std.specs.Prelude.{◌≡◌, IfOk, Err, Some, None};
 ghost use Rattle.cpg_words.specs.Answers.{Answers};
 ghost use Rattle.cpg_words.specs.Parts.{texts};
@@ -11,7 +11,7 @@ use crate::number::number;
 use crate::word::Word;
 use std::alloc::Global;
 
-/// `show GRAPH`.
+/// Reads `show GRAPH`.
 fn show(alloc: Global, words: &[&str], turns: &[&str]) -> Result<Command, WordsFault>
     ensures { Answers (one_word Command.Show (texts words.now) (texts turns.now)) result }
 {
@@ -23,7 +23,7 @@ fn show(alloc: Global, words: &[&str], turns: &[&str]) -> Result<Command, WordsF
     })
 }
 
-/// `check GRAPH PACK`.
+/// Reads `check GRAPH PACK`.
 fn check(alloc: Global, words: &[&str], turns: &[&str]) -> Result<Command, WordsFault>
     ensures { Answers (two_words Command.Check (texts words.now) (texts turns.now)) result }
 {
@@ -36,7 +36,7 @@ fn check(alloc: Global, words: &[&str], turns: &[&str]) -> Result<Command, Words
     })
 }
 
-/// `play GRAPH PACK SCENARIO --turns N`.
+/// Reads `play GRAPH PACK SCENARIO --turns N`.
 fn play(alloc: Global, words: &[&str], turns: &[&str]) -> Result<Command, WordsFault>
     ensures { Answers (play_of (texts words.now) (texts turns.now)) result }
 {
@@ -54,7 +54,7 @@ fn play(alloc: Global, words: &[&str], turns: &[&str]) -> Result<Command, WordsF
     })
 }
 
-/// `compile GRAPH`.
+/// Reads `compile GRAPH`.
 fn compile(alloc: Global, words: &[&str], turns: &[&str]) -> Result<Command, WordsFault>
     ensures { Answers (one_word Command.Compile (texts words.now) (texts turns.now)) result }
 {
@@ -66,7 +66,7 @@ fn compile(alloc: Global, words: &[&str], turns: &[&str]) -> Result<Command, Wor
     })
 }
 
-/// `node PACK NAME`.
+/// Reads `node PACK NAME`.
 fn node(alloc: Global, words: &[&str], turns: &[&str]) -> Result<Command, WordsFault>
     ensures { Answers (two_words Command.Node (texts words.now) (texts turns.now)) result }
 {
@@ -79,7 +79,7 @@ fn node(alloc: Global, words: &[&str], turns: &[&str]) -> Result<Command, WordsF
     })
 }
 
-/// `trial N`.
+/// Reads `trial N`.
 fn trial(words: &[&str], turns: &[&str]) -> Result<Command, WordsFault>
     ensures { Answers (trial_of (texts words.now) (texts turns.now)) result }
 {
@@ -92,7 +92,7 @@ fn trial(words: &[&str], turns: &[&str]) -> Result<Command, WordsFault>
     }
 }
 
-/// `live PACK NAME STREAM`.
+/// Reads `live PACK NAME STREAM`.
 fn live(alloc: Global, words: &[&str], turns: &[&str]) -> Result<Command, WordsFault>
     ensures { Answers (three_words Command.Live (texts words.now) (texts turns.now)) result }
 {
@@ -106,7 +106,7 @@ fn live(alloc: Global, words: &[&str], turns: &[&str]) -> Result<Command, WordsF
     })
 }
 
-/// `tune GRAPH`.
+/// Reads `tune GRAPH`.
 fn tune(alloc: Global, words: &[&str], turns: &[&str]) -> Result<Command, WordsFault>
     ensures { Answers (one_word Command.Tune (texts words.now) (texts turns.now)) result }
 {
@@ -118,7 +118,7 @@ fn tune(alloc: Global, words: &[&str], turns: &[&str]) -> Result<Command, WordsF
     })
 }
 
-/// `audit GRAPH PACK LOG`.
+/// Reads `audit GRAPH PACK LOG`.
 fn audit(alloc: Global, words: &[&str], turns: &[&str]) -> Result<Command, WordsFault>
     ensures { Answers (three_words Command.Audit (texts words.now) (texts turns.now)) result }
 {
@@ -132,7 +132,8 @@ fn audit(alloc: Global, words: &[&str], turns: &[&str]) -> Result<Command, Words
     })
 }
 
-/// The words two by two, each pair a period and a graph.
+/// Reads the words two by two, each pair a period and a graph. It fails with `Bad` only if a word is left over or a period is no
+/// number.
 fn pairs(alloc: Global, words: &[&str]) -> Result<Vec<Pair>, WordsFault>
     ensures ok { IfOk result (λ pairs. pairs_of (texts words.now) ≡ Some pairs.items) }
     ensures bad { result ≡ Err WordsFault.Bad → pairs_of (texts words.now) ≡ None }
@@ -147,17 +148,18 @@ fn pairs(alloc: Global, words: &[&str]) -> Result<Vec<Pair>, WordsFault>
         pairs.push(Pair { period, graph })?;
         left = rest;
     }
-    // one word is left over, without a graph
+    // one word is left over: a period without a graph
     if !left.is_empty() {
         return Err(WordsFault::Bad);
     }
     Ok(pairs)
 }
 
-/// `hyper N GRAPH`, with one to four such pairs.
+/// Reads `hyper N GRAPH`, with one to four such pairs.
 fn hyper(alloc: Global, words: &[&str], turns: &[&str]) -> Result<Command, WordsFault>
     ensures { Answers (hyper_of (texts words.now) (texts turns.now)) result }
 {
+    // `hyper` takes no `--turns`
     if !turns.is_empty() {
         return Err(WordsFault::Bad);
     }
@@ -168,7 +170,8 @@ fn hyper(alloc: Global, words: &[&str], turns: &[&str]) -> Result<Command, Words
     }
 }
 
-/// The command of this name, if it takes these positionals and these values of `--turns`; else `Bad`.
+/// Returns the command of this name with these positionals and these values of `--turns`. It fails with `Bad` only if there is
+/// no such command, or its form has others.
 pub fn command(
     alloc: Global,
     name: &str,

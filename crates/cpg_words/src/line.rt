@@ -1,5 +1,5 @@
-//! The command line as it is described to `clap`. Each command takes any number of positionals and of values of
-//! `--turns`, as texts: which of these it needs is tested after the parse.
+//! The command line as it is described to `clap`. Each command takes any number of positionals and of values of `--turns`, as
+//! texts: whether it needs just these is tested after the parse.
 ghost use Rattle.std.specs.Prelude.{◌≡◌, IfOk, false, fold, map};
 ghost use Rattle.clap.specs.Words.{app_of, rule_of};
 ghost use Rattle.clap.specs.declared.builder.command.Command.TheViews.{out-Command};
@@ -8,7 +8,7 @@ ghost use Rattle.cpg_words.specs.Line.{positionals_rule, turns_rule, plain_app, 
 use clap::{Arg, ArgAction, Command};
 use std::alloc::{AllocError, Global};
 
-/// The argument for all positionals of a command.
+/// Returns the argument `words`, which takes all positionals of a command.
 fn positionals<'a>(alloc: Global) -> Arg<'a>
     ensures rule { rule_of result ≡ positionals_rule }
     ensures local { result.global ≡ false }
@@ -16,7 +16,7 @@ fn positionals<'a>(alloc: Global) -> Arg<'a>
     Arg::new(alloc, "words").action(ArgAction::Append)
 }
 
-/// The argument for all values of `--turns`.
+/// Returns the argument `turns`, which takes all values of `--turns`.
 fn turns<'a>(alloc: Global) -> Arg<'a>
     ensures rule { rule_of result ≡ turns_rule }
     ensures local { result.global ≡ false }
@@ -26,7 +26,7 @@ fn turns<'a>(alloc: Global) -> Arg<'a>
         .action(ArgAction::Append)
 }
 
-/// A command without help and version.
+/// Returns a command without the flags for help and version, which `clap` would add.
 fn plain<'a>(alloc: Global, name: &'a str) -> Command<'a>
     ensures app { app_of result ≡ plain_app name.entry.now }
     ensures local { (out-Command result).has_globals ≡ false }
@@ -36,7 +36,7 @@ fn plain<'a>(alloc: Global, name: &'a str) -> Command<'a>
         .disable_version_flag(true)
 }
 
-/// The subcommand of this name.
+/// Returns the subcommand of this name, with its positionals and `--turns`. It fails only if memory runs out.
 fn form<'a>(alloc: Global, name: &'a str) -> Result<Command<'a>, AllocError>
     ensures app { IfOk result (λ c. app_of c ≡ sub_app name.entry.now) }
     ensures local { IfOk result (λ c. (out-Command c).has_globals ≡ false) }
@@ -46,7 +46,7 @@ fn form<'a>(alloc: Global, name: &'a str) -> Result<Command<'a>, AllocError>
     Ok(form)
 }
 
-/// The command line before its subcommands. A name must come first.
+/// Returns the command line before its subcommands are added. Its first word must be the name of one.
 fn top<'a>(alloc: Global) -> Command<'a>
     ensures { app_of result ≡ top_app }
 {
@@ -56,7 +56,7 @@ fn top<'a>(alloc: Global) -> Command<'a>
         .subcommand_required(true)
 }
 
-/// The line with one more subcommand.
+/// Returns the line with one more subcommand. It fails only if memory runs out.
 fn with_form<'a>(alloc: Global, line: Command<'a>, name: &'a str) -> Result<Command<'a>, AllocError>
     ensures { IfOk result (λ c. app_of c ≡ with_command (app_of line.entry) name.entry.now) }
 {
@@ -64,7 +64,7 @@ fn with_form<'a>(alloc: Global, line: Command<'a>, name: &'a str) -> Result<Comm
     Ok(more)
 }
 
-/// The line with these subcommands added.
+/// Returns the line with these subcommands added. It fails only if memory runs out.
 fn with_forms<'a>(
     alloc: Global,
     line: Command<'a>,
@@ -79,7 +79,7 @@ fn with_forms<'a>(
     Ok(line)
 }
 
-/// The command line with all its subcommands. Fails only if memory runs out.
+/// Returns the command line with all its subcommands. It fails only if memory runs out.
 pub fn line<'a>(alloc: Global) -> Result<Command<'a>, AllocError>
     ensures { IfOk result (λ c. app_of c ≡ line_app) }
 {

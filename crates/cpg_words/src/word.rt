@@ -1,4 +1,4 @@
-//! One word of a command line.
+//! Words of a command line.
 ghost use Rattle.std.specs.Prelude.{◌≡◌, IfOk};
 
 use std::alloc::{AllocError, Global};
@@ -8,6 +8,7 @@ use std::marker::Model;
 /// One word of a command line, seen as its bytes. It may be empty.
 #[derive(Drop)]
 pub struct Word {
+    /// The word's text.
     text: String,
 }
 
@@ -26,7 +27,7 @@ impl Debug for Word {
 }
 
 impl Word {
-    /// Copies a text into a word of its own. Fails only if memory runs out.
+    /// Returns a word that has a copy of a text. It fails only if memory runs out.
     pub(crate) fn new(alloc: Global, text: &str) -> Result<Word, AllocError>
         ensures { IfOk result (λ w. w ≡ text.now) }
     {
@@ -34,7 +35,7 @@ impl Word {
         Ok(Word { text })
     }
 
-    /// The word as text.
+    /// Returns the word as a text.
     pub fn as_str(&self) -> &str
         ensures { result.now ≡ self.now }
     {

@@ -21,14 +21,14 @@ use std::env::Args;
 use std::io::{self, ErrorKind};
 use std::process::ExitCode;
 
-/// The arguments after the first, which is the program's name.
+/// Returns the arguments after the first, which is the program's name. The one error is that memory runs out.
 fn after_name(alloc: Global, args: Args) -> Result<Vec<String>, AllocError>
     ensures { IfOk result (λ words. words.items ≡ drop 1 (into_iter_items args)) }
 {
     args.skip(1).collect(alloc)
 }
 
-/// Why there are no arguments: memory ran out, or one of them isn't UTF-8.
+/// Returns why the runtime gave no arguments: memory ran out, or (any other kind) one of them isn't UTF-8.
 fn fault_of(kind: ErrorKind) -> WordsFault
     ensures { result ≡ WordsFault.OutOfMemory ↔ kind ≡ ErrorKind.OutOfMemory }
 {
@@ -38,7 +38,7 @@ fn fault_of(kind: ErrorKind) -> WordsFault
     }
 }
 
-/// The words after the program's name, from the arguments that the runtime gave, or why there are none.
+/// Returns the words after the program's name. An error is that the runtime gave no arguments, or that memory runs out.
 fn words(alloc: Global, given: io::Result<Args>) -> Result<Vec<String>, WordsFault>
     ensures words { IfOk given (λ args. IfOk result (λ words. words.items ≡ drop 1 (into_iter_items args))) }
     ensures wanting { IfOk given (λ _. IfErr result (λ fault. fault ≡ WordsFault.OutOfMemory)) }
@@ -54,8 +54,9 @@ fn words(alloc: Global, given: io::Result<Args>) -> Result<Vec<String>, WordsFau
     }
 }
 
-/// Runs the program over a shelf and two sinks. If there are words, it does what they ask. If not, it reports why: nothing is
-/// fetched, and nothing goes to the first sink. It gets nothing else of the machine, and acts on it through these three alone.
+/// Runs the program over a shelf and two sinks, and returns its exit status. If there are words, it does what they ask.
+/// If not, it writes why to the second sink, fetches nothing, and writes nothing to the first sink. It is handed
+/// nothing else of the machine but the allocator.
 fn outcome<S: Shelf, O: Sink, E: Sink>(
     alloc: Global,
     words: Result<Vec<String>, WordsFault>,
@@ -82,8 +83,8 @@ fn outcome<S: Shelf, O: Sink, E: Sink>(
     }
 }
 
-/// The program: a run over the machine's arguments, files, standard output and standard error, which ends with its status. No
-/// other function is handed the runtime.
+/// The program: a run over the machine's arguments, files, standard output and standard error, which ends with the
+/// status of the run. No other function is handed the runtime.
 fn main(rt: HostRuntime) -> ExitCode {
     let words = words(rt.alloc(), env::args(&rt));
     let mut shelf = FileShelf::new(&rt);

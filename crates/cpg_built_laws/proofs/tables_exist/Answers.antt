@@ -3,6 +3,6 @@
 use Rattle.cpg_built_laws.proofs.TablesExist.{tables_exist as law}
 use Rattle.cpg_built_laws.proofs.tables_exist.Goals as goal
 
--- `tables_exist` of `TablesExist` says just this
+-- the lemma `law` is the promise as it is
 pub returns : goal.returns
 returns c = law

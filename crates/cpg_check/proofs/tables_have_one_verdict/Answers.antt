@@ -1,9 +1,7 @@
--- Proof of `tables_have_one_verdict`: tables have one verdict: one first part of the head that differs, or one first
--- violation, or neither.
+-- Proof of `tables_have_one_verdict`: a check has no choice of what it answers.
 use Rattle.cpg_check.proofs.OneVerdict.{have_one_verdict}
 use Rattle.cpg_check.proofs.tables_have_one_verdict.Goals as goal
 
--- Tables have one verdict: one first difference of the head, or one first violation, or neither. `have_one_verdict`
--- of `OneVerdict` proves this law.
+-- the lemma of proofs/OneVerdict.antt
 pub returns : goal.returns
 returns c = have_one_verdict

@@ -2,6 +2,6 @@
 use Rattle.cpg_codec.proofs.Theorems.{no_proper_prefix}
 use Rattle.cpg_codec.proofs.packs_have_no_proper_prefix.Goals as goal
 
--- No spelling of tables is a proper prefix of another. `no_proper_prefix` of `Theorems` proves this law.
+-- `no_proper_prefix` of `Theorems` is a proof of this law
 pub returns : goal.returns
 returns c = no_proper_prefix

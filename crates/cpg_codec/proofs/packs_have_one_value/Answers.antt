@@ -2,6 +2,6 @@
 use Rattle.cpg_codec.proofs.Theorems.{one_value}
 use Rattle.cpg_codec.proofs.packs_have_one_value.Goals as goal
 
--- Tables with the same spelling are equal. `one_value` of `Theorems` proves this law.
+-- `one_value` of `Theorems` is a proof of this law
 pub returns : goal.returns
 returns c = one_value

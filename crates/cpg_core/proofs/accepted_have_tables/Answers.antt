@@ -3,6 +3,7 @@
 use Rattle.cpg_core.proofs.AcceptedTables.{accepted_have_tables as law}
 use Rattle.cpg_core.proofs.accepted_have_tables.Goals as goal
 
--- `accepted_have_tables` of `AcceptedTables` says just this
+-- no item is too wide and nothing is late under the compile's order, so rows are made and fit; by
+-- proofs/AcceptedTables.antt
 pub returns : goal.returns
 returns c = law

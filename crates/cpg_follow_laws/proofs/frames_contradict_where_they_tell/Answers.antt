@@ -1,5 +1,5 @@
 -- Proof of `frames_contradict_where_they_tell`: if no range is empty before a frame, the frame leaves an empty one
--- exactly if it does so at a variable of one of its literals.
+-- only at a variable of one of its literals.
 use Rattle.cpg_follow_laws.proofs.Ranges.{frames_contradict_where_they_tell as law}
 use Rattle.cpg_follow_laws.proofs.frames_contradict_where_they_tell.Goals as goal
 

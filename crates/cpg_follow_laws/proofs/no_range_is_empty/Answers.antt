@@ -1,4 +1,4 @@
--- Proof of `no_range_is_empty`: no range that a node holds is empty, after any bytes.
+-- Proof of `no_range_is_empty`: whatever bytes a node is fed, no range that it then holds is empty.
 use Rattle.cpg_follow_laws.proofs.Ranges.{no_range_is_empty as law}
 use Rattle.cpg_follow_laws.proofs.no_range_is_empty.Goals as goal
 

@@ -1,5 +1,5 @@
--- Proof of `sent_values_are_known`: in a play of valid tables, a node that has sent the value of a condition knows just
--- that value.
+-- Proof of `sent_values_are_known`: in a play of valid tables, a node that has sent the value of a condition knows
+-- just that value.
 use Rattle.cpg_follow_laws.proofs.Sent.{sent_values_are_known as law}
 use Rattle.cpg_follow_laws.proofs.sent_values_are_known.Goals as goal
 

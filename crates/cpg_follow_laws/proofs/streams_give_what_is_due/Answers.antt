@@ -1,5 +1,5 @@
--- Proof of `streams_give_what_is_due`: at the close of the stream, a node that is done in the play has done what is
--- due.
+-- Proof of `streams_give_what_is_due`: if a node is done in a play, it has done what is due at the close of the
+-- stream of its records.
 use Rattle.cpg_follow_laws.proofs.Follow.{streams_give as law}
 use Rattle.cpg_follow_laws.proofs.streams_give_what_is_due.Goals as goal
 

@@ -1,5 +1,5 @@
--- Proof of `generated_edges_rise`: in the graph of every number edges lead to greater processes alone, so there is no
--- cycle.
+-- Proof of `generated_edges_rise`: in the graph of every number each edge leads to a process with a greater number, so
+-- there is no cycle.
 use Rattle.cpg_gen.proofs.Limits.{edges_rise}
 use Rattle.cpg_gen.proofs.generated_edges_rise.Goals as goal
 

@@ -2,6 +2,6 @@
 use Rattle.cpg_gen_laws.proofs.Kept.{few_tracks}
 use Rattle.cpg_gen_laws.proofs.generated_have_few_tracks.Goals as goal
 
--- the graph has at most four tracks, by proofs/Kept.antt
+-- there are two conditions, and so four outcomes; by proofs/Kept.antt
 pub returns : goal.returns
 returns c = few_tracks

@@ -1,9 +1,8 @@
--- Proof of `given_orders_keep_measures`: how late a graph is under an order, and in what way, doesn't depend on the
--- order that it gives.
+-- Proof of `given_orders_keep_measures`: how late a graph is under an order doesn't depend on the order that it gives:
+-- the greatest excess and the greatest finish are the same.
 use Rattle.cpg_given_laws.proofs.Kept.{same_measures}
 use Rattle.cpg_given_laws.proofs.given_orders_keep_measures.Goals as goal
 
--- The greatest excess and finish under an order don't depend on the order that the graph gives. `same_measures` of
--- `Kept` proves this law.
+-- no run looks at the order that the graph gives; by proofs/Kept.antt
 pub returns : goal.returns
 returns c = same_measures

@@ -1,7 +1,8 @@
--- The frozen times are the latest ones of all tracks.
+-- Proof of `latest_are_frozen`: the frozen times of a graph are those that the latest times of all tracks give.
 use Rattle.cpg_latest.proofs.latest_are_frozen.Goals as goal
 use Rattle.cpg_latest.proofs.OverTracks.{frozen_times}
 
+-- the lemma `frozen_times` is the law
 pub returns : goal.returns
 returns c = λ g urgency order frozen tracks lates urgent lawful topological are is.
     frozen_times g urgency order frozen tracks lates urgent lawful topological are is

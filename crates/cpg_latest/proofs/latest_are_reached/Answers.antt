@@ -1,7 +1,8 @@
--- Each latest time is one of a run.
+-- Proof of `latest_are_reached`: each latest time with n faults is reached in some run with at most n faults.
 use Rattle.cpg_latest.proofs.latest_are_reached.Goals as goal
 use Rattle.cpg_latest.proofs.Reached.{are_reached}
 
+-- the lemma `are_reached` is the law
 pub returns : goal.returns
 returns c = λ g order frozen values late n topological long are few.
     are_reached g order frozen values late topological long are n few

@@ -1,5 +1,5 @@
--- Proof of `heard_literals_are_true`: each literal that a node has heard is true of the scenario, whatever the tables
--- are.
+-- Proof of `heard_literals_are_true`: each literal that a node has heard in a scenario holds in it, whatever the
+-- tables are.
 use Rattle.cpg_node.proofs.HeardTruth.{heard_true}
 use Rattle.cpg_laws.proofs.heard_literals_are_true.Goals as goal
 

@@ -3,7 +3,6 @@
 use Rattle.cpg_live.proofs.Spelling.{bytes_spell as law}
 use Rattle.cpg_live.proofs.bytes_spell_events.Goals as goal
 
--- The bytes that spell lawful events and a close are a lawful stream, which does what the events do. `bytes_spell` of
--- `Spelling` proves this law.
+-- `bytes_spell` of `Spelling` is a proof of this law
 pub returns : goal.returns
 returns c = law

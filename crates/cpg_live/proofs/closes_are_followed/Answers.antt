@@ -2,6 +2,6 @@
 use Rattle.cpg_live.proofs.Told.{closes_are_followed as law}
 use Rattle.cpg_live.proofs.closes_are_followed.Goals as goal
 
--- A close after the last turn of a node leaves the node as it is. `closes_are_followed` of `Told` proves this law.
+-- `closes_are_followed` of `Told` is a proof of this law
 pub returns : goal.returns
 returns c = law

@@ -3,7 +3,6 @@
 use Rattle.cpg_live.proofs.Told.{turns_are_followed as law}
 use Rattle.cpg_live.proofs.turns_are_followed.Goals as goal
 
--- Each turn of a node in a play is followed on the records of its reports and frames. `turns_are_followed` of `Told`
--- proves this law.
+-- `turns_are_followed` of `Told` is a proof of this law
 pub returns : goal.returns
 returns c = law

@@ -2,7 +2,6 @@
 use Rattle.cpg_live.proofs.Fewer.{turns_may_be_left_out as law}
 use Rattle.cpg_live.proofs.turns_may_be_left_out.Goals as goal
 
--- Leaving turns out changes nothing but the instant of the last turn. `turns_may_be_left_out` of `Fewer` proves this
--- law.
+-- `turns_may_be_left_out` of `Fewer` is a proof of this law
 pub returns : goal.returns
 returns c = law

@@ -3,5 +3,6 @@
 use Rattle.cpg_node.proofs.Quiet.{quiet_turns}
 use Rattle.cpg_node.proofs.quiet_turns_change_nothing.Goals as goal
 
+-- `quiet_turns` of the lemmas is a proof of this law
 pub returns : goal.returns
 returns c = quiet_turns

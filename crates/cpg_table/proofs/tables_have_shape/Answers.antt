@@ -3,5 +3,6 @@
 use Rattle.cpg_table.proofs.GraphTables.{has_shape}
 use Rattle.cpg_table.proofs.tables_have_shape.Goals as goal
 
+-- `has_shape` of the lemmas is a proof of this law
 pub returns : goal.returns
 returns c = λ g tables w. has_shape g w tables

@@ -1,9 +1,9 @@
--- Loops of `active_faults`: the active numbers of the processes.
+-- Loops of `active_faults`: the number of each process, in a list.
 use Rattle.std.proofs.Common.{◌≡◌, map}
 use Rattle.cpg_base.specs.Numbers.{numbers_below}
 use Rattle.cpg_all_runs.specs.Active.{active_fault}
 use Rattle.cpg_all_runs.proofs.active.active_faults.Given as goal
 
--- the numbers so far are those of the processes below `process`: the count of an active one plus 1, and 0 of another
+-- the numbers so far are those of the processes below `process`
 abbrev pub invariant-loop-process : goal.invariant-loop-process
 invariant-loop-process l = l.numbers.items ≡ map (active_fault l.problem l.scenario) (numbers_below l.process)

@@ -1,5 +1,4 @@
--- Proof of `active_numbers`: what is active in a scenario: for each process and then for each condition 0 if it isn't
--- active or decided, else one more than its fault count or its value.
+-- Proof of `active_numbers`: the number of each process and then of each condition.
 use Rattle.std.proofs.Common.{map}
 use Rattle.cpg_base.specs.Numbers.{numbers_below}
 use Rattle.cpg_base.specs.Graph.{process_count}

@@ -9,7 +9,7 @@ pub loop-process-init : goal.loop-process-init
 loop-process-init c = c.in_ok-push.ensures.items ∙ ap (λ xs. xs ++ c.in_ok-zero.field-0 ∷ []) c.new-list.ensures.items
     ∙ faults_first c.args.problem.now c.in_ok-zero.field-0 c.in_ok-zero.ensures
 
--- the scenarios of the list are scenarios of the graph
+-- faults below the loop's process don't exceed those of the graph, so all of the list are scenarios of the graph
 pub spread_faults-requires-clause-scenarios : goal.spread_faults-requires-clause-scenarios
 spread_faults-requires-clause-scenarios c =
     subst (All (IsScenario c.args.problem.now)) (sym (c.as_slice.ensures.value ∙ c.loop-process.invariant))

@@ -4,7 +4,7 @@ use Rattle.cpg_all_runs.specs.Listing.{HasValue, AreScenarios, with_values_below
 use Rattle.cpg_all_runs.proofs.Listed.{values_first, values_more, all_within, are_scenarios}
 use Rattle.cpg_all_runs.proofs.enumeration.scenarios.Goals as goal
 
--- before the loop the list has the scenarios with each value false
+-- before the loop the list has the scenarios in which every value is false
 pub loop-condition-init : goal.loop-condition-init
 loop-condition-init c = c.in_ok-list.ensures ∙ values_first c.args.problem.now
 
@@ -23,7 +23,7 @@ loop-condition-preserved c =
     values_more c.args.problem.now c.loop-condition.condition c.as_slice.result.now c.in_ok-list-2.list.items
     (c.as_slice.ensures.value ∙ c.loop-condition.invariant) c.in_ok-list-2.ensures
 
--- with the values of all conditions, the list has each scenario of the graph once
+-- after the loop all conditions have had both values, and such a list has each scenario of the graph once
 pub returns : goal.returns
 returns c =
     let e = c.loop-condition.auto.condition-end in

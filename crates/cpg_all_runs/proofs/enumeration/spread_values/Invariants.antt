@@ -4,6 +4,6 @@ use Rattle.std.specs.List.{flat_map}
 use Rattle.cpg_all_runs.specs.Listing.{with_both}
 use Rattle.cpg_all_runs.proofs.enumeration.spread_values.Given as goal
 
--- each scenario so far stands with both values of the condition
+-- `more` has each of the scenarios so far with both values of the condition
 abbrev pub invariant-loop-scenario : goal.invariant-loop-scenario
 invariant-loop-scenario l = l.more.items ≡ flat_map (with_both l.condition) (take l.scenario-index l.scenarios)

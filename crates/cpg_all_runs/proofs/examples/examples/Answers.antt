@@ -7,7 +7,8 @@ use Rattle.cpg_all_runs.proofs.Showing.{examples_more, examples_kept, examples_a
 use Rattle.cpg_all_runs.proofs.examples.examples.Goals as goal
 use Rattle.cpg_all_runs.proofs.examples.examples.Goals.{then-firsts-at+in_ok-copy+in_ok-push, else-firsts-at}
 
--- a scenario that is the first with its active numbers is added, and another is shown by the first one
+-- a scenario that is the first with its active numbers is added, and shows itself; any other has the runs of its first one,
+-- which is among the examples already
 pub loop-at-preserved : goal.loop-at-preserved
 loop-at-preserved c g all alike =
     let list = c.args.scenarios.now in
@@ -15,7 +16,7 @@ loop-at-preserved c g all alike =
     let within = c.loop-at-test.true in
     let shown = c.loop-at.invariant g all alike in
     elim c.if-firsts-at.branch [
-      -- it is the first with its active numbers, and is added
+      -- the scenario is the first with its active numbers, and is added
       | then-firsts-at+in_ok-copy+in_ok-push w ↦
           let s = w.index-scenarios-at.result in
           rw w.list-is
@@ -28,7 +29,7 @@ loop-at-preserved c g all alike =
           (examples_kept g at list c.loop-at.list.items shown within c.args.firsts.now alike w.if-firsts-at.false)
     ]
 
--- once all scenarios were looked at, the list shows all that can be active
+-- after the loop all scenarios are shown, so the list shows all runs
 pub returns : goal.returns
 returns c g all alike = examples_all g c.loop-at.at c.args.scenarios.now c.loop-at.list.items all
     (omega (arith, c.loop-at-test.false, c.loop-at.auto.at-end)) (c.loop-at.invariant g all alike)

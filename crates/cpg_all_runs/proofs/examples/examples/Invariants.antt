@@ -6,7 +6,7 @@ use Rattle.cpg_all_runs.specs.Listing.{AreScenarios}
 use Rattle.cpg_all_runs.proofs.Showing.{AreFirstExamples}
 use Rattle.cpg_all_runs.proofs.examples.examples.Given as goal
 
--- for each graph of these scenarios, the examples so far show what is active in the first `at` scenarios
+-- each of the first `at` scenarios has the runs of one of the examples so far, whatever graph has these scenarios
 abbrev pub invariant-loop-at : goal.invariant-loop-at
 invariant-loop-at l = (g : Graph) → AreScenarios g l.scenarios → AreFirstAlike g l.scenarios l.firsts →
     AreFirstExamples g l.at l.scenarios l.list.items

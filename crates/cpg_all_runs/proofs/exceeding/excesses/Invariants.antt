@@ -3,6 +3,6 @@ use Rattle.std.proofs.Common.{◌≡◌, map, take}
 use Rattle.cpg_run.specs.Finish.{excess_in_run}
 use Rattle.cpg_all_runs.proofs.exceeding.excesses.Given as goal
 
--- the numbers so far are the excesses of the runs so far (how far the latest process ends past its due)
+-- the numbers so far are the greatest excesses of the runs so far
 abbrev pub invariant-loop-run : goal.invariant-loop-run
 invariant-loop-run l = l.numbers.items ≡ map (excess_in_run l.problem) (take l.run-index l.runs)

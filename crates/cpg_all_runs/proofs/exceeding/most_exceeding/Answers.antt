@@ -1,4 +1,5 @@
--- Proof of `most_exceeding`: the first process with the greatest excess of a run, and `None` if nothing exceeds.
+-- Proof of `most_exceeding`: the first process with the greatest excess of a run, and `None` exactly if no end is past
+-- its due.
 use Rattle.std.proofs.Common.{◌≢◌, ◌<◌, ℕ, IfSome, IfNone, arith, subst}
 use Rattle.cpg_base.specs.Graph.{process_count}
 use Rattle.cpg_run.specs.Finish.{excess_of}
@@ -6,7 +7,7 @@ use Rattle.cpg_all_runs.specs.Peaks.{IsFirstExceeding}
 use Rattle.cpg_all_runs.proofs.Ends.{least_exceeding}
 use Rattle.cpg_all_runs.proofs.exceeding.most_exceeding.Goals as goal
 
--- if something exceeds, the process that was found is the first with the greatest excess
+-- the excess isn't 0, so some process has it, and the one that was found is the first
 pub returns : goal.returns
 returns c =
     let g = c.args.problem.now in

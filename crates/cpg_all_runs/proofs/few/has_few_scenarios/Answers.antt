@@ -8,7 +8,7 @@ use Rattle.cpg_all_runs.specs.declared.few.TheConstants.{MOST_SCENARIOS}
 use Rattle.cpg_all_runs.proofs.FewWays.{all_fit, too_many}
 use Rattle.cpg_all_runs.proofs.few.has_few_scenarios.Goals as goal
 
--- with more than 14 conditions there are too many scenarios
+-- with more than 14 conditions there are more than 16,384 scenarios, so the answer is false
 pub returns-then-conditions-gt-MOST_DOUBLINGS : goal.returns-then-conditions-gt-MOST_DOUBLINGS
 returns-then-conditions-gt-MOST_DOUBLINGS c = (
   λ n. absurd (false≢true n),
@@ -25,7 +25,7 @@ overflow_mul-result c =
     (omega (arith, c.faults.ensures.faults, c.faults.ensures.within.faults)) in
     omega (arith, a, ap₂ ◌*◌ c.pow.ensures c.ways-ways.ensures)
 
--- the product is the number of scenarios
+-- the product of the outcomes and of the ways to place faults is the number of scenarios, so the comparison tells
 pub returns : goal.returns
 returns c =
     let g = c.args.problem.now in

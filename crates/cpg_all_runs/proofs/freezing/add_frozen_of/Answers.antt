@@ -1,4 +1,5 @@
--- Proof of `add_frozen_of`: adds the frozen items of a process: its start, and then its messages by number.
+-- Proof of `add_frozen_of`: adds the frozen items of a process: its start, and then what it sends, in the order of its
+-- queue.
 use Rattle.std.proofs.Common.{◌≡◌, ◌∙◌, ℕ, ◌+◌, ◌<◌, Bool, List, ◌∷◌, [], ◌++◌, filter, take, length, get_or, Contains}
 use Rattle.std.proofs.Common.{append_assoc, arith, subst, sym, ap}
 use Rattle.std.proofs.lemmas.List.{take_more}
@@ -8,7 +9,8 @@ use Rattle.cpg_bus.specs.Plan.{queue_of}
 use Rattle.cpg_bus.proofs.Queued.{in_queue}
 use Rattle.cpg_all_runs.proofs.freezing.add_frozen_of.Goals as goal
 
--- one more of those after the first
+-- the chosen of a first item and i others, and then the next one if it is chosen, are the chosen of the first and i + 1
+-- others: filters of lists behind each other
 one_more : (f : ℕ → Bool) (before items : List ℕ) (first i x : ℕ) → i < length items → x ≡ get_or items i 0 →
     (before ++ filter f (first ∷ take i items)) ++ filter f (x ∷ []) ≡ before ++ filter f (first ∷ take (i + 1) items)
 one_more f before items first i x l is =

@@ -2,7 +2,7 @@
 use Rattle.cpg_run.proofs.FrozenOrder.{within_order}
 use Rattle.cpg_all_runs.proofs.freezing.frozen_items.Goals as goal
 
--- what stands in the order is a process of the graph
+-- an element of the order is a process of the graph
 pub add_frozen_of-requires-clause-process : goal.add_frozen_of-requires-clause-process
 add_frozen_of-requires-clause-process c =
     within_order c.args.problem.now c.args.order.now c.processes-process-items.result.now c.loop-process.process-index

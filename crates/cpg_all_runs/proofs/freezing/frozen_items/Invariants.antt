@@ -3,6 +3,6 @@ use Rattle.std.proofs.Common.{◌≡◌, take}
 use Rattle.cpg_run.specs.FrozenItems.{frozen_along}
 use Rattle.cpg_all_runs.proofs.freezing.frozen_items.Given as goal
 
--- the items are the frozen ones of the processes so far, in their order
+-- the items are the frozen items of the processes so far, along the order
 abbrev pub invariant-loop-process : goal.invariant-loop-process
 invariant-loop-process l = l.items.items ≡ frozen_along l.problem (take l.process-index l.order)

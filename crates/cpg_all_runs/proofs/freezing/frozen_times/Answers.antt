@@ -13,7 +13,7 @@ frozen_items-requires-clause-order c =
     length_order (process_count c.args.admitted.now.graph) c.args.order.now c.requires.topological.all
     ∙ sym (ap process_count c.problem-problem.ensures.problem)
 
--- if nothing is frozen, no times are those of the frozen items
+-- if no item is frozen, all are settled at once: no item has a frozen time
 pub returns-then-is_empty-clause-frozen : goal.returns-then-is_empty-clause-frozen
 returns-then-is_empty-clause-frozen c =
     let g = c.args.admitted.now.graph in

@@ -1,5 +1,5 @@
 -- Proof of `sweep`: the times of the frozen items, as in `frozen_times`, given these items along the order and
--- scenarios that show what can be active.
+-- scenarios that show all runs.
 use Rattle.std.proofs.Common.{◌≡◌, ◌∙◌, ◌<◌, Contains, get_or, refl, sym, ap, subst, arith}
 use Rattle.std.proofs.lemmas.List.Elements.{All-weaker, All-contains_itself}
 use Rattle.cpg_base.specs.Scenario.{IsScenario}
@@ -13,7 +13,7 @@ use Rattle.cpg_run.proofs.Settled.{settled_all}
 use Rattle.cpg_all_runs.proofs.Swept.{along_kept, later_place}
 use Rattle.cpg_all_runs.proofs.freezing.sweep.Goals as goal
 
--- before the first item nothing is settled, and nothing is known of any run
+-- before the first item no time is settled, nothing is found of any run, and no place comes before the first
 pub loop-item-init : goal.loop-item-init
 loop-item-init c = record {
   settled = settled_first c.args.setting.now.problem.now c.args.setting.now.order.now c.requires.setting.topological
@@ -39,14 +39,14 @@ place-next-requires c = omega (
       c.requires.setting.topological.all,
 )
 
--- the times that are settled are early
+-- the settled times are those of frozen items, which are below 2 ^ 58
 pub advance-requires-clause-early : goal.advance-requires-clause-early
 advance-requires-clause-early c =
     settled_early c.args.setting.now.problem.now c.args.setting.now.order.now c.requires.setting.topological
     c.args.items.now c.loop-item.item-index c.loop-item.frozen c.loop-item.invariant.settled
     c.requires.setting.admitted.1.limits
 
--- frozen items rise in moment, so the item's place is not before the one that was reached
+-- the items are listed along the order, so the place of this one isn't before the place that was reached
 pub advance-requires-clause-ahead : goal.advance-requires-clause-ahead
 advance-requires-clause-ahead c =
     let g = c.args.setting.now.problem.now in
@@ -65,7 +65,7 @@ advance-requires-clause-place c = omega (
       c.requires.setting.topological.all,
 )
 
--- the times that are settled are early
+-- the settled times are those of frozen items, which are below 2 ^ 58
 pub settle-requires-clause-early : goal.settle-requires-clause-early
 settle-requires-clause-early c =
     settled_early c.args.setting.now.problem.now c.args.setting.now.order.now c.requires.setting.topological
@@ -94,7 +94,7 @@ settle-requires-clause-there c =
     let x = get_or c.args.items.now c.loop-item.item-index 0 in
     sym (c.place-next.ensures.place ∙ ap (place c.args.setting.now.order.now) (c.producer.ensures.producer))
 
--- the next item has no time yet
+-- only the items so far have times, so this one has none yet
 pub settle-requires-clause-unset : goal.settle-requires-clause-unset
 settle-requires-clause-unset c =
     next_unset c.args.setting.now.problem.now c.args.setting.now.order.now c.requires.setting.topological
@@ -109,7 +109,7 @@ loop-item-preserved c =
     let items = c.args.items.now in
     let n = c.loop-item.item-index in
     let x = get_or items n 0 in
-    -- the item's process stands at the place that has been reached
+    -- the item's process is at the place that has been reached
     let there : place_of_item g order x ≡ c.place-next.result =
     sym (c.place-next.ensures.place ∙ ap (place order) (c.producer.ensures.producer)) in
     let settled = c.loop-item.invariant.settled in
@@ -138,7 +138,7 @@ returns-clause-frozen c =
     c.args.items.now c.loop-item.item-index c.loop-item.frozen c.loop-item.invariant.settled
     (omega (arith, c.loop-item-test.false, c.loop-item.auto.item-index-end))
 
--- the times that are settled are early
+-- the settled times are those of frozen items, which are below 2 ^ 58
 pub returns-clause-early : goal.returns-clause-early
 returns-clause-early c =
     settled_early c.args.setting.now.problem.now c.args.setting.now.order.now c.requires.setting.topological

@@ -7,7 +7,7 @@ use Rattle.cpg_run.specs.Latest.{later}
 use Rattle.cpg_all_runs.proofs.Latests.{IsLatest, latest_more, latest_is}
 use Rattle.cpg_all_runs.proofs.latest.unfrozen_time.Goals as goal
 
--- what is found of the scenario is that of its run before the place
+-- `along` says of each scenario that what is found of it is that of its run before the place, and so of this one
 pub time_there-requires-clause-along : goal.time_there-requires-clause-along
 time_there-requires-clause-along c =
     let g = c.args.setting.now.problem.now in
@@ -18,7 +18,7 @@ time_there-requires-clause-along c =
     (subst (IsAlong g c.args.setting.now.order.now c.args.frozen.now _ c.args.place) (sym c.index-found-at.is)
     (along.each c.loop-at.at s p c.loop-at-test.true))
 
--- the later of the greatest time so far and that of one more run is the greatest of both
+-- the later of the greatest time so far and that of this scenario's run is the greatest of one scenario more
 pub loop-at-preserved : goal.loop-at-preserved
 loop-at-preserved c =
     let g = c.args.setting.now.problem.now in
@@ -32,7 +32,8 @@ loop-at-preserved c =
     c.index-scenarios-at.result r.0 c.loop-at-test.true
     (sym c.index-scenarios-at.is) r.1 c.loop-at.invariant)
 
--- the greatest time in all examples is the unfrozen time of the item
+-- the examples show all runs, so the greatest time in them is the greatest in all scenarios; as the item has no frozen time
+-- yet, it is the time that it would have if it were not frozen
 pub returns : goal.returns
 returns c =
     latest_is c.args.setting.now.problem.now c.args.setting.now.order.now c.requires.setting.topological

@@ -17,7 +17,7 @@ first_greatest-at-requires-clause-urgency c =
     ∙ length_order (process_count g) c.args.admitted.now.order c.problem.ensures.admitted.urgency.all
     ∙ sym (ap process_count c.problem.ensures.problem)
 
--- there is a scenario
+-- a graph has at least one scenario, that without faults and with every value false
 pub first_greatest-at-requires-clause-some : goal.first_greatest-at-requires-clause-some
 first_greatest-at-requires-clause-some c =
     some_listed c.args.admitted.now.graph c.args.scenarios.now c.requires.scenarios

@@ -9,7 +9,7 @@ use Rattle.cpg_all_runs.proofs.ActiveAlike.{same_runs}
 use Rattle.cpg_all_runs.proofs.Placed.{places_more, firsts_more}
 use Rattle.cpg_all_runs.proofs.placing.first_alike.Goals as goal
 
--- the numbers of one more scenario keep or get their first place
+-- one scenario more: if its active numbers have a place it is that of the first scenario with them, and else they get its own
 pub loop-at-preserved : goal.loop-at-preserved
 loop-at-preserved c =
     let g = c.args.admitted.now.graph in
@@ -31,7 +31,8 @@ loop-at-preserved c =
           c.loop-at.firsts.items c.push.new.self.items c.loop-at.invariant.firsts c.in_ok-push.ensures.items;
     }
 
--- scenarios with the same active numbers have the same runs
+-- after the loop each scenario has its first place, and by `same_runs` scenarios with the same active numbers have the same
+-- runs
 pub returns : goal.returns
 returns c =
     let g = c.args.admitted.now.graph in

@@ -6,7 +6,7 @@ use Rattle.cpg_run.specs.Run.{IsRun}
 use Rattle.cpg_all_runs.specs.FirstAlike.{scenario_at}
 use Rattle.cpg_all_runs.proofs.running.run_at.Goals as goal
 
--- an earlier scenario with the same runs gives its run
+-- the run of the earlier scenario is known, and a run of it is one of this scenario, as they have the same runs
 pub returns-then-first-at : goal.returns-then-first-at
 returns-then-first-at c s =
     let g = c.args.setting.now.problem.now in

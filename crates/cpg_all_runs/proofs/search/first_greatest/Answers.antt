@@ -7,11 +7,11 @@ use Rattle.cpg_all_runs.proofs.Firsts.{starts_it, takes_it, skips_it}
 use Rattle.cpg_all_runs.proofs.search.first_greatest.Goals as goal
 use Rattle.cpg_all_runs.proofs.search.first_greatest.Goals.{then-goes_first, else-goes_first}
 
--- the first scenario is the greatest of itself
+-- of one number, the first is the greatest
 pub loop-next-init : goal.loop-next-init
 loop-next-init c = starts_it c.args.problem.now c.args.urgency.now c.args.scenarios.now c.args.numbers.now
 
--- the next scenario takes the place if it has a greater number, or the same and comes first
+-- the next scenario takes the place exactly if it has a greater number, or the same and comes before the one that has it
 pub loop-next-preserved : goal.loop-next-preserved
 loop-next-preserved c =
     let list = c.args.scenarios.now in

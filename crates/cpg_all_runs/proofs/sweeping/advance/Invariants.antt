@@ -2,6 +2,6 @@
 use Rattle.cpg_all_runs.specs.Sweep.{AreAlong}
 use Rattle.cpg_all_runs.proofs.sweeping.advance.Given as goal
 
--- for each scenario it is found what its run does before the place
+-- the run of each scenario is found before the place that comes next
 abbrev pub invariant-loop-place : goal.invariant-loop-place
 invariant-loop-place l = AreAlong l.setting.problem.now l.setting.order.now l.frozen l.place l.scenarios l.found.items

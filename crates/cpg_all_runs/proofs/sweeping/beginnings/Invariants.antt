@@ -2,6 +2,6 @@
 use Rattle.cpg_all_runs.proofs.Swept.{AreBeginnings}
 use Rattle.cpg_all_runs.proofs.sweeping.beginnings.Given as goal
 
--- the states so far are one for each turn, and know nothing of a run yet
+-- there is one progress for each turn of the loop so far, with nothing found of a run
 abbrev pub invariant-loop : goal.invariant-loop
 invariant-loop l = AreBeginnings l.problem l.counter l.found.items

@@ -5,12 +5,12 @@ use Rattle.cpg_run.specs.Progress.{IsAlong}
 use Rattle.cpg_all_runs.proofs.Swept.{stepped_more, stepped_all}
 use Rattle.cpg_all_runs.proofs.sweeping.step_each.Goals as goal
 
--- before the first scenario none has gone on over the place
+-- at first the runs of all scenarios are found before the place, and of none beyond it
 pub loop-at-init : goal.loop-at-init
 loop-at-init c = let a = c.requires.along in
     record { count = a.count; stepped = λ j s p l k. absurd (omega arith); others = λ j s p l k. a.each j s p k }
 
--- the scenario has not gone on over the place yet
+-- the scenario's run is one of those that are only found before the place
 pub step-requires-clause-along : goal.step-requires-clause-along
 step-requires-clause-along c =
     let g = c.args.setting.now.problem.now in
@@ -20,7 +20,7 @@ step-requires-clause-along c =
     (subst (IsAlong g c.args.setting.now.order.now c.args.frozen.now _ c.args.place) (sym c.index_mut.ensures.value)
     (c.loop-at.invariant.others c.loop-at.at s p (omega arith) c.loop-at-test.true))
 
--- one scenario more has gone on over the place
+-- the run of one scenario more is found before the next place, and the others are as they were
 pub loop-at-preserved : goal.loop-at-preserved
 loop-at-preserved c =
     let g = c.args.setting.now.problem.now in
@@ -31,7 +31,7 @@ loop-at-preserved c =
     (c.index-scenarios-at.is ∙ get_or_default list c.loop-at.at c.index-scenarios-at.result d c.loop-at-test.true)
     c.in_ok-step.ensures.along) refl
 
--- once all scenarios have gone on over the place, what is found is that before the next place
+-- after the loop the runs of all scenarios are found before the next place
 pub returns : goal.returns
 returns c = stepped_all c.args.setting.now.problem.now c.args.setting.now.order.now c.args.frozen.now c.args.place
     c.args.scenarios.now c.loop-at.at c.loop-at.found.items c.loop-at.invariant

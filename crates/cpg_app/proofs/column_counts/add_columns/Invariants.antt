@@ -1,4 +1,4 @@
--- Loops of `add_columns`: adds the columns of rows.
+-- Loops of `add_columns`, which returns the count with that of the columns of these rows added.
 use Rattle.std.proofs.Common.{◌≡◌, ◌+◌, drop}
 use Rattle.cpg_table.specs.Lawful.{column_count}
 use Rattle.cpg_app.proofs.column_counts.add_columns.Given as goal

@@ -1,4 +1,4 @@
--- Loops of `column_total`: how many columns all tables have.
+-- Loops of `column_total`, which returns how many columns all tables have, those of hear rows too.
 use Rattle.std.proofs.Common.{◌≡◌, ◌+◌, drop}
 use Rattle.cpg_app.specs.Trial.{columns_in}
 use Rattle.cpg_app.proofs.column_counts.column_total.Given as goal

@@ -1,5 +1,5 @@
--- Proof of `head_is_lawful`: the head of a graph's tables is one that a pack may have: it is within its limits, and
--- so are its names, which are gone over.
+-- Proof of `head_is_lawful`, which says in its contract that the head of a graph's tables is one that a pack may
+-- have: it is within the limits of a pack, and all its names are lawful.
 use Rattle.std.proofs.Common.{All, subst}
 use Rattle.std.proofs.lemmas.List.Elements.{All-get_or, All-map}
 use Rattle.cpg_base.specs.Graph.{process_at, process_count}

@@ -1,3 +1,4 @@
+-- Proof of `put_pack`, which writes the tables of a compiled graph as a pack.
 use Rattle.std.proofs.Common.{List, ap, sym, subst}
 use Rattle.cpg_base.specs.Graph.{Graph}
 use Rattle.cpg_base.specs.WellFormed.{WellFormed}
@@ -13,13 +14,13 @@ pub write_made-written-requires-clause-formed : goal.write_made-written-requires
 write_made-written-requires-clause-formed g c =
     subst WellFormed (sym c.problem-problem.ensures.problem) c.problem-problem.ensures.admitted.well_formed
 
--- tables can have these rows
+-- the rows can be written, as the caller requires
 pub write_made-written-requires-clause-rows : goal.write_made-written-requires-clause-rows
 write_made-written-requires-clause-rows g c =
     subst (λ (h : Graph). AreWritable h c.as_slice.result.now) (sym c.problem-problem.ensures.problem)
     (subst (AreWritable c.args.made.admitted.graph) (sym c.as_slice.ensures.value) c.requires)
 
--- the bytes that were written are the pack of the rows
+-- what was written, whole or in part, is the pack of these rows
 pub returns : goal.returns
 returns g c =
     let before = g.O.Sink.state c.args.out.now in

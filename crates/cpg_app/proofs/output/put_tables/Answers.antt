@@ -1,3 +1,4 @@
+-- Proof of `put_tables`, which writes the tables of a compiled graph as a text.
 use Rattle.std.proofs.Common.{List, ap, subst}
 use Rattle.cpg_table.specs.Table.{Row}
 use Rattle.cpg_show.specs.TableText.{text_of_rows}
@@ -5,7 +6,7 @@ use Rattle.cpg_outputs.specs.Told.{IsWritten, sent}
 use Rattle.cpg_app.proofs.Written.{packed}
 use Rattle.cpg_app.proofs.output.put_tables.Goals as goal
 
--- the text that was written by the rows is the one of the tables
+-- what was written, whole or in part, is the text of these rows
 pub returns : goal.returns
 returns g c =
     let before = g.O.Sink.state c.args.out.now in

@@ -1,4 +1,4 @@
--- Proof of `unrolled_text`: the text of the graph of all instances of parts.
+-- Proof of `unrolled_text`, which returns the text of the graph of all instances of parts.
 use Rattle.std.proofs.Common.{refl}
 use Rattle.cpg_hyper.specs.declared.part.HyperFault.{HyperFault}
 use Rattle.cpg_app.proofs.periods.unrolled_text.Goals as goal

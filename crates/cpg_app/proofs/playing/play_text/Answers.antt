@@ -1,5 +1,4 @@
--- Proof of `play_text`: the text of a play of valid tables, driven by a number: the trace of all nodes until each is
--- done, and how often a node that was asked had to wait.
+-- Proof of `play_text`, which plays valid tables, driven by a number, until each node is done.
 use Rattle.std.proofs.Common.{ap, ◌∙◌}
 use Rattle.cpg_cluster.specs.Playing.{Playing}
 use Rattle.cpg_app.proofs.playing.play_text.Goals as goal

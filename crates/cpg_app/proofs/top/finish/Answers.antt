@@ -1,3 +1,5 @@
+-- Proof of `finish`, which does the work of a command on what its files say, and writes its output to `out`, or the
+-- line of the halt to `err`.
 use Rattle.std.proofs.Common.{ℕ, List, inr, refl, sym, subst, string_bytes}
 use Rattle.cpg_show.specs.NodeText.{node_text}
 use Rattle.cpg_inputs.proofs.Keeping.{keeps_same}
@@ -31,13 +33,13 @@ follow-requires-clause-opened g c =
     (c.in-Ok-Stream.ensures.output asked.command asked.values asked.are)) in
     is_open live.tables live.name c.in-Ok-Stream.follower live.follower
 
--- what a halt names is there
+-- what the line of the halt names of the graph is there
 pub stop-requires : goal.stop-requires
 stop-requires g c =
     let asked = c.requires.may in
     halt_named asked.command asked.values c.in-Err.halt (c.in-Err.ensures.halt asked.command asked.values asked.are)
 
--- the node is one of the tables
+-- the tables have this node, as the output of `node` says
 pub put_node_table-requires : goal.put_node_table-requires
 put_node_table-requires g c =
     let asked = c.requires.may in
@@ -45,7 +47,7 @@ put_node_table-requires g c =
     (subst (Answers asked.command asked.values) c.in-Ok-NodeTable.field-0-is
     (c.in-Ok-NodeTable.ensures.output asked.command asked.values asked.are))).0
 
--- the rows of a compile can be written in a pack
+-- the rows of the compile can be written as a pack, as the output of `compile` says
 pub put_pack-requires : goal.put_pack-requires
 put_pack-requires g c =
     let asked = c.requires.may in

@@ -1,3 +1,6 @@
+-- Proof of `run`, which does all that the program does, by the words after its name: reads the files that they name
+-- from the shelf, one after the other, does the work on what they say, and writes the command's output to `out` or
+-- one line to `err`.
 use Rattle.std.proofs.Common.{rules, All, None, ap, inl, inr, map, refl, string_bytes, subst}
 use Rattle.cpg_words.specs.FileWords.{file_words_if}
 use Rattle.cpg_inputs.specs.Files.{files_of}
@@ -32,7 +35,7 @@ pub finish-requires-clause-fit : goal.finish-requires-clause-fit
 finish-requires-clause-fit g c =
     inputs_fit c.in-Ok.command _ _ c.in-Ok-read_inputs.inputs c.in-Ok-read_inputs.ensures.inputs
 
--- what a halt while files are read names is there
+-- what the line of the halt names of a file's graph is there
 pub stop-requires : goal.stop-requires
 stop-requires g c =
     files_named None (files_of c.in-Ok.command) _ _ c.in-Err-read_inputs.halt c.in-Err-read_inputs.ensures.inputs
@@ -76,6 +79,6 @@ returns-in-Ok-read_inputs-clause-keeps g c =
     keeps_on (g.S.Shelf.state c.args.shelf.now) (g.S.Shelf.state c.read_inputs.new.shelf)
     (g.S.Shelf.state c.finish.new.shelf) c.in-Ok-read_inputs.ensures.keeps c.finish.ensures.keeps
 
--- bad words fetch nothing
+-- without a command nothing is fetched
 pub returns-in-Err-clause-keeps : goal.returns-in-Err-clause-keeps
 returns-in-Err-clause-keeps g c = keeps_same (g.S.Shelf.state c.args.shelf.now)

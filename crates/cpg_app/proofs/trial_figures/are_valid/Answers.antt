@@ -1,4 +1,4 @@
--- Proof of `are_valid`: whether tables are valid for a graph.
+-- Proof of `are_valid`: whether tables have the head of a graph and keep the ten rules.
 use Rattle.std.proofs.Common.{Bool, sym, subst}
 use Rattle.std.specs.Prelude.{◌↔◌, IfOk, IsTrue, Result}
 use Rattle.cpg_base.specs.declared.memory.OutOfMemory.{OutOfMemory}
@@ -9,7 +9,8 @@ use Rattle.cpg_app.proofs.Figures.{is_yes, verdict_is}
 use Rattle.cpg_app.proofs.trial_figures.are_valid.Goals.{in-Yes, in-Other, in-No}
 use Rattle.cpg_app.proofs.trial_figures.are_valid.Goals as goal
 
--- the verdict is yes exactly if the tables have the graph's head and are valid
+-- The verdict is yes exactly if the tables have the graph's head and are valid. Each of the three verdicts gives its
+-- answer.
 pub returns : goal.returns
 returns c =
     let g = c.args.admitted.now.graph in

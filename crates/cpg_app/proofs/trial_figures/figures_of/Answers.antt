@@ -1,4 +1,4 @@
--- Proof of `figures_of`: the figures of a generated graph and of its tables, which the check finds valid.
+-- Proof of `figures_of`, which checks the tables of a generated graph, plays them, and returns the figures.
 use Rattle.std.proofs.Common.{length, refl, ap, ◌∙◌}
 use Rattle.std.proofs.lemmas.Bool.{both_ways}
 use Rattle.cpg_base.specs.Graph.{condition_count, edge_count, process_count}

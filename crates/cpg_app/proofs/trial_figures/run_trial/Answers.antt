@@ -1,5 +1,5 @@
--- Proof of `run_trial`: generates the graph of a number, admits and compiles it, and plays its tables in three
--- scenarios, driven by the number.
+-- Proof of `run_trial`, which generates the graph of a number, admits and compiles it, checks its tables, and plays
+-- them in three scenarios, driven by the number.
 use Rattle.cpg_app.proofs.Figures.{trial_is}
 use Rattle.cpg_app.proofs.trial_figures.run_trial.Goals as goal
 

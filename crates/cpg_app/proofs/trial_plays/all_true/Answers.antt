@@ -1,4 +1,5 @@
--- Proof of `all_true`: the play in which every value is true and the first process has two faults.
+-- Proof of `all_true`, which returns the end of the play in which every value is true and the first process has two
+-- faults.
 use Rattle.std.proofs.Common.{sym, subst}
 use Rattle.cpg_base.specs.Scenario.{IsScenario}
 use Rattle.cpg_app.proofs.Values.{true_lawful}

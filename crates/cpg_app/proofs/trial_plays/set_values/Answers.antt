@@ -1,4 +1,4 @@
--- Proof of `set_values`: sets every value to true.
+-- Proof of `set_values`, which sets the values of all `count` conditions to true.
 use Rattle.std.proofs.Common.{ap, ◌∙◌, arith}
 use Rattle.cpg_base.specs.Scenario.{Scenario}
 use Rattle.cpg_app.proofs.Values.{next_true}

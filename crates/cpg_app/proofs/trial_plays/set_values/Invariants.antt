@@ -1,4 +1,4 @@
--- Loops of `set_values`: sets every value to true.
+-- Loops of `set_values`, which sets the values of all `count` conditions to true.
 use Rattle.std.proofs.Common.{◌≡◌, ◌-◌, ◌++◌, true, false, replicate}
 use Rattle.cpg_app.proofs.trial_plays.set_values.Given as goal
 

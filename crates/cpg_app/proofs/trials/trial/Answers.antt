@@ -1,4 +1,4 @@
--- Proof of `trial`: writes the figures of the trial of a number.
+-- Proof of `trial`, which returns the text of the figures of a number's trial.
 use Rattle.cpg_app.proofs.Safe.{compilations_are_safe}
 use Rattle.cpg_app.proofs.trials.trial.Goals as goal
 

@@ -1,4 +1,4 @@
--- Proof of `compile_answer`: the answer for an admitted graph.
+-- Proof of `compile_answer`, which compiles an admitted graph.
 use Rattle.cpg_core.specs.declared.fault.CompileFault.{CompileFault}
 use Rattle.cpg_core.specs.Accepted.{ShowsNoFinish}
 use Rattle.cpg_core.proofs.AcceptedTables.{accepted_have_tables}

@@ -1,4 +1,4 @@
--- Proof of `tuned`: the tuning of an admitted graph by compiles.
+-- Proof of `tuned`, which returns the tuning of an admitted graph by compiles.
 use Rattle.std.proofs.Common.{All, sym, subst}
 use Rattle.std.specs.Prelude.{IfOk}
 use Rattle.cpg_base.specs.Graph.{Graph}

@@ -1,3 +1,5 @@
+-- Proof of `judged`, which checks tables for an admitted graph, and hands the graph back if they have its head and
+-- keep the ten rules.
 use Rattle.cpg_table.specs.Valid.{IsValid}
 use Rattle.cpg_table.proofs.GraphTables.{has_shape}
 use Rattle.cpg_violation.specs.Heads.{IsHeadFor}

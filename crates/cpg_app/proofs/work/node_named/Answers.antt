@@ -1,3 +1,4 @@
+-- Proof of `node_named`, which returns the table of the first node that has this name, to be written as a text.
 use Rattle.std.proofs.Common.{rules, ◌≡◌, ◌<◌, Some, length, refl}
 use Rattle.cpg_app.specs.Causes.{first_named}
 use Rattle.cpg_app.proofs.work.node_named.Goals as goal

@@ -1,3 +1,4 @@
+-- Proof of `opened`, which returns the first node that has this name, which is to follow the stream.
 use Rattle.std.proofs.Common.{rules, ◌≡◌, Some, refl}
 use Rattle.cpg_app.specs.Causes.{first_named}
 use Rattle.cpg_app.proofs.work.opened.Goals as goal

@@ -1,3 +1,4 @@
+-- Proof of `play`, which returns the text of a play of tables if they are safe for an admitted graph.
 use Rattle.std.proofs.Common.{ap, subst, sym}
 use Rattle.cpg_base.specs.Graph.{Graph}
 use Rattle.cpg_rules.specs.Admission.{Admission}

@@ -1,15 +1,16 @@
+-- Proof of `work`, which returns the output of a command by what its files say, or why it stops.
 use Rattle.std.proofs.Common.{subst}
 use Rattle.cpg_inputs.specs.Inputs.{AreInputs}
 use Rattle.cpg_app.proofs.Worked.{of_audit, of_check, of_hyper, of_live, of_node, of_play, of_trial, stops_audit}
 use Rattle.cpg_app.proofs.Worked.{stops_check, stops_hyper, stops_live, stops_memory, stops_node, stops_play}
 use Rattle.cpg_app.proofs.work.work.Goals as goal
 
--- a command on a graph alone: its own function says what is put out
+-- for a command on a graph alone, `work_on_graph` says what is put out
 pub returns-in-Graph-clause-output : goal.returns-in-Graph-clause-output
 returns-in-Graph-clause-output c command values are =
     c.work_on_graph.ensures.output command values (subst (AreInputs command values) c.in-Graph.is are)
 
--- a command on a graph alone: its own function says what stops it
+-- for a command on a graph alone, `work_on_graph` says what stops it
 pub returns-in-Graph-clause-halt : goal.returns-in-Graph-clause-halt
 returns-in-Graph-clause-halt c command values are =
     c.work_on_graph.ensures.halt command values (subst (AreInputs command values) c.in-Graph.is are)
@@ -38,7 +39,7 @@ returns-in-Play-clause-halt c command values are =
     stops_play command values c.play.result c.in-Play.graph c.in-Play.tables c.in-Play.played c.in-Play.turns
     (subst (AreInputs command values) c.in-Play.is are) c.play.ensures.halt
 
--- `audit` puts out the verdict on the log
+-- `audit` puts out the text of the audit
 pub returns-in-Audit-clause-output : goal.returns-in-Audit-clause-output
 returns-in-Audit-clause-output c command values are =
     of_audit command values c.audited.result c.in-Audit.graph c.in-Audit.tables c.in-Audit.log
@@ -86,11 +87,11 @@ returns-in-Hyper-clause-halt c command values are = stops_hyper command values c
     (subst (AreInputs command values) c.in-Hyper.is are)
     (rw c.as_slice.ensures.parts at c.unrolled_text.ensures.halt)
 
--- `trial` puts out the figures of the graph of a number
+-- `trial` puts out the text of the trial's figures
 pub returns-in-Trial-clause-output : goal.returns-in-Trial-clause-output
 returns-in-Trial-clause-output c command values are = of_trial command values c.trial.result c.in-Trial.number
     (subst (AreInputs command values) c.in-Trial.is are) c.trial.ensures.text
 
--- a trial stops only over memory
+-- a trial stops only as memory runs out
 pub returns-in-Trial-clause-halt : goal.returns-in-Trial-clause-halt
 returns-in-Trial-clause-halt c command values are = stops_memory command values c.trial.result c.trial.ensures.halt

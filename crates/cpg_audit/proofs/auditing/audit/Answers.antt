@@ -1,5 +1,5 @@
--- Proof of `audit`: the least scenario along the urgency order, of at most the graph's faults, in which the items and
--- times of what is due on all nodes up to a log's time are those of the log; `None` exactly if no scenario gives it.
+-- Proof of `audit`: the least scenario in the urgency order that gives a log: what is due on all nodes up to the log's
+-- time is just what the log names, each at its time.
 use Rattle.std.proofs.Common.{ℕ, refl, ◌≡◌, ◌++◌, List, [], All, Bor, map, flat_map, sym, subst}
 use Rattle.std.proofs.lemmas.List.Elements.{All-map}
 use Rattle.cpg_base.specs.Numbers.{numbers_below}
@@ -26,14 +26,14 @@ use Rattle.cpg_audit.proofs.auditing.audit.Goals as goal
 abbrev seen : Bor (List Literal) → List Literal
 seen b = b.now
 
--- the acts are those of the log, and each of them is one by the log's end
+-- the acts are those of the log, each of which is an act of the graph by the log's end
 pub all_idle-requires : goal.all_idle-requires
 all_idle-requires c = (
   c.args.log.now.until,
   subst (All (IsActBy c.args.admitted.now.graph c.args.log.now.until)) (sym c.acts.ensures) c.requires.log.acts,
 )
 
--- an admitted order has as many places as the graph has processes
+-- the order of an admitted graph has each of its processes
 pub uncovered-requires-clause-order : goal.uncovered-requires-clause-order
 uncovered-requires-clause-order c =
     rw (c.order-order.ensures.order, c.problem-problem.ensures.problem) (long_order c.order-order.ensures.admitted)

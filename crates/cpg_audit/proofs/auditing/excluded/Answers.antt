@@ -1,5 +1,4 @@
--- Proof of `excluded`: the cubes of all columns with times that a log excludes, but for some that match nothing in the
--- rest of a space, which is narrowed by them item by item.
+-- Proof of `excluded`: the cubes of those columns of all items whose times a log excludes.
 use Rattle.std.proofs.Common.{◌≡◌, ◌-◌, ◌∙◌, ◌||◌, ℕ, Bool, List, All, Bor, get_or, length, map, flat_map, take, sym}
 use Rattle.std.proofs.Common.{ap, subst, arith}
 use Rattle.std.specs.List.{list_any}
@@ -18,11 +17,11 @@ use Rattle.cpg_audit.proofs.GivesLaws.{excluded_known}
 use Rattle.cpg_audit.proofs.NarrowingLaws.{any_in_order, any_within, flat_more}
 use Rattle.cpg_audit.proofs.auditing.excluded.Goals as goal
 
--- the item of a time that is listed
+-- the number of an item that is listed with its time
 abbrev item : TimedItem → ℕ
 item t = t.item
 
--- what an index past the end would show
+-- the default of `get_or`, which is never reached
 abbrev blank : TimedItem
 blank = record { time = 0; item = 0 }
 

@@ -1,5 +1,4 @@
--- Loops of `excluded`: the cubes of all columns with times that a log excludes, but for some that match nothing in the
--- rest of a space, which is narrowed by them item by item.
+-- Loops of `excluded`: the cubes of those columns of all items whose times a log excludes.
 use Rattle.std.proofs.Common.{◌≡◌, All, flat_map, map, take}
 use Rattle.std.specs.List.{list_any}
 use Rattle.cpg_base.specs.Scenario.{Scenario}
@@ -10,8 +9,9 @@ use Rattle.cpg_audit.specs.Excluded.{excluded_of}
 use Rattle.cpg_audit.specs.Narrowing.{Leaves}
 use Rattle.cpg_audit.proofs.auditing.excluded.Given as goal
 
--- `same`: the kept cubes match where the excluded cubes of the items so far do, within the first space. `left`: what
--- no kept cube matches lies in the space left. `known`: kept cubes are on variables of the graph
+-- After each item. `same`: in the scenarios of the space as it was at first, a kept cube matches exactly where an
+-- excluded one of the items so far does. `left`: those of them that no kept cube matches lie in the space that is left.
+-- `known`: the kept cubes are on variables of the graph.
 abbrev pub invariant-loop-timed : goal.invariant-loop-timed
 invariant-loop-timed l = record {
   same : (s : Scenario) → IsInSpace l.fn.space s →

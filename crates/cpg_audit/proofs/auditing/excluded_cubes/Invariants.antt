@@ -1,4 +1,4 @@
--- Loops of `excluded_cubes`: the cubes of an item's columns with times that a log excludes.
+-- Loops of `excluded_cubes`: the cubes of those of an item's columns whose times a log excludes.
 use Rattle.std.proofs.Common.{◌≡◌, map, take}
 use Rattle.cpg_audit.specs.Excluded.{excluded_cubes}
 use Rattle.cpg_audit.proofs.auditing.excluded_cubes.Given as goal

@@ -1,4 +1,4 @@
--- Proof of `all_idle`: the cubes of the scenarios in which an item of these acts isn't active.
+-- Proof of `all_idle`: columns that match just in the scenarios in which some item of these acts isn't active.
 use Rattle.std.proofs.Common.{All, sym, ap, ◌∙◌, subst}
 use Rattle.std.specs.List.{list_any}
 use Rattle.std.proofs.lemmas.List.Elements.{All-append}
@@ -8,7 +8,7 @@ use Rattle.cpg_cube.specs.Fit.{IsKnown}
 use Rattle.cpg_audit.proofs.IdleLaws.{idle_more}
 use Rattle.cpg_audit.proofs.idle.all_idle.Goals as goal
 
--- the columns of the next act's idle scenarios are added
+-- the columns that are added match where the item of the next act is inactive, and are on variables of the graph
 pub loop-act-preserved : goal.loop-act-preserved
 loop-act-preserved c =
     let g = c.args.admitted.now.graph in

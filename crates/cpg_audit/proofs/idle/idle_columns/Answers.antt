@@ -1,4 +1,4 @@
--- Proof of `idle_columns`: the cubes of the scenarios in which an item isn't active.
+-- Proof of `idle_columns`: columns that match just in the scenarios in which an item isn't active.
 use Rattle.std.proofs.Common.{subst}
 use Rattle.std.proofs.lemmas.List.Elements.{All-weaker}
 use Rattle.cpg_base.specs.Graph.{Graph}

@@ -1,5 +1,4 @@
--- Proof of `in_log_order`: all items, those that a log names first, by time: a column depends on what was before its
--- item, which the items before it have shown by then.
+-- Proof of `in_log_order`: all items, those that a log names first, by time, and then the others.
 use Rattle.std.proofs.Common.{◌≡◌, ◌++◌, ◌∷◌, ◌∙◌, ℕ, [], map, ap, rules, subst, sym}
 use Rattle.std.specs.Prelude.{IsPermutation}
 use Rattle.std.proofs.lemmas.List.{map-append}
@@ -10,18 +9,18 @@ use Rattle.cpg_base.proofs.Lists.{below_push}
 use Rattle.cpg_audit.specs.declared.log_order.TimedItem.{TimedItem}
 use Rattle.cpg_audit.proofs.log_order.in_log_order.Goals as goal
 
--- the item of a time that is listed
+-- the number of an item that is listed with its time
 abbrev item : TimedItem → ℕ
 item t = t.item
 
--- the next item is pushed with its time
+-- the next item is added behind those before
 pub loop-item-preserved : goal.loop-item-preserved
 loop-item-preserved c =
     let timed : TimedItem = record { time = c.unwrap_or-time.result; item = c.loop-item.item } in
     ap (map item) c.in_ok-push.ensures.items ∙ map-append item c.loop-item.ordered.items (timed ∷ [])
     ∙ ap (λ xs. xs ++ c.loop-item.item ∷ []) c.loop-item.invariant ∙ sym (below_push c.loop-item.item)
 
--- the loop took all items, and sorting them is a permutation
+-- the list has all items, and sorting it leaves a permutation of them
 pub returns : goal.returns
 returns c =
     let last : c.loop-item.item ≡ item_count c.args.problem.now = search rules in

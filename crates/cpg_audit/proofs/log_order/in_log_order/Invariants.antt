@@ -1,5 +1,4 @@
--- Loops of `in_log_order`: all items, those that a log names first, by time: a column depends on what was before its
--- item, which the items before it have shown by then.
+-- Loops of `in_log_order`: all items, those that a log names first, by time, and then the others.
 use Rattle.std.proofs.Common.{◌≡◌, map}
 use Rattle.cpg_base.specs.Numbers.{numbers_below}
 use Rattle.cpg_audit.proofs.log_order.in_log_order.Given as goal

@@ -1,4 +1,4 @@
--- Proof of `cube_of`: the cube of a space's ranges.
+-- Proof of `cube_of`: a cube that matches all scenarios of a space: it has the space's ranges of all variables.
 use Rattle.std.proofs.Common.{◌≤◌, length}
 use Rattle.cpg_audit.proofs.NarrowingLaws.{ranges_weaker, known_ranges, matches_space}
 use Rattle.cpg_audit.proofs.narrowing.cube_of.Goals as goal

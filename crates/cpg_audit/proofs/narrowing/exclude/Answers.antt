@@ -1,4 +1,5 @@
--- Proof of `exclude`: leaves the scenarios in which a literal doesn't hold, if they have one range of its variable.
+-- Proof of `exclude`: narrows a space to the scenarios in which a literal doesn't hold, if these have one range of its
+-- variable.
 use Rattle.std.proofs.Common.{◌∙◌}
 use Rattle.std.proofs.Math.Bool.{and-true}
 use Rattle.cpg_cube.specs.Cube.{holds}

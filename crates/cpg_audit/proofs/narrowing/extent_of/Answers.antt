@@ -1,4 +1,4 @@
--- Proof of `extent_of`: which scenarios of a space literals match.
+-- Proof of `extent_of`: which scenarios of a space a cube with these literals matches.
 use Rattle.std.proofs.Common.{rules, ◌≡◌, arith, subst, None, List, get_or, true}
 use Rattle.std.proofs.lemmas.List.{take_all}
 use Rattle.cpg_base.specs.Scenario.{Scenario}
@@ -10,7 +10,7 @@ use Rattle.cpg_audit.proofs.NarrowingLaws.{first_open, none_with_told, some_with
 use Rattle.cpg_audit.proofs.narrowing.extent_of.Goals as goal
 use Rattle.cpg_audit.proofs.narrowing.extent_of.Goals.{then-not-implies+else-is_apart+else-is_some, else-not-implies}
 
--- what an index past the end would show
+-- the default of `get_or`, which is never reached
 abbrev blank : Literal
 blank = record { variable = 0; low = 0; high = 0 }
 

@@ -1,4 +1,4 @@
--- Loops of `extent_of`: which scenarios of a space literals match.
+-- Loops of `extent_of`: which scenarios of a space a cube with these literals matches.
 use Rattle.std.proofs.Common.{◌≡◌, true, take}
 use Rattle.std.specs.Prelude.{IfNone, IfSome}
 use Rattle.cpg_base.specs.Scenario.{Scenario}

@@ -1,4 +1,5 @@
--- Proof of `is_apart`: whether a literal holds nowhere in a space.
+-- Proof of `is_apart`: whether a literal holds in no scenario of a space: its range has no number that the space leaves
+-- the variable.
 use Rattle.std.proofs.Common.{arith}
 use Rattle.std.specs.Prelude.{nat_lt}
 use Rattle.std.proofs.lemmas.Bool.{OnTrue_from, ltb-true}

@@ -1,11 +1,12 @@
--- Proof of `narrow`: leaves the scenarios that no cube matches, as far as each cube depends on one variable.
+-- Proof of `narrow`: narrows a space to the scenarios that none of these cubes matches, as far as each depends on one
+-- variable.
 use Rattle.std.proofs.Common.{◌≡◌, ◌∙◌, ap, sym, drop, arith}
 use Rattle.std.specs.List.{list_any}
 use Rattle.cpg_cube.specs.Cube.{matches}
 use Rattle.cpg_audit.proofs.NarrowingLaws.{one_before}
 use Rattle.cpg_audit.proofs.narrowing.narrow.Goals as goal
 
--- the cube matches just where a literal holds, and those scenarios are left out
+-- the cube matches just where a literal holds, so a scenario that it doesn't match stays when those are taken off
 pub loop-place-preserved-in-Where : goal.loop-place-preserved-in-Where
 loop-place-preserved-in-Where c = record {
   within = omega (arith, c.loop-place.invariant.within);
@@ -16,7 +17,7 @@ loop-place-preserved-in-Where c = record {
       c.exclude.ensures s old (sym (rw c.literals.ensures.literals at c.in-Where.ensures s old) ∙ parts.1);
 }
 
--- the cube matches in no scenario of the space, or isn't told, and leaves the space as it is
+-- the cube matches nowhere in the space, or it isn't known where: the space stays as it is
 pub loop-place-preserved : goal.loop-place-preserved
 loop-place-preserved c = record {
   within = omega (arith, c.loop-place.invariant.within);

@@ -1,4 +1,5 @@
--- Loops of `narrow`: leaves the scenarios that no cube matches, as far as each cube depends on one variable.
+-- Loops of `narrow`: narrows a space to the scenarios that none of these cubes matches, as far as each depends on one
+-- variable.
 use Rattle.std.proofs.Common.{◌≡◌, ◌≤◌, false, drop, length}
 use Rattle.std.specs.List.{list_any}
 use Rattle.cpg_base.specs.Scenario.{Scenario}
@@ -6,8 +7,8 @@ use Rattle.cpg_cube.specs.Cube.{matches}
 use Rattle.cpg_tree.specs.Space.{IsInSpace}
 use Rattle.cpg_audit.proofs.narrowing.narrow.Given as goal
 
--- the cubes are gone over from the last one; a scenario of the first space that none of the cubes so far matches lies
--- in the space left
+-- The cubes from `place` on were gone over. `within`: there are so many. `left`: a scenario of the space as it was at
+-- first that none of them matches lies in the space that is left.
 abbrev pub invariant-loop-place : goal.invariant-loop-place
 invariant-loop-place l = record {
   within : l.place ≤ length l.by;

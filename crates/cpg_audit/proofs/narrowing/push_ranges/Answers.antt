@@ -1,5 +1,5 @@
--- Proof of `push_ranges`: adds the ranges of the variables from one up to the one before another, except ranges that
--- all scenarios are in.
+-- Proof of `push_ranges`: adds to a cube the space's ranges of the variables from `first` up to `end`, this one left
+-- out, except those that leave out no number of the variable.
 use Rattle.std.proofs.Common.{◌+◌, arith}
 use Rattle.std.proofs.lemmas.List.Elements.{All-push}
 use Rattle.cpg_audit.specs.Narrowing.{IsRange}
@@ -13,6 +13,7 @@ pub loop-variable-preserved : goal.loop-variable-preserved
 loop-variable-preserved c =
     let g = c.args.problem.now in
     let v = c.loop-variable.variable in
+    -- the ranges before hold as they did
     let old = ranges_weaker g c.args.space.now v (v + 1) (omega arith) c.loop-variable.cube c.loop-variable.invariant in
     elim c.if-low-gt0.branch [
       | then-low-gt0+in_ok-push w ↦ rw (w.cube-is, w.in_ok-push.ensures.pushed)

@@ -1,5 +1,4 @@
--- Proof of `range_outside`: the range that a variable is in if a literal on it doesn't hold; `None` if that isn't one
--- range of the space.
+-- Proof of `range_outside`: the range that a variable is in wherever in a space a literal on it doesn't hold.
 use Rattle.std.proofs.Common.{arith}
 use Rattle.cpg_audit.proofs.NarrowingLaws.{above_range, below_range}
 use Rattle.cpg_audit.proofs.narrowing.range_outside.Goals as goal

@@ -1,5 +1,5 @@
--- Proof of `take_off`: leaves the scenarios that a cube doesn't match, if that depends on one variable, and keeps the
--- cube unless it is known to match none of the space.
+-- Proof of `take_off`: narrows a space to the scenarios that a cube doesn't match, if that depends on one variable, and
+-- adds the cube to `kept`, unless it matches nothing of the space.
 use Rattle.std.proofs.Common.{◌∙◌, sym}
 use Rattle.std.specs.List.{list_any}
 use Rattle.std.proofs.lemmas.Bool.{or_parts}

@@ -1,5 +1,5 @@
--- Proof of `take_off_all`: leaves the scenarios that no cube matches, as far as each cube depends on one variable, and
--- keeps the cubes except those that are known to match nothing of what is left at their turn.
+-- Proof of `take_off_all`: narrows a space to the scenarios that none of these cubes matches, as far as each depends on
+-- one variable, and adds to `kept` those that match something of what is left at their turn.
 use Rattle.std.proofs.Common.{rules, ◌≡◌, ◌-◌, ◌∙◌, ◌||◌, ap, drop, arith, Bor, List, subst, sym}
 use Rattle.std.specs.List.{list_any}
 use Rattle.cpg_cube.specs.Cube.{matches}

@@ -1,5 +1,5 @@
--- Loops of `take_off_all`: leaves the scenarios that no cube matches, as far as each cube depends on one variable, and
--- keeps the cubes except those that are known to match nothing of what is left at their turn.
+-- Loops of `take_off_all`: narrows a space to the scenarios that none of these cubes matches, as far as each depends on
+-- one variable, and adds to `kept` those that match something of what is left at their turn.
 use Rattle.std.proofs.Common.{◌≡◌, ◌≤◌, ◌||◌, All, drop, length}
 use Rattle.std.specs.List.{list_any}
 use Rattle.cpg_base.specs.Graph.{Graph}
@@ -9,9 +9,10 @@ use Rattle.cpg_cube.specs.Fit.{IsKnown}
 use Rattle.cpg_audit.specs.Narrowing.{Leaves}
 use Rattle.cpg_audit.proofs.narrowing.take_off_all.Given as goal
 
--- the cubes are gone over from the last one. `same`: the kept cubes match where those of before or the cubes so far
--- do. `left`: what no kept cube matches lies in the space left. `grows`, `known`: cubes are added alone, on known
--- variables
+-- The cubes from `place` on were gone over. `within`: there are so many. `same`: a kept cube matches exactly where one
+-- of those kept at first does, or one that was gone over, as far as what those kept at first leave lies in the first
+-- space. `left`: so what the kept cubes leave lies in the space that is left. `grows`: cubes are only added. `known`:
+-- if all cubes are on variables of a graph, so are the kept ones.
 abbrev pub invariant-loop-place : goal.invariant-loop-place
 invariant-loop-place l = record {
   within : l.place ≤ length l.by;

@@ -1,4 +1,5 @@
--- Proof of `disjunctions`: for each process number, whether the process has a conditional output.
+-- Proof of `disjunctions`: returns for each process number below 128 whether a process of this number has a
+-- conditional output.
 use Rattle.std.proofs.Common.{◌∙◌, rules, sym, ap, false, true, None, length, arith}
 use Rattle.std.proofs.Math.ListN.{length-set}
 use Rattle.cpg_base.specs.Graph.{Edge}
@@ -6,7 +7,7 @@ use Rattle.cpg_base.proofs.Marks.{no_marks, marks_set, marks_keep}
 use Rattle.cpg_base.proofs.conditions.disjunctions.Goals as goal
 use Rattle.cpg_base.proofs.conditions.disjunctions.Goals.{then-is_some, else-is_some}
 
--- what stands where there is no edge
+-- a stand-in for the edge at a place where there is none
 abbrev none : Edge
 none = record { from = 0; to = 0; size = 0; when = None; frozen = false }
 

@@ -1,4 +1,5 @@
--- Loops of `disjunctions`: for each process number, whether the process has a conditional output.
+-- Loops of `disjunctions`: returns for each process number below 128 whether a process of this number has a
+-- conditional output.
 use Rattle.std.proofs.Common.{◌≡◌, length, take}
 use Rattle.cpg_base.proofs.Marks.{AreMarks}
 use Rattle.cpg_base.proofs.conditions.disjunctions.Given as goal

@@ -3,7 +3,7 @@ use Rattle.std.proofs.Common.{sym, ◌∙◌}
 use Rattle.std.specs.Cmp.Lexicographic.{bytes_decides, pointwise_decides}
 use Rattle.cpg_base.proofs.name.are_same_names.Goals as goal
 
--- lists of names are equal if they are so name by name
+-- the comparison goes name by name, and decides whether two names have the same bytes
 pub returns : goal.returns
 returns c =
     let decides = pointwise_decides bytes_decides c.args.names.now c.args.others.now in

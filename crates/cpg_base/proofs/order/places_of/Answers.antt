@@ -1,13 +1,14 @@
--- Proof of `places_of`: for each process number, the place of the process.
+-- Proof of `places_of`: returns for each process number the place at which the process stands.
 use Rattle.std.proofs.Common.{◌≡◌, ap, length, arith, subst}
 use Rattle.cpg_base.proofs.Standing.{AreWritten, process_within, written_more, all_written}
 use Rattle.cpg_base.proofs.order.places_of.Goals as goal
 
--- what stands in the order is one of its processes
+-- each number in the order is below its length, which is that of the list of places
 pub index_mut-requires : goal.index_mut-requires
 index_mut-requires c =
     let long : length c.as_slice-process-items.result.now ≡ length c.args.processes.now.items =
     ap length c.as_slice-process-items.ensures.value in
+    -- the number at this place of the order is below its length
     let w = process_within c.args.processes.now.items c.requires c.loop-i.i (omega arith) in
     rw c.as_slice-process-items.ensures.value (omega (arith, c.loop-i.invariant.long))
 

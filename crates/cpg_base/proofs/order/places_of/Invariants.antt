@@ -1,4 +1,4 @@
--- Loops of `places_of`: for each process number, the place of the process.
+-- Loops of `places_of`: returns for each process number the place at which the process stands.
 use Rattle.cpg_base.proofs.Standing.{AreWritten}
 use Rattle.cpg_base.proofs.order.places_of.Given as goal
 

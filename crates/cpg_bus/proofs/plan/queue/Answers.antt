@@ -1,4 +1,4 @@
--- Proof of `queue`: the items that a process sends.
+-- Proof of `queue`: returns the items that a process sends: its broadcast first, then its messages by number.
 use Rattle.std.proofs.Common.{get_or, Contains, subst}
 use Rattle.std.proofs.lemmas.List.Elements.{Contains-get_or}
 use Rattle.cpg_base.proofs.Inputs.{outputs_parts}

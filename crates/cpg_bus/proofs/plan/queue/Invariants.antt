@@ -1,11 +1,10 @@
--- Loops of `queue`: the items that a process sends.
+-- Loops of `queue`: returns the items that a process sends: its broadcast first, then its messages by number.
 use Rattle.std.proofs.Common.{◌≡◌, ◌++◌, map, filter, take}
 use Rattle.cpg_base.specs.Graph.{outputs, is_message, message_item, condition_of}
 use Rattle.cpg_bus.specs.Plan.{broadcasts_of}
 use Rattle.cpg_bus.proofs.plan.queue.Given as goal
 
--- after each edge, the queue has the broadcast of the process, if it has one, and the message of each output so far
--- that has one
+-- the list has the broadcast of the process, if it has one, and the message of each output so far that is a message
 abbrev pub invariant-loop-edge : goal.invariant-loop-edge
 invariant-loop-edge l =
     l.items.items ≡ broadcasts_of l.problem (condition_of l.problem l.process) ++ map (message_item l.problem)

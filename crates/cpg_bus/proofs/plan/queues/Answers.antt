@@ -1,4 +1,4 @@
--- Proof of `queues`: the items that each process sends.
+-- Proof of `queues`: returns the items that each process sends, by process.
 use Rattle.cpg_base.proofs.Lists.{map_below_push}
 use Rattle.cpg_bus.specs.Plan.{queue_of}
 use Rattle.cpg_bus.proofs.plan.queues.Goals as goal

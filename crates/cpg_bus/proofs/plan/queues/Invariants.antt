@@ -1,4 +1,4 @@
--- Loops of `queues`: the items that each process sends.
+-- Loops of `queues`: returns the items that each process sends, by process.
 use Rattle.std.proofs.Common.{◌≡◌, map}
 use Rattle.cpg_base.specs.Numbers.{numbers_below}
 use Rattle.cpg_bus.specs.Plan.{queue_of}

@@ -1,4 +1,4 @@
--- Loops of `shares`: the shares of the nodes.
+-- Loops of `shares`: returns the share of each node that has a slot, by node.
 use Rattle.std.proofs.Common.{◌≡◌, map}
 use Rattle.cpg_base.specs.Numbers.{numbers_below}
 use Rattle.cpg_bus.specs.Plan.{share_if}

@@ -1,9 +1,9 @@
--- Proof of `row_fault`: the first violation of V1 to V3, by the trees of all rows.
+-- Proof of `row_fault`: the first violation of V1 to V3.
 use Rattle.std.proofs.Common.{◌∙◌, ap}
 use Rattle.cpg_base.specs.Graph.{item_count}
 use Rattle.cpg_check.proofs.verdict.row_fault.Goals as goal
 
--- all items are marked as good in their rows, so there is no fault of rows
+-- each item is marked for V1, V2 and V3, and marks are right, so these rules hold
 pub returns-then-are_all-clause-none : goal.returns-then-are_all-clause-none
 returns-then-are_all-clause-none c = c.if-are_all.ensures c.args.admitted.now.graph c.args.tables.now.nodes
     (c.item_count.ensures ∙ ap item_count c.problem-problem.ensures.problem) c.in_ok-marks.ensures

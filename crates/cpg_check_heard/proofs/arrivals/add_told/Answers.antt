@@ -1,4 +1,5 @@
--- Proof of `add_told`: adds the parts of these columns' cubes in which they tell a bound by a time.
+-- Proof of `add_told`: adds to `told` for each of these columns the part of its cube in which it tells a bound by a
+-- time, if there is one.
 use Rattle.std.proofs.Common.{◌||◌, ◌∙◌, ap, sym, subst}
 use Rattle.std.specs.List.{list_any}
 use Rattle.cpg_cube.specs.Cube.{matches}

@@ -1,4 +1,5 @@
--- Loops of `add_told`: adds the parts of these columns' cubes in which they tell a bound by a time.
+-- Loops of `add_told`: adds to `told` for each of these columns the part of its cube in which it tells a bound by a
+-- time, if there is one.
 use Rattle.std.proofs.Common.{◌≡◌, ◌||◌, All, take}
 use Rattle.std.specs.List.{list_any}
 use Rattle.cpg_base.specs.Scenario.{Scenario, IsScenario}
@@ -7,8 +8,8 @@ use Rattle.cpg_cube.specs.Fit.{IsKnown}
 use Rattle.cpg_check_heard.specs.Arrivals.{do_tell}
 use Rattle.cpg_check_heard.proofs.arrivals.add_told.Given as goal
 
--- After each arrival. `known`: the cubes in `told` speak of known variables alone. `told`: a scenario matches one of
--- them exactly if it matched one before or an arrival so far says the bound there.
+-- After each arrival. `known`: the cubes in `told` are on variables of the graph. `told`: a scenario matches one of
+-- them exactly if it matches one that was there at first, or an arrival so far tells the bound in it.
 abbrev pub invariant-loop-arrival : goal.invariant-loop-arrival
 invariant-loop-arrival l = record {
   known : All (IsKnown l.problem) l.told.items;

@@ -1,4 +1,5 @@
--- Proof of `left_open`: those of some bounds that these columns may leave open somewhere that a column matches.
+-- Proof of `left_open`: those of some bounds that none of these columns tells wherever a column matches, as
+-- `tells_one_whole` finds out.
 use Rattle.std.proofs.Common.{All, sym, subst}
 use Rattle.std.proofs.lemmas.List.Elements.{All-push}
 use Rattle.cpg_base.specs.Graph.{IsVariable}
@@ -17,7 +18,7 @@ loop-bound-preserved-then-tells_one_whole c = record {
       (c.if-tells_one_whole.ensures s law m));
 }
 
--- the next bound is left
+-- the next bound is kept, so a test passes at one that is left exactly if it does at one of the bounds so far
 pub loop-bound-preserved : goal.loop-bound-preserved
 loop-bound-preserved c =
     let P = λ (b : LiteralBound). IsVariable c.args.problem.now (variable_of b) in

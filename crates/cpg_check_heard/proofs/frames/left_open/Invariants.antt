@@ -1,4 +1,5 @@
--- Loops of `left_open`: those of some bounds that these columns may leave open somewhere that a column matches.
+-- Loops of `left_open`: those of some bounds that none of these columns tells wherever a column matches, as
+-- `tells_one_whole` finds out.
 use Rattle.std.proofs.Common.{◌≡◌, Bool, true, false, All, take}
 use Rattle.std.specs.List.{list_any}
 use Rattle.cpg_base.specs.Graph.{IsVariable}
@@ -9,8 +10,8 @@ use Rattle.cpg_check_heard.specs.Arrivals.{do_tell}
 use Rattle.cpg_check_heard.specs.Bounds.{variable_of}
 use Rattle.cpg_check_heard.proofs.frames.left_open.Given as goal
 
--- After each bound. `known`: each bound left open is of a variable of the graph. `left`: a test that fails for every
--- bound that the arrivals say holds for a bound left open exactly if it holds for one of the bounds so far.
+-- After each bound. `known`: each bound that is left is of a variable of the graph. `left`: a test that fails at each
+-- bound that an arrival tells passes at one that is left exactly if it passes at one of the bounds so far.
 abbrev pub invariant-loop-bound : goal.invariant-loop-bound
 invariant-loop-bound l = record {
   known : All (λ (b : LiteralBound). IsVariable l.problem (variable_of b)) l.left.items;

@@ -1,5 +1,5 @@
--- Proof of `first_unheard`: the first column of an item's row that matches in a scenario in which the item's node
--- hasn't heard one of its literals by its time; and the least such scenario.
+-- Proof of `first_unheard`: the place of the first column of an item's row that matches in a scenario in which the
+-- item's node hasn't heard one of its literals by its time, with the least such scenario.
 use Rattle.std.proofs.Common.{◌≡◌, ◌<◌, ◌&&◌, ◌∙◌, false, Some, None, All, Contains, length, ap, sym, subst, arith, inl}
 use Rattle.std.proofs.Common.{inr}
 use Rattle.std.proofs.lemmas.Bool.{cases_lt}
@@ -50,6 +50,7 @@ returns-in-Some-clause-first c =
     let d = c.index-columns-place.result in
     let node : c.home-node.result ≡ home g c.args.item =
     c.home-node.ensures.home ∙ ap (λ h. home h c.args.item) c.problem-problem.ensures.problem in
+    -- the answer for this column, said of the item's own node
     let found =
     subst (λ e. IsFirst g order (λ s. matches e.cube s && is_column_unheard g tables (home g c.args.item) s e)
     (Some c.in-Some.scenario)) c.index-columns-place.is

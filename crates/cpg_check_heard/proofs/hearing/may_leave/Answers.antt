@@ -1,4 +1,4 @@
--- Proof of `may_leave`: whether a list may leave something of a cube.
+-- Proof of `may_leave`: whether some scenario that a cube matches is matched by none of the cubes `told`.
 use Rattle.std.specs.List.{list_any}
 use Rattle.cpg_cube.specs.Cube.{matches}
 use Rattle.cpg_check_heard.proofs.Untolds.{left_nowhere}

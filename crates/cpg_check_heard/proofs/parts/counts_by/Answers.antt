@@ -1,10 +1,12 @@
--- Proof of `counts_by`: how many of the fault counts, from 0 on, let an execution that starts at a time end by another.
+-- Proof of `counts_by`: with how many of the fault counts, from 0 on, an execution that starts at `start` ends by
+-- `time`: with counts below the result it does, and with greater ones it doesn't.
 use Rattle.std.proofs.Common.{◌-◌, ◌<◌, arith}
 use Rattle.cpg_base.specs.Duration.{duration}
 use Rattle.cpg_check_heard.proofs.Counts.{counts_here}
 use Rattle.cpg_check_heard.proofs.parts.counts_by.Goals as goal
 
--- the first count with which the execution ends too late is how many let it end in time
+-- with each lesser count it ends in time, and with each greater one it lasts at least as long, so the first count with
+-- which it ends too late is how many let it end in time
 pub returns-then-duration-left-clause-counts : goal.returns-then-duration-left-clause-counts
 returns-then-duration-left-clause-counts c =
     let here : c.args.time - c.args.start < duration c.args.problem.now c.args.process c.loop-count.count =

@@ -1,5 +1,6 @@
--- Proof of `frame_part`: the part of a column's cube in which its frame has come by a time and tells a bound, if there
--- is one.
+-- Proof of `frame_part`: the part of a column's cube in which its frame has come by a time and tells a bound: the whole
+-- cube if one of the column's literals tells it, or else the part in which the value that the frame carries is within
+-- the bound.
 use Rattle.std.proofs.Common.{◌≡◌, ◌+◌, ◌&&◌, true, false, subst, sym, ◌∙◌, ap}
 use Rattle.std.specs.Prelude.{nat_le}
 use Rattle.std.specs.List.{list_any}
@@ -32,7 +33,7 @@ returns-clause-part c =
     frame_value g c.faults.ensures.within.few_processes c.args.delay c.args.condition c.args.column.now c.args.time
     c.args.bound c.requires.variable come off value c.in_ok-told.told told
 
--- the part has variables of the graph alone
+-- the column's cube was narrowed by a literal on a variable of the graph
 pub returns-clause-known : goal.returns-clause-known
 returns-clause-known c =
     let variable : IsVariable c.args.problem.now c.range.result.variable =

@@ -1,5 +1,4 @@
--- Proof of `heard_marks`: the items each of whose literals is heard by the time of its column, wherever that matches,
--- by what is known of executions and frames, and of the sends that keep V5.
+-- Proof of `heard_marks`: a mark for each item, by number: whether V4 is known to hold there.
 use Rattle.std.proofs.Common.{◌<◌, ap, ◌∙◌, sym, arith}
 use Rattle.cpg_base.specs.Graph.{item_count}
 use Rattle.cpg_table.specs.declared.rule.Rule.{Rule}
@@ -7,7 +6,7 @@ use Rattle.cpg_tree.proofs.Passes.{of_true}
 use Rattle.cpg_violation.proofs.SureLaws.{one_more}
 use Rattle.cpg_check_quick.proofs.heard.heard_marks.Goals as goal
 
--- the mark of the next item is right: if it is set, the item keeps V4
+-- if the mark of the next item is set, V4 is sure there
 pub loop-item-preserved : goal.loop-item-preserved
 loop-item-preserved c =
     let below : c.loop-item.item < item_count c.args.admitted.now.graph =
@@ -19,6 +18,6 @@ loop-item-preserved c =
     (λ marked. c.requires.inputs c.loop-item.item below (sym c.is_marked-is_in_time.ensures ∙ marked))
     c.columns_of.ensures.columns)))
 
--- the marks that are made are sure, as after each step
+-- the loop has gone over all items
 pub returns : goal.returns
 returns c = c.loop-item.invariant.sure

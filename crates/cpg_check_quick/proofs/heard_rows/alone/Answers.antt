@@ -1,4 +1,5 @@
--- Proof of `alone`: the column at the only place, if there is one.
+-- Proof of `alone`: the column at the only one of these places; `None` if there isn't exactly one place, or no column
+-- is there.
 use Rattle.std.proofs.Common.{◌≡◌, refl}
 use Rattle.cpg_cube.specs.declared.column.Column.{Column}
 use Rattle.cpg_check_quick.proofs.OrderLaws.{told_at}

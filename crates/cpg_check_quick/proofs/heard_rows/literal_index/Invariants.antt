@@ -1,4 +1,4 @@
--- Loops of `literal_index`: where a variable's literal stands among literals by rising variable, if there is one.
+-- Loops of `literal_index`: the place of the literal on a variable among literals whose variables rise.
 use Rattle.std.proofs.Common.{◌-◌}
 use Rattle.cpg_check_quick.proofs.heard_rows.literal_index.Given as goal
 

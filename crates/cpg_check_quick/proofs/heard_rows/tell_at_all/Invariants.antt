@@ -1,5 +1,5 @@
--- Loops of `tell_at_all`: whether the column at each of these places has a literal that bounds the variable of a wanted
--- one at least as closely.
+-- Loops of `tell_at_all`: whether there is a column at each of these places, and one of its literals implies the wanted
+-- one.
 use Rattle.std.proofs.Common.{All, take}
 use Rattle.cpg_cube.specs.Column.{column_at}
 use Rattle.cpg_check_quick.specs.HeardRows.{IsToldIn}

@@ -1,10 +1,10 @@
--- Proof of `inputs_marks`: the items that have no column too early for what it waits for.
+-- Proof of `inputs_marks`: a mark for each item, by number: whether V5 is known to hold there.
 use Rattle.cpg_table.specs.declared.rule.Rule.{Rule}
 use Rattle.cpg_tree.proofs.Passes.{of_true}
 use Rattle.cpg_violation.proofs.SureLaws.{one_more}
 use Rattle.cpg_check_quick.proofs.inputs.inputs_marks.Goals as goal
 
--- the mark of the next item is right: if it is set, the item keeps V5
+-- if the mark of the next item is set, V5 is sure there
 pub loop-item-preserved : goal.loop-item-preserved
 loop-item-preserved c = rw c.in_ok-push.ensures.items
     (one_more c.args.admitted.now.graph c.args.tables.now.nodes Rule.Inputs c.loop-item.item c.loop-item.marks.items
@@ -17,6 +17,6 @@ loop-item-preserved c = rw c.in_ok-push.ensures.items
     })
     c.requires.rules c.columns_of.ensures.columns)))
 
--- the marks that are made are sure, as after each step
+-- the loop has gone over all items
 pub returns : goal.returns
 returns c = c.loop-item.invariant.sure

@@ -1,4 +1,4 @@
--- Proof of `is_start_sure`: whether the columns of a start are no earlier than its release and its live inputs.
+-- Proof of `is_start_sure`: whether V5 is known to hold at a start, which has these columns.
 use Rattle.std.proofs.Common.{◌≡◌, ◌<◌, All, Contains, ap, sym, ◌∙◌, subst}
 use Rattle.cpg_base.specs.Graph.{edge_count, inputs, process_at}
 use Rattle.cpg_tree.proofs.Passes.{of_true}
@@ -13,10 +13,12 @@ others-requires-clause-edges c =
     subst (All (λ e. e < edge_count g)) (sym (c.inputs-edges.ensures.of_graph g c.requires.links))
     (inputs_below g c.args.process)
 
--- each column is no earlier than the release and the inputs that aren't always before, so the start keeps V5
+-- each column is no earlier than the release, the other inputs are there by then, and the rest always are, so the start
+-- keeps V5
 pub returns : goal.returns
 returns c = of_true c.are_late_enough.result c.are_late_enough.ensures (λ late tables w rules is.
     let g = c.args.input_rows.now.admitted.now.graph in
+    -- the edges are the inputs of the process, and the release is its
     let all : c.inputs-edges.result.now ≡ inputs g c.args.process =
     c.inputs-edges.ensures.of_graph g c.requires.links in
     let release =

@@ -1,11 +1,11 @@
--- Proof of `is_sure`: whether a row keeps the rule.
+-- Proof of `is_sure`: whether V5 is known to hold at an item, which has these columns.
 use Rattle.std.proofs.Common.{◌≤◌, ap, arith, length}
 use Rattle.cpg_base.specs.Graph.{process_count}
 use Rattle.cpg_tree.proofs.Passes.{of_true}
 use Rattle.cpg_check_quick.proofs.InputLaws.{send_sure}
 use Rattle.cpg_check_quick.proofs.inputs.is_sure.Goals as goal
 
--- the item is a send, and its producer is over before each column, so it keeps V5
+-- the item is a send, and its producer has ended by each of its columns, so it keeps V5
 pub returns-then-item-processes : goal.returns-then-item-processes
 returns-then-item-processes c =
     of_true c.is_after_producer.result c.is_after_producer.ensures (λ before tables w rules is.

@@ -6,7 +6,7 @@ use Rattle.cpg_cube.specs.declared.column.Column.{Column}
 use Rattle.cpg_violation.proofs.SureLaws.{each_all, each_more}
 use Rattle.cpg_check_quick.proofs.listening.are_all_known.Goals as goal
 
--- the literals of the next column are on known variables, too
+-- all literals of the next column are on known variables, too
 pub loop-column-preserved : goal.loop-column-preserved
 loop-column-preserved c =
     each_more (λ (d : Column). All (λ (m : Literal). get_or c.args.known.now m.variable false ≡ true) d.cube)
@@ -15,7 +15,7 @@ loop-column-preserved c =
     (OnTrue_at {P = All (λ (m : Literal). get_or c.args.known.now m.variable false ≡ true) c.column-item.result.cube}
     c.if-not-is_cube_known.false c.is_cube_known.ensures)
 
--- the loop has gone over all of them, so what holds of those so far holds of all
+-- the loop has gone over all columns, so it holds of each
 pub returns : goal.returns
 returns c = each_all (λ (d : Column). All (λ (m : Literal). get_or c.args.known.now m.variable false ≡ true) d.cube)
     c.args.columns.now c.loop-column.column-index c.loop-column-test.false

@@ -1,4 +1,5 @@
--- Proof of `are_below`: whether the variables of literals that rise are all below one, by the last.
+-- Proof of `are_below`: whether the variables of these literals, which rise, are all below one: the last is, or there
+-- is none.
 use Rattle.std.proofs.Common.{◌-◌, ◌<◌, ◌≡◌, All, Some, length, nat_lt, ltb-true, rules}
 use Rattle.std.specs.Prelude.{slice_get}
 use Rattle.std.proofs.lemmas.Bool.{OnTrue_from}

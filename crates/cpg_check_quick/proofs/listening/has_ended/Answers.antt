@@ -1,5 +1,5 @@
--- Proof of `has_ended`: whether a process on an item's node has always ended by the item's columns: before it in
--- sequence, or by the end of the producer of a send that keeps V5.
+-- Proof of `has_ended`: whether a process on an item's node is known to have ended by the item's columns: it comes
+-- before the item, or before its producer, in the sequence of the node, or is the producer itself.
 use Rattle.std.proofs.Common.{◌≡◌, ◌≤◌, ap, length, sym, ◌∙◌, subst, arith}
 use Rattle.cpg_base.specs.Graph.{process_count, producer}
 use Rattle.cpg_tree.proofs.Passes.{of_true}
@@ -8,7 +8,7 @@ use Rattle.cpg_check_quick.specs.Order.{IsBefore, execution}
 use Rattle.cpg_check_quick.proofs.OwnLaws.{before_ended, earlier_ended, producer_ended}
 use Rattle.cpg_check_quick.proofs.listening.has_ended.Goals as goal
 
--- the item is a start, so the process is over before it by the order of the executions
+-- the item is a start, and the process comes before it in the sequence of the node
 pub returns-then-item-processes : goal.returns-then-item-processes
 returns-then-item-processes c = of_true c.is_before.result c.is_before.ensures (λ before tables sequences rules sent.
     let g = c.args.admitted.now.graph in
@@ -29,7 +29,7 @@ returns-then-process-producer c = λ tables sequences rules sent.
     subst (λ q. IsEndedBy g tables q c.args.item) (sym (c.if-process-producer.true ∙ from))
     (producer_ended g tables rules c.args.item c.requires.item send (sent c.if-not-is_sent_in_time.false))
 
--- the process is always over before the producer, and so it has ended by the item's columns
+-- the process is always over before the producer of the send, which keeps V5, so it has ended by the item's columns
 pub returns : goal.returns
 returns c = of_true c.is_before-2.result c.is_before-2.ensures (λ before tables sequences rules sent.
     let g = c.args.admitted.now.graph in

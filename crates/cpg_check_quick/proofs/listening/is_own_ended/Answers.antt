@@ -1,4 +1,4 @@
--- Proof of `is_own_ended`: whether a variable's process is on an item's node and has always ended by the item's
+-- Proof of `is_own_ended`: whether a variable's process is on an item's node and is known to have ended by the item's
 -- columns.
 use Rattle.std.proofs.Common.{ap, sym, ◌∙◌}
 use Rattle.cpg_base.specs.Graph.{home, node_of}

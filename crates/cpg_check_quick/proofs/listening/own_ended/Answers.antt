@@ -1,5 +1,5 @@
--- Proof of `own_ended`: marks of the variables whose process is on an item's node and has always ended by the item's
--- columns, by number.
+-- Proof of `own_ended`: a mark for each variable, by number: whether its process is on an item's node and is known to
+-- have ended by the item's columns.
 use Rattle.std.proofs.Common.{◌∙◌, arith, refl}
 use Rattle.std.proofs.lemmas.List.{length-set}
 use Rattle.cpg_tree.proofs.Passes.{of_true}
@@ -10,7 +10,7 @@ use Rattle.cpg_check_quick.proofs.listening.own_ended.Goals as goal
 pub loop-variable-init : goal.loop-variable-init
 loop-variable-init c = record { long = refl; ended = λ tables sequences rules sent v t. absurd (none_marked 256 v t) }
 
--- the next variable is marked only if its process has always ended
+-- the next variable is marked only if its process is on the node and has always ended by the item's columns
 pub loop-variable-preserved : goal.loop-variable-preserved
 loop-variable-preserved c = record {
   long =

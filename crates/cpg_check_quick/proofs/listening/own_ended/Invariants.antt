@@ -1,5 +1,5 @@
--- Loops of `own_ended`: marks of the variables whose process is on an item's node and has always ended by the item's
--- columns, by number.
+-- Loops of `own_ended`: a mark for each variable, by number: whether its process is on an item's node and is known to
+-- have ended by the item's columns.
 use Rattle.std.proofs.Common.{◌≡◌, List, length, true}
 use Rattle.cpg_table.specs.Table.{NodeTable}
 use Rattle.cpg_table.specs.declared.rule.Rule.{Rule}
@@ -10,8 +10,8 @@ use Rattle.cpg_check_quick.specs.Order.{execution}
 use Rattle.cpg_check_quick.specs.Sequences.{AreSequences}
 use Rattle.cpg_check_quick.proofs.listening.own_ended.Given as goal
 
--- there are 256 marks, and each variable that is marked is of a process on the item's node that has always ended by
--- the item's columns
+-- `long`: there is a mark for each of the 256 numbers of a byte. `ended`: each variable that is marked is of a process
+-- on the item's node that has always ended by the item's columns.
 abbrev pub invariant-loop-variable : goal.invariant-loop-variable
 invariant-loop-variable l = record {
   long : length l.known ≡ 256;

@@ -1,4 +1,5 @@
--- Proof of `is_alone`: whether the executions of an item are known to overlap with none of a process of a lower number.
+-- Proof of `is_alone`: whether V6 is known to hold at an item: its executions overlap none of a process of a lower
+-- number on its node.
 use Rattle.std.proofs.Common.{◌∙◌, ap, arith, length}
 use Rattle.cpg_tree.proofs.Passes.{of_true}
 use Rattle.cpg_check_quick.specs.Order.{execution}

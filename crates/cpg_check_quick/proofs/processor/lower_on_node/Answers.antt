@@ -1,4 +1,4 @@
--- Proof of `lower_on_node`: the processes of a process's node that have lower numbers.
+-- Proof of `lower_on_node`: the processes with lower numbers on the node of a process, by number.
 use Rattle.std.proofs.Common.{◌==◌, ◌∙◌, ap, eq-eqb, sym}
 use Rattle.std.proofs.lemmas.Bool.{ne_eqb}
 use Rattle.cpg_base.specs.Graph.{node_of}

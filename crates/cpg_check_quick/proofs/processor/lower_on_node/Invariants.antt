@@ -1,4 +1,4 @@
--- Loops of `lower_on_node`: the processes of a process's node that have lower numbers.
+-- Loops of `lower_on_node`: the processes with lower numbers on the node of a process, by number.
 use Rattle.std.proofs.Common.{◌≡◌, ◌==◌, filter}
 use Rattle.cpg_base.specs.Graph.{node_of}
 use Rattle.cpg_base.specs.Numbers.{numbers_below}

@@ -1,5 +1,4 @@
--- Proof of `processor_marks`: the items whose executions overlap with none of a process of a lower number, by the
--- executions of each node in sequence.
+-- Proof of `processor_marks`: a mark for each item, by number: whether V6 is known to hold there.
 use Rattle.std.proofs.Common.{◌∷◌, [], arith}
 use Rattle.std.proofs.lemmas.List.{length-append}
 use Rattle.cpg_table.specs.declared.rule.Rule.{Rule}
@@ -7,7 +6,7 @@ use Rattle.cpg_tree.proofs.Passes.{of_true}
 use Rattle.cpg_violation.proofs.SureLaws.{one_more}
 use Rattle.cpg_check_quick.proofs.processor.processor_marks.Goals as goal
 
--- the mark of the next item is right: if it is set, the item keeps V6
+-- if the mark of the next item is set, V6 is sure there
 pub loop-item-preserved : goal.loop-item-preserved
 loop-item-preserved c = rw c.in_ok-push.ensures.items (record {
   long =

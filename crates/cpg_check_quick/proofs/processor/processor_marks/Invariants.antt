@@ -1,5 +1,4 @@
--- Loops of `processor_marks`: the items whose executions overlap with none of a process of a lower number, by the
--- executions of each node in sequence.
+-- Loops of `processor_marks`: a mark for each item, by number: whether V6 is known to hold there.
 use Rattle.std.proofs.Common.{◌≡◌, List, length}
 use Rattle.cpg_table.specs.Table.{NodeTable}
 use Rattle.cpg_table.specs.declared.rule.Rule.{Rule}
@@ -8,8 +7,8 @@ use Rattle.cpg_check_quick.specs.Order.{execution}
 use Rattle.cpg_check_quick.specs.Sequences.{AreSequences}
 use Rattle.cpg_check_quick.proofs.processor.processor_marks.Given as goal
 
--- after each item, there is a mark for each item so far, and a mark that is set means that the rule Processor surely
--- holds
+-- `long`: there is a mark for each item so far. `sure`: V6 is sure at each that is marked, if the sequences are of
+-- these tables.
 abbrev pub invariant-loop-item : goal.invariant-loop-item
 invariant-loop-item l = record {
   long : length l.marks.items ≡ l.item;

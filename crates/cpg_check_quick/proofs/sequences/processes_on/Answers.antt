@@ -1,4 +1,4 @@
--- Proof of `processes_on`: the processes of a node, in urgency order.
+-- Proof of `processes_on`: the processes of a node, in the urgency order.
 use Rattle.std.proofs.Common.{ap, arith, length}
 use Rattle.cpg_base.specs.Graph.{process_count}
 use Rattle.cpg_violation.proofs.Violations.{long_order}

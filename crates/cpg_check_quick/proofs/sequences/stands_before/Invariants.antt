@@ -1,8 +1,8 @@
--- Loops of `stands_before`: whether one item stands before another in an order.
+-- Loops of `stands_before`: whether one item comes before another in an order.
 use Rattle.std.proofs.Common.{ℕ, ◌<◌, ◌≡◌, get_or}
 use Rattle.std.specs.Bool.{OnTrue}
 use Rattle.cpg_check_quick.proofs.sequences.stands_before.Given as goal
 
--- if `is_past` is true, the first item stands at one of the places so far
+-- if `is_past` is true, `first` is at one of the places so far
 abbrev pub invariant-loop-item : goal.invariant-loop-item
 invariant-loop-item l = OnTrue l.is_past ((i : ℕ) × (i < l.item-index) × (get_or l.order i 0 ≡ l.first))

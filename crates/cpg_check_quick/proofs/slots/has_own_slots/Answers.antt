@@ -1,4 +1,5 @@
--- Proof of `has_own_slots`: whether an item is known to have slots of its own.
+-- Proof of `has_own_slots`: whether V7 is known to hold at an item: each send is at the start of a slot that no item of
+-- a lower number shares.
 use Rattle.std.proofs.Common.{◌≡◌, ◌∙◌, All, true}
 use Rattle.std.proofs.lemmas.Bool.{OnTrue_at}
 use Rattle.cpg_base.specs.Bus.{next_slot}
@@ -12,7 +13,8 @@ use Rattle.cpg_check_quick.specs.Order.{sending}
 use Rattle.cpg_check_quick.proofs.ClashLaws.{sure_own_slots}
 use Rattle.cpg_check_quick.proofs.slots.has_own_slots.Goals as goal
 
--- each column starts a slot, and the sends are apart from those of lower numbers, so the item keeps V7
+-- each column that matches is at the start of a slot, and the sends are apart from those of lower items, so the item
+-- keeps V7
 pub returns : goal.returns
 returns c =
     let g = c.args.admitted.now.graph in

@@ -1,11 +1,11 @@
--- Proof of `lower_sent`: the items with lower numbers that the home of an item sends.
+-- Proof of `lower_sent`: the items with lower numbers that the node of an item sends, by number.
 use Rattle.std.proofs.Common.{◌≡◌, ◌==◌, ◌&&◌, ◌∙◌, ap, sym}
 use Rattle.cpg_base.specs.Graph.{home, is_sent}
 use Rattle.cpg_base.proofs.Lists.{filter_below_skips, filter_below_takes}
 use Rattle.cpg_check_quick.proofs.slots.lower_sent.Goals as goal
 use Rattle.cpg_check_quick.proofs.slots.lower_sent.Goals.{then-is_sent_from+in_ok-push, else-is_sent_from}
 
--- the next item is added exactly if the home of the given one sends it
+-- the next item is added exactly if the node of the given one sends it
 pub loop-other-preserved : goal.loop-other-preserved
 loop-other-preserved c =
     let g = c.args.problem.now in

@@ -1,4 +1,4 @@
--- Loops of `lower_sent`: the items with lower numbers that the home of an item sends.
+-- Loops of `lower_sent`: the items with lower numbers that the node of an item sends, by number.
 use Rattle.std.proofs.Common.{◌≡◌, ◌==◌, ◌&&◌, filter}
 use Rattle.cpg_base.specs.Graph.{home, is_sent}
 use Rattle.cpg_base.specs.Numbers.{numbers_below}

@@ -1,4 +1,4 @@
--- Proof of `executions`: the rows of all processes, with how long they execute.
+-- Proof of `executions`: the rows of all processes, with how long their executions last.
 use Rattle.std.proofs.Common.{◌≡◌, ◌∙◌, ap}
 use Rattle.cpg_base.specs.Graph.{Graph}
 use Rattle.cpg_violation.proofs.SpaceLaws.{few_of}
@@ -6,7 +6,7 @@ use Rattle.cpg_check_quick.specs.Order.{execution}
 use Rattle.cpg_check_quick.proofs.OrderLaws.{rows_more}
 use Rattle.cpg_check_quick.proofs.spanned_rows.executions.Goals as goal
 
--- the row of one more execution is pushed
+-- the row that is added is that of the next process, with the span of its executions
 pub loop-process-preserved : goal.loop-process-preserved
 loop-process-preserved c = rw c.in_ok-push.ensures.items
     (rows_more (execution c.args.admitted.now.graph) c.args.admitted.now.graph c.args.tables.now.nodes

@@ -1,4 +1,4 @@
--- Proof of `frames`: the rows of all items, with how long their frames take.
+-- Proof of `frames`: the rows of all items, with how long their frames last.
 use Rattle.std.proofs.Common.{◌≡◌, ◌∙◌, ap, subst}
 use Rattle.cpg_base.specs.Bus.{slot_length}
 use Rattle.cpg_base.specs.Graph.{Graph, home}
@@ -8,7 +8,7 @@ use Rattle.cpg_check_quick.specs.Order.{frame}
 use Rattle.cpg_check_quick.proofs.OrderLaws.{rows_more}
 use Rattle.cpg_check_quick.proofs.spanned_rows.frames.Goals as goal
 
--- the row of the next item, whose frames take its node's slot, is added to those before
+-- the row that is added is that of the next item, whose frames last as long as its node's slot
 pub loop-item-preserved : goal.loop-item-preserved
 loop-item-preserved c =
     let g = c.args.admitted.now.graph in

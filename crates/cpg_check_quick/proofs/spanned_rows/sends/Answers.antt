@@ -1,4 +1,4 @@
--- Proof of `sends`: the rows of all items, each for one time unit.
+-- Proof of `sends`: the rows of all items, each send taken to last one time unit.
 use Rattle.std.proofs.Common.{◌≡◌, ◌∙◌, ap}
 use Rattle.cpg_base.specs.Graph.{Graph}
 use Rattle.cpg_violation.proofs.SpaceLaws.{few_of}
@@ -6,7 +6,7 @@ use Rattle.cpg_check_quick.specs.Order.{sending}
 use Rattle.cpg_check_quick.proofs.OrderLaws.{rows_more}
 use Rattle.cpg_check_quick.proofs.spanned_rows.sends.Goals as goal
 
--- the row of one more sending is pushed
+-- the row that is added is that of the next item, whose sends are taken to last 1
 pub loop-item-preserved : goal.loop-item-preserved
 loop-item-preserved c = rw c.in_ok-push.ensures.items
     (rows_more (sending) c.args.admitted.now.graph c.args.tables.now.nodes c.loop-item.item c.loop-item.list.items

@@ -1,4 +1,4 @@
--- Proof of `spanned_row_of`: the row of an item with this span.
+-- Proof of `spanned_row_of`: the row of an item that lasts this long.
 use Rattle.std.proofs.Common.{◌≡◌, ◌∙◌, ◌≤◌, All, List, ap, subst}
 use Rattle.std.proofs.lemmas.Bool.{OnTrue_at}
 use Rattle.cpg_base.specs.Graph.{Graph}
@@ -7,7 +7,8 @@ use Rattle.cpg_violation.proofs.SpaceLaws.{few_of}
 use Rattle.cpg_row_trees.proofs.TreeLaws.{tree_of_row}
 use Rattle.cpg_check_quick.proofs.spanned_rows.spanned_row_of.Goals as goal
 
--- the columns are those of the item's row, the first and last times bound theirs, and the span is as given
+-- the columns and the tree are the item's, the two times bound those of the columns, the span is the given one, and the
+-- item is said to be always active only if it is running in the whole space
 pub returns : goal.returns
 returns c =
     let g = c.args.admitted.now.graph in

@@ -1,5 +1,5 @@
 -- Proof of `check_activity`: the first violation of V1, by item and column, with the least scenario in the urgency
--- order in which it stands: the column matches, and the item or the process of one of the column's literals isn't
+-- order in which it occurs: the column matches, and the item or the process of one of the column's literals isn't
 -- active.
 use Rattle.std.proofs.Common.{◌≡◌, ap, false, ℕ, arith, refl, ◌<◌, sym}
 use Rattle.cpg_base.specs.Graph.{item_count}
@@ -25,12 +25,12 @@ first_idle-requires-clause-columns c =
     rw c.columns_of-columns.ensures.columns
     (columns_known c.problem.ensures.admitted c.args.tables.now.nodes are c.loop-item.item)
 
--- the row has at most as many columns as a row may have
+-- a row of lawful tables has at most `MOST_LOAD` columns
 pub first_idle-requires-clause-few : goal.first_idle-requires-clause-few
 first_idle-requires-clause-few c = rw c.columns_of-columns.ensures.columns
     (columns_few c.args.tables.now.head c.args.tables.now.nodes c.columns_of-columns.ensures.lawful c.loop-item.item)
 
--- no earlier item breaks V1, so the first idle column of this one is the first violation
+-- no earlier item breaks V1, so the first column of this one that does is the first violation
 pub returns-in-Some-clause-first : goal.returns-in-Some-clause-first
 returns-in-Some-clause-first c =
     let g = c.args.admitted.now.graph in
@@ -45,7 +45,7 @@ returns-in-Some-clause-first c =
     (omega (arith, c.loop-item-test.true, c.item_count-item-end.ensures, ap item_count c.problem.ensures.problem))
     c.loop-item.invariant first
 
--- no column of the next item is idle, so none of one item more breaks V1
+-- no column of the next item breaks V1, so none of one item more does
 pub loop-item-preserved : goal.loop-item-preserved
 loop-item-preserved c =
     let g = c.args.admitted.now.graph in

@@ -1,10 +1,10 @@
--- Proof of `least_inactive`: the least scenario that a cube matches and in which an item isn't active, if there is one.
+-- Proof of `least_inactive`: the least scenario that a cube matches and in which an item isn't active.
 use Rattle.cpg_violation.specs.declared.sources.ItemSource.{ItemSource}
 use Rattle.cpg_violation.proofs.GuardLaws.{as_source}
 use Rattle.cpg_check_rows.proofs.ActivityLaws.{inactive_as, inactive_never}
 use Rattle.cpg_check_rows.proofs.activity.least_inactive.Goals as goal
 
--- nothing makes the item active, so it is inactive wherever the cube matches
+-- nothing makes the item active, so the least scenario of the cube is the answer
 pub returns-in-Nothing : goal.returns-in-Nothing
 returns-in-Nothing c =
     let g = c.args.admitted.now.graph in

@@ -1,5 +1,5 @@
--- Proof of `least_unlawful`: the least scenario that a column matches and in which its item, or the process of one of
--- its literals, isn't active; if there is one.
+-- Proof of `least_unlawful`: the least scenario in which a column breaks V1: it matches, and its item, or the process
+-- of one of its literals, isn't active.
 use Rattle.std.proofs.Common.{not}
 use Rattle.std.specs.List.{list_any}
 use Rattle.cpg_base.specs.Activity.{active, item_active}

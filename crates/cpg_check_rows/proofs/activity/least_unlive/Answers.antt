@@ -1,5 +1,5 @@
--- Proof of `least_unlive`: the least scenario that a cube matches and in which an edge isn't live, if there is one: its
--- source isn't active, or has the other value.
+-- Proof of `least_unlive`: the least scenario that a cube matches and in which an edge isn't live: its source isn't
+-- active, or has the other value.
 use Rattle.std.proofs.Common.{◌≡◌, ◌&&◌, ◌∙◌, not, ap, subst}
 use Rattle.cpg_base.specs.Activity.{active, live}
 use Rattle.cpg_base.specs.Graph.{condition_of, edge_at, source}
@@ -25,7 +25,7 @@ returns-in_default c =
     let idle =
     subst (λ p. IsFirst g order (λ s. matches c.args.cube.now s && not (active g s.values p)) c.in_ok-idle.idle) is
     c.in_ok-idle.ensures in
-    -- the edge asks for no value that the source may lack
+    -- the source always has the value that the edge asks for, as it asks for none
     let none = rw (c.in_default.is, c.problem-problem.ensures.problem) at c.other_value.ensures.none in
     unlive_idle g order c.args.cube.now (λ s. active g s.values (source g e))
     (λ s. is_passed (test_of (condition_of g (source g e)) (edge_at g e).when) s.values)

@@ -1,5 +1,5 @@
 -- Proof of `least_unrun`: the least scenario that a cube matches and in which the process of one of its literals isn't
--- active, if there is one.
+-- active.
 use Rattle.std.proofs.Common.{◌≡◌, ◌<◌, ◌≤◌, not, ap, arith, length}
 use Rattle.std.proofs.lemmas.List.{take_all}
 use Rattle.cpg_base.specs.Activity.{active}
@@ -14,7 +14,7 @@ pub earlier-found-requires-clause-order : goal.earlier-found-requires-clause-ord
 earlier-found-requires-clause-order c =
     rw (c.order-order.ensures.order, c.problem-problem.ensures.problem) (long_order c.order-order.ensures.admitted)
 
--- the earlier of the answer so far and the next literal's is the first of one literal more
+-- the earlier of the answer so far and the next literal's is the least for one literal more
 pub loop-literal-preserved : goal.loop-literal-preserved
 loop-literal-preserved c =
     let g = c.args.admitted.now.graph in
@@ -22,6 +22,7 @@ loop-literal-preserved c =
     let literals : c.literals-literal-items.result.now ≡ cube = c.literals-literal-items.ensures.literals in
     let within : c.loop-literal.literal-index < length cube =
     omega (arith, c.loop-literal-test.true, ap length literals) in
+    -- the answer for the next literal, said of the graph
     let process = c.process_of_variable-process.ensures.process in
     let next = rw (process, c.problem-problem.ensures.problem, literals) at c.in_ok-next.ensures in
     rw (c.earlier-found.ensures, c.problem-problem.ensures.problem, c.order-order.ensures.order)

@@ -1,5 +1,5 @@
 -- Loops of `least_unrun`: the least scenario that a cube matches and in which the process of one of its literals isn't
--- active, if there is one.
+-- active.
 use Rattle.std.proofs.Common.{◌&&◌, take, not}
 use Rattle.std.specs.List.{list_any}
 use Rattle.cpg_base.specs.Activity.{active}
@@ -8,8 +8,8 @@ use Rattle.cpg_base.specs.First.{IsFirst}
 use Rattle.cpg_cube.specs.Cube.{matches}
 use Rattle.cpg_check_rows.proofs.activity.least_unrun.Given as goal
 
--- after each literal, `found` is the first scenario of the cube in which the process of one of the literals so far
--- doesn't run (none if there is none)
+-- after each literal, `found` is the least scenario that the cube matches and in which the process of one of the
+-- literals so far isn't active, and `None` if there is none
 abbrev pub invariant-loop-literal : goal.invariant-loop-literal
 invariant-loop-literal l = IsFirst l.admitted.graph l.admitted.order
     (λ s. matches l.cube s

@@ -1,4 +1,4 @@
--- Proof of `least_with`: the least scenario that a cube matches and in which a literal holds, if there is one.
+-- Proof of `least_with`: the least scenario that a cube matches and in which a literal holds.
 use Rattle.std.proofs.Common.{rules, ◌≡◌, Some, subst}
 use Rattle.cpg_cube.specs.Fit.{IsKnown}
 use Rattle.cpg_cube.specs.Narrow.{with_literal}
@@ -7,7 +7,7 @@ use Rattle.cpg_cube.proofs.Narrow.{known-narrowed}
 use Rattle.cpg_check_rows.proofs.ActivityLaws.{with_part}
 use Rattle.cpg_check_rows.proofs.activity.least_with.Goals as goal
 
--- the cube with the literal is known to the graph
+-- the cube stays on variables of the graph when the literal narrows it
 pub least-requires : goal.least-requires
 least-requires c =
     let g = c.args.problem.now in
@@ -17,7 +17,7 @@ least-requires c =
           (known-narrowed g c.args.literal c.args.cube.now c.requires.literal c.requires.cube);
     }
 
--- the part of the cube in which the literal holds has this least scenario
+-- the part matches exactly where the cube does and the literal holds, so its least scenario is the answer
 pub returns : goal.returns
 returns c = λ order. with_part c.args.problem.now order c.args.cube.now c.args.literal c.in-Some.part
     c.in_ok-found.found (rw c.in-Some.is at c.in_ok-part.ensures.both)

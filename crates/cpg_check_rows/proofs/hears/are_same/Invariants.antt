@@ -1,4 +1,4 @@
--- Loops of `are_same`: whether two lists of literals are the same.
+-- Loops of `are_same`: whether two lists of literals are the same, place by place.
 use Rattle.std.proofs.Common.{◌≡◌, take}
 use Rattle.cpg_check_rows.proofs.hears.are_same.Given as goal
 

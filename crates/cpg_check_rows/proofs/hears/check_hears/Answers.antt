@@ -1,6 +1,6 @@
--- Proof of `check_hears`: the first violation of V10: the least item that some node hears at other columns than the
--- sender's, each later by the sender's slot, with the first column that differs at the least such node, in the scenario
--- without faults in which every value is false.
+-- Proof of `check_hears`: the first violation of V10: the least item that some node hears by other columns than the
+-- sender's, each later by the sender's slot, with the first column that differs at the least such node, and the
+-- scenario without faults in which every value is false.
 use Rattle.std.proofs.Common.{◌≡◌, ◌∙◌, ap, ap₂, subst, map, length, List, arith}
 use Rattle.cpg_base.specs.Bus.{slot_length}
 use Rattle.cpg_base.specs.Graph.{home, item_count}
@@ -14,16 +14,16 @@ use Rattle.cpg_table.proofs.RowColumns.{columns_few}
 use Rattle.cpg_check_rows.proofs.HearLaws.{hears_hold, heard_more}
 use Rattle.cpg_check_rows.proofs.hears.check_hears.Goals as goal
 
--- the row has at most as many columns as a row may have
+-- a row of lawful tables has at most `MOST_LOAD` columns
 pub first_hear-requires-clause-few : goal.first_hear-requires-clause-few
 first_hear-requires-clause-few c = rw c.columns_of-sent.ensures.columns
     (columns_few c.args.tables.now.head c.args.tables.now.nodes c.columns_of-sent.ensures.lawful c.loop-item.item)
 
--- all earlier items are heard as they are due, so the difference found here is the first
+-- all earlier items are heard well, so the difference found here is the first
 pub returns-in-Some-clause-first : goal.returns-in-Some-clause-first
 returns-in-Some-clause-first c =
     let g = c.args.admitted.now.graph in
-    -- the columns at which the item is due: the sender's, each later by its slot
+    -- the columns by which the item is to be heard: the sender's, each later by its slot
     let delay : c.slot_length-delay.result ≡ slot_length g (home g c.loop-item.item) =
     c.slot_length-delay.ensures ∙ ap (slot_length c.problem-problem.result.now) c.home.ensures.home
     ∙ ap (λ h. slot_length h (home h c.loop-item.item)) c.problem-problem.ensures.problem in
@@ -51,10 +51,11 @@ returns-in-Some-clause-first c =
       column = first;
     }
 
--- the next item is heard as it is due, too
+-- the next item is heard well, too
 pub loop-item-preserved : goal.loop-item-preserved
 loop-item-preserved c =
     let g = c.args.admitted.now.graph in
+    -- the columns by which it is to be heard, and that no node hears it by others
     let delay : c.slot_length-delay.result ≡ slot_length g (home g c.loop-item.item) =
     c.slot_length-delay.ensures ∙ ap (slot_length c.problem-problem.result.now) c.home.ensures.home
     ∙ ap (λ h. slot_length h (home h c.loop-item.item)) c.problem-problem.ensures.problem in
@@ -65,7 +66,7 @@ loop-item-preserved c =
     let well : IsHeardWell g c.args.tables.now.nodes c.loop-item.item = rw (← due, ← nodes) c.in_default.ensures.same in
     heard_more g c.args.tables.now.nodes c.loop-item.item c.loop-item.invariant well
 
--- all items are heard as they are due, so V10 holds
+-- all items are heard well, so V10 holds
 pub returns-clause-none : goal.returns-clause-none
 returns-clause-none c =
     let g = c.args.admitted.now.graph in

@@ -1,12 +1,13 @@
--- Proof of `first_difference`: the first column that isn't the sender's, later by the delay: the shorter length if all
--- before it are.
+-- Proof of `first_difference`: the first place at which the columns that are heard aren't the sender's, each later by
+-- the delay: if one list begins with the other, the length of the shorter one.
 use Rattle.std.proofs.Common.{rules, ◌≡◌, ◌∙◌, sym, ap, subst, map, min, take, length, arith}
 use Rattle.std.proofs.lemmas.List.{length-map}
 use Rattle.cpg_table.specs.Valid.{later_by}
 use Rattle.cpg_violation.proofs.Differences.{same_more_mapped, ends_differ}
 use Rattle.cpg_check_rows.proofs.hears.first_difference.Goals as goal
 
--- the columns at the next place are the same but for the delay, so one place more is
+-- the column that is heard at the next place is the one that is sent, later by the delay, so both agree at one place
+-- more
 pub loop-place-preserved : goal.loop-place-preserved
 loop-place-preserved c =
     let same : c.index-heard-place.result ≡ later_by c.args.delay c.index-sent-place.result = search rules in
@@ -15,7 +16,7 @@ loop-place-preserved c =
     (omega (arith, c.min-common.ensures))
     (omega (arith, c.min-common.ensures)) c.index-heard-place.is c.index-sent-place.is same c.loop-place.invariant
 
--- all places that both rows have are the same, so the rows differ where the shorter one ends
+-- the rows agree at all places that both have, but not in length, so they differ first where the shorter one ends
 pub returns-clause-differ : goal.returns-clause-differ
 returns-clause-differ c =
     let due = map (later_by c.args.delay) c.args.sent.now in

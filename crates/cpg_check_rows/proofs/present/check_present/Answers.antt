@@ -1,5 +1,5 @@
 -- Proof of `check_present`: the first violation of V3, by item, with the least scenario in the urgency order in which
--- it stands: the item is active and no column of its row matches.
+-- it occurs: the item is active and no column of its row matches.
 use Rattle.std.proofs.Common.{◌≡◌, false, ◌<◌, ap, arith, sym}
 use Rattle.cpg_base.specs.Graph.{item_count}
 use Rattle.cpg_base.specs.Scenario.{Scenario, IsScenario}

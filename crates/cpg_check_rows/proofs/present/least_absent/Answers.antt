@@ -1,4 +1,4 @@
--- Proof of `least_absent`: the least scenario in which an item is active and no column matches, if there is one.
+-- Proof of `least_absent`: the least scenario in which an item is active and none of these columns matches.
 use Rattle.cpg_violation.specs.declared.sources.ItemSource.{ItemSource}
 use Rattle.cpg_violation.proofs.GuardLaws.{as_source}
 use Rattle.cpg_check_rows.proofs.PresentLaws.{absent_as, absent_never}

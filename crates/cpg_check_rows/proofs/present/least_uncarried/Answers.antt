@@ -1,4 +1,4 @@
--- Proof of `least_uncarried`: the least scenario in which an edge is live and no column matches, if there is one.
+-- Proof of `least_uncarried`: the least scenario in which an edge is live and none of these columns matches.
 use Rattle.std.proofs.Common.{◌≡◌, ◌&&◌, ◌∙◌, map, ap, subst}
 use Rattle.cpg_base.specs.Activity.{active, live}
 use Rattle.cpg_base.specs.Graph.{condition_of, edge_at, source}
@@ -11,13 +11,15 @@ use Rattle.cpg_cube.specs.declared.column.Column.{Column}
 use Rattle.cpg_check_rows.proofs.PresentLaws.{absent_from, live_where}
 use Rattle.cpg_check_rows.proofs.present.least_uncarried.Goals as goal
 
--- the edge is live exactly if its source is active and the cube of the value asked for matches
+-- the edge is live exactly where its source is active and the cube of the asked value matches, and `least_without` was
+-- asked for that
 pub returns : goal.returns
 returns c =
     let g = c.args.admitted.now.graph in
     let order = c.args.admitted.now.order in
     let e = c.args.edge in
     let same = c.problem-problem.ensures.problem in
+    -- where the cube matches, and the answer, said of the edge's source
     let passed = subst (λ h. (s : Scenario) → matches c.in_ok-cube.cube s ≡ is_passed
     (test_of (condition_of h (source h e)) (edge_at h e).when) s.values) same c.in_ok-cube.ensures.passed in
     let is : c.source-process.result ≡ source g e = c.source-process.ensures.source ∙ ap (λ h. source h e) same in

@@ -1,12 +1,12 @@
--- Proof of `least_unstarted`: the least scenario in which a process is active and no column matches, if there is one.
+-- Proof of `least_unstarted`: the least scenario in which a process is active and none of these columns matches.
 use Rattle.std.proofs.Common.{[], true, refl}
 use Rattle.cpg_base.specs.Activity.{active}
 use Rattle.cpg_violation.proofs.Tests.{with_true}
 use Rattle.cpg_check_rows.proofs.PresentLaws.{absent_from}
 use Rattle.cpg_check_rows.proofs.present.least_unstarted.Goals as goal
 
--- the whole cube matches every scenario, so the process is active without a column exactly in those that were
--- searched
+-- the whole cube matches every scenario, so those in which the process is active and no column matches are just what
+-- `least_without` was asked for
 pub returns : goal.returns
 returns c =
     let g = c.args.admitted.now.graph in

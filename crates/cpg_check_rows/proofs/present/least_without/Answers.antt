@@ -1,5 +1,5 @@
--- Proof of `least_without`: the least scenario that a cube matches and no column does, and in which a process is
--- active; if there is one.
+-- Proof of `least_without`: the least scenario that a cube matches and none of these columns does, and in which a
+-- process is active.
 use Rattle.std.proofs.Common.{◌≡◌, ◌&&◌, ◌∙◌, true, sym, ap, subst, map, List, All, Bor}
 use Rattle.cpg_base.specs.First.{IsFirst}
 use Rattle.cpg_cube.specs.declared.literal.Literal.{Literal}
@@ -24,7 +24,8 @@ least_at-requires-clause-list c =
     (all_mapped (IsKnown g) (λ (c : Column). c.cube) c.args.columns.now c.requires.columns) in
     rw (c.as_slice.ensures.value) (all_unmapped (IsKnown g) seen c.in_ok-by.by.items cubes)
 
--- what the columns leave of the cube, where the guard comes to an activation, is what was searched
+-- the process is active exactly where its guard says so, and `least_at` was asked for that in what the columns leave of
+-- the cube
 pub returns : goal.returns
 returns c =
     let g = c.args.admitted.now.graph in

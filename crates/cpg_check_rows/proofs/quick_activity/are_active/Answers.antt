@@ -1,4 +1,4 @@
--- Proof of `are_active`: whether the processes of these literals are active in each scenario of a space.
+-- Proof of `are_active`: whether the processes of these literals are all active in each scenario of a space.
 use Rattle.std.proofs.Common.{◌≡◌, ◌||◌, ◌∙◌, true, not, get_or, ap₂}
 use Rattle.std.proofs.lemmas.Bool.{OnTrue_at}
 use Rattle.std.proofs.lemmas.List.{take_all}
@@ -22,7 +22,7 @@ loop-literal-preserved c s law lies =
     (record { variable = 0; low = 0; high = 0 }) c.loop-literal-test.true
     ∙ ap₂ (λ a b. a || not b) (c.loop-literal.invariant s law lies) here
 
--- each literal's process is active, since none was found that isn't
+-- the loop has gone over all literals
 pub returns : goal.returns
 returns c s law lies = rw (take_all c.loop-literal.literal-index c.args.literals.now c.loop-literal-test.false) at
     (c.loop-literal.invariant s law lies)

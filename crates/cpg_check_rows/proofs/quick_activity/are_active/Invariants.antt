@@ -1,4 +1,4 @@
--- Loops of `are_active`: whether the processes of these literals are active in each scenario of a space.
+-- Loops of `are_active`: whether the processes of these literals are all active in each scenario of a space.
 use Rattle.std.proofs.Common.{◌≡◌, false, not, take}
 use Rattle.std.specs.List.{list_any}
 use Rattle.cpg_base.specs.Activity.{active}

@@ -1,5 +1,5 @@
--- Proof of `are_lawful`: whether an item and the processes of the literals of each of these columns are active wherever
--- the column matches.
+-- Proof of `are_lawful`: whether for each of these columns an item and the processes of the column's literals are all
+-- active wherever the column matches.
 use Rattle.std.proofs.Common.{ℕ, ◌≡◌, true, false}
 use Rattle.std.proofs.lemmas.Bool.{OnTrue_at}
 use Rattle.cpg_base.specs.Graph.{Graph}
@@ -10,18 +10,18 @@ use Rattle.cpg_table.specs.Valid.{breaks_activity}
 use Rattle.cpg_violation.proofs.SureLaws.{each_all, each_more}
 use Rattle.cpg_check_rows.proofs.quick_activity.are_lawful.Goals as goal
 
--- all is active wherever the column matches
+-- column `d` of item `x` breaks V1 in no scenario that it matches
 abbrev IsLawful : Graph → ℕ → Column → Type 0
 IsLawful g x d = (s : Scenario) → IsScenario g s → matches d.cube s ≡ true → breaks_activity g s x d ≡ false
 
--- one column more is lawful, since the check of it passed
+-- the next column is lawful, too
 pub loop-column-preserved : goal.loop-column-preserved
 loop-column-preserved c = each_more (IsLawful c.args.admitted.now.graph c.args.item) c.args.columns.now
     c.loop-column.column-index c.column-item.result c.loop-column-test.true c.column-item.is
     c.loop-column.invariant
     (OnTrue_at c.if-not-is_lawful.false c.is_lawful.ensures)
 
--- so all columns are
+-- the loop has gone over all columns
 pub returns : goal.returns
 returns c = each_all (IsLawful c.args.admitted.now.graph c.args.item) c.args.columns.now c.loop-column.column-index
     c.loop-column-test.false c.loop-column.invariant

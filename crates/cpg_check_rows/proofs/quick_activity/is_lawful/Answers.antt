@@ -1,4 +1,4 @@
--- Proof of `is_lawful`: whether an item and the processes of a column's literals are active wherever the column
+-- Proof of `is_lawful`: whether an item and the processes of a column's literals are all active wherever the column
 -- matches.
 use Rattle.std.proofs.Common.{◌≡◌, ◌∙◌, false, not, ap, sym, subst, true≢false}
 use Rattle.std.specs.List.{list_any}
@@ -12,7 +12,7 @@ use Rattle.cpg_tree.proofs.Passes.{of_true}
 use Rattle.cpg_check_rows.proofs.LawfulRows.{both_active}
 use Rattle.cpg_check_rows.proofs.quick_activity.is_lawful.Goals as goal
 
--- no scenario of the space has the column's values, so the column never matches
+-- no scenario matches the literals on values, so none matches the column
 pub returns-then-not-narrow_to : goal.returns-then-not-narrow_to
 returns-then-not-narrow_to c s law m =
     let none = from_false c.narrow_to.result c.if-not-narrow_to.true c.narrow_to.ensures.none in

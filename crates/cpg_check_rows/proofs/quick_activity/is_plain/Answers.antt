@@ -1,4 +1,4 @@
--- Proof of `is_plain`: whether all processes are always active, and an item is too.
+-- Proof of `is_plain`: whether all processes, and an item as well, are known to be active in every scenario.
 use Rattle.std.proofs.lemmas.Bool.{OnTrue_at, OnTrue_from}
 use Rattle.cpg_tree.proofs.Passes.{of_true}
 use Rattle.cpg_violation.specs.Always.{AllAlways}

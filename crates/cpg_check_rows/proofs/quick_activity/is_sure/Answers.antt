@@ -1,4 +1,4 @@
--- Proof of `is_sure`: whether a row keeps the rule.
+-- Proof of `is_sure`: whether V1 is known to hold at an item.
 use Rattle.std.proofs.Common.{◌≡◌, All, true, false, subst}
 use Rattle.std.proofs.lemmas.Bool.{OnTrue_at}
 use Rattle.cpg_base.specs.Scenario.{Scenario, IsScenario}

@@ -1,4 +1,4 @@
--- Proof of `is_sure`: whether an item is active in no scenario in which its row has no column that matches.
+-- Proof of `is_sure`: whether V3 is known to hold at an item, by the tree of its row.
 use Rattle.std.proofs.Common.{◌≡◌, ◌∙◌, ap}
 use Rattle.cpg_base.specs.Graph.{Graph}
 use Rattle.cpg_tree.proofs.Forks.{from_true}
@@ -7,7 +7,7 @@ use Rattle.cpg_check_rows.proofs.TreeRows.{present_sure, tree_at}
 use Rattle.cpg_violation.proofs.SpaceLaws.{few_of}
 use Rattle.cpg_check_rows.proofs.quick_present.is_sure.Goals as goal
 
--- the tree has a place everywhere, so the item is present in each scenario and keeps V3
+-- the tree leads each scenario to a place, whose column matches there, so the item keeps V3
 pub returns-then-are_everywhere : goal.returns-then-are_everywhere
 returns-then-are_everywhere c tables are =
     let g = c.args.admitted.now.graph in
@@ -17,7 +17,7 @@ returns-then-are_everywhere c tables are =
     c.in-Some-Some.field-0-is are)
     (λ s law none. absurd (there s none))
 
--- wherever the tree has no place, the item is inactive, so the item keeps V3
+-- the item is inactive in each scenario that the tree leads to no place, so it keeps V3
 pub returns : goal.returns
 returns c =
     let g = c.args.admitted.now.graph in

@@ -1,4 +1,4 @@
--- Proof of `met_at`: the least scenario that a cube matches together with the column at a place, if there is one.
+-- Proof of `met_at`: the least scenario that a cube matches together with the column at a place.
 use Rattle.std.proofs.Common.{◌≡◌, ◌&&◌, ◌∙◌, Some, ap, sym}
 use Rattle.std.specs.Prelude.{slice_get}
 use Rattle.std.proofs.lemmas.Option.{slice_get-get_or}
@@ -8,7 +8,7 @@ use Rattle.cpg_violation.specs.Sieves.{is_at}
 use Rattle.cpg_violation.proofs.SieveLaws.{at_found}
 use Rattle.cpg_check_rows.proofs.single.met_at.Goals as goal
 
--- the column was found at the place, so meeting it is meeting the one at the place
+-- the column that was looked up is the one at the place
 pub returns-clause-first : goal.returns-clause-first
 returns-clause-first c = λ order.
     let found : slice_get c.args.columns.now c.args.place ≡ Some c.in-Some.column.now =

@@ -1,5 +1,4 @@
--- Proof of `shared`: the least scenario that a cube matches together with a column at one of some places, if there is
--- one.
+-- Proof of `shared`: the least scenario that a cube matches together with a column at one of some places.
 use Rattle.std.proofs.Common.{get_or, ◌&&◌}
 use Rattle.cpg_cube.specs.Cube.{matches}
 use Rattle.cpg_violation.specs.Sieves.{is_at}
@@ -13,7 +12,7 @@ earlier-found-requires-clause-second c = lawful_if_some c.args.problem.now c.arg
     (λ s. matches c.args.cube.now s && is_at c.args.columns.now s (get_or c.args.places.now c.loop-place.place-index 0))
     c.in_ok-next.next (c.in_ok-next.ensures.first c.args.order.now)
 
--- the earlier of the answer so far and the next place's is the first of one place more
+-- the earlier of the answer so far and the next place's is the least for one place more
 pub loop-place-preserved : goal.loop-place-preserved
 loop-place-preserved c = record {
   first = rw c.earlier-found.ensures (first_any_more c.args.problem.now c.args.order.now (matches c.args.cube.now)

@@ -1,5 +1,4 @@
--- Loops of `shared`: the least scenario that a cube matches together with a column at one of some places, if there is
--- one.
+-- Loops of `shared`: the least scenario that a cube matches together with a column at one of some places.
 use Rattle.std.proofs.Common.{◌&&◌, take}
 use Rattle.std.specs.List.{list_any}
 use Rattle.cpg_base.specs.First.{IsFirst}
@@ -8,8 +7,8 @@ use Rattle.cpg_violation.specs.Room.{HasRoom}
 use Rattle.cpg_violation.specs.Sieves.{is_at}
 use Rattle.cpg_check_rows.proofs.single.shared.Given as goal
 
--- After each place: `found` is the first scenario of the cube in which a column at one of the places so far matches
--- (none if there is none), and the room to work in is large enough for the problem.
+-- After each place. `first`: `found` is the least scenario that the cube matches together with a column at one of the
+-- places so far, and `None` if there is none. `room`: a scenario of the graph can still be written into `room`.
 abbrev pub invariant-loop-place : goal.invariant-loop-place
 invariant-loop-place l = record {
   first : IsFirst l.problem l.order

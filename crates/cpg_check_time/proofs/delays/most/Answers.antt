@@ -1,4 +1,4 @@
--- Proof of `most`: how long a delay takes at most.
+-- Proof of `most`: how long a delay is at most, in any scenario.
 use Rattle.std.proofs.Common.{◌≡◌, ◌+◌, ◌≤◌, sym, subst}
 use Rattle.cpg_base.specs.Duration.{duration}
 use Rattle.cpg_check_time.specs.Delays.{IsDelay, done_at}
@@ -9,6 +9,7 @@ use Rattle.cpg_check_time.proofs.delays.most.Goals as goal
 pub returns-in-Execution-clause-most : goal.returns-in-Execution-clause-most
 returns-in-Execution-clause-most c = λ s time i.
     let g = c.args.problem.now in
+    -- the result is how long an execution lasts with all faults of the graph
     let longest : c.duration.result ≡ duration g c.in-Execution.process g.faults =
     rw c.faults.ensures.faults at c.duration.ensures.duration in
     subst (λ d. done_at g s d time ≤ time + c.duration.result) (sym c.in-Execution.is)

@@ -1,4 +1,5 @@
--- Proof of `frozen_time`: the time of a frozen item's first column that matches in any scenario, if there is one.
+-- Proof of `frozen_time`: the time that an item has to have if it is frozen: that of its first column that matches in
+-- some scenario.
 use Rattle.cpg_violation.proofs.HeadLaws.{tables_of_graph}
 use Rattle.cpg_check_time.proofs.Judging.{columns_are}
 use Rattle.cpg_check_time.proofs.frozen.frozen_time.Goals as goal

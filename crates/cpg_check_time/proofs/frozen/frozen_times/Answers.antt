@@ -1,4 +1,4 @@
--- Proof of `frozen_times`: the times of frozen items.
+-- Proof of `frozen_times`: what `frozen_time` says of each item, by number.
 use Rattle.cpg_base.proofs.Lists.{map_below_push}
 use Rattle.cpg_check_time.specs.Frozen.{frozen_time}
 use Rattle.cpg_check_time.proofs.frozen.frozen_times.Goals as goal

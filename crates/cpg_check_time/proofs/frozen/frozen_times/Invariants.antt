@@ -1,4 +1,4 @@
--- Loops of `frozen_times`: the times of frozen items.
+-- Loops of `frozen_times`: what `frozen_time` says of each item, by number.
 use Rattle.std.proofs.Common.{◌≡◌, map}
 use Rattle.cpg_base.specs.Numbers.{numbers_below}
 use Rattle.cpg_check_time.specs.Frozen.{frozen_time}

@@ -1,4 +1,4 @@
--- Proof of `possible_time`: the time of the first column that matches in any scenario, if there is one.
+-- Proof of `possible_time`: the time of the first column that matches in some scenario; `None` exactly if none does.
 use Rattle.cpg_check_time.proofs.FrozenLaws.{time_here, time_later}
 use Rattle.std.proofs.Common.{◌≡◌, true, false, sym}
 use Rattle.cpg_cube.specs.Fit.{is_met}

@@ -1,4 +1,4 @@
--- Loops of `possible_time`: the time of the first column that matches in any scenario, if there is one.
+-- Loops of `possible_time`: the time of the first column that matches in some scenario; `None` exactly if none does.
 use Rattle.std.proofs.Common.{◌≡◌, drop}
 use Rattle.cpg_check_time.specs.Frozen.{possible_time}
 use Rattle.cpg_check_time.proofs.frozen.possible_time.Given as goal

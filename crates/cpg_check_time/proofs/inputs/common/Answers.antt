@@ -1,4 +1,5 @@
--- Proof of `common`: the scenarios that two cubes match; `None` exactly if there are none.
+-- Proof of `common`: the cube that matches where two cubes both do; `None` exactly if their ranges of some variable
+-- have no number in common.
 use Rattle.std.proofs.Common.{◌≡◌, ◌&&◌, ◌∙◌, false, sym, subst}
 use Rattle.cpg_base.specs.Scenario.{Scenario}
 use Rattle.cpg_cube.specs.Cube.{matches}

@@ -1,5 +1,5 @@
--- Proof of `least_lacking`: the least scenario in which a column matches and an input is live and not there by its
--- time, if there is one.
+-- Proof of `least_lacking`: the least scenario in which a column matches, and an input is live and isn't there by its
+-- time.
 use Rattle.std.proofs.Common.{◌≡◌, ◌&&◌, ◌∙◌, true, false, sym, ap}
 use Rattle.cpg_base.specs.Graph.{is_message}
 use Rattle.cpg_base.specs.Scenario.{Scenario}
@@ -13,6 +13,7 @@ pub returns-then-is_message : goal.returns-then-is_message
 returns-then-is_message c =
     let on : is_message c.args.admitted.now.graph c.args.edge ≡ true =
     rw (← c.problem-problem.ensures.problem) (sym c.if-is_message.ensures) in
+    -- the answer of the search, said of the graph and its message
     let found = rw (
       c.slot_length.ensures,
       c.home.ensures.home,
@@ -28,11 +29,13 @@ returns c =
     let g = c.args.admitted.now.graph in
     let off : is_message g c.args.edge ≡ false =
     rw (← c.problem-problem.ensures.problem) (sym c.if-is_message.ensures) in
+    -- the part matches where the column does and the source has the value
     let both : (s : Scenario) →
     matches c.in-Some.part s ≡ (matches c.args.column.now.cube s && matches c.in_ok-asked.asked s) =
     rw c.in-Some.is at c.in_ok-part.ensures.both in
     let asked : (s : Scenario) → matches c.in_ok-asked.asked s ≡ is_asked g c.args.edge s =
     rw (← c.problem-problem.ensures.problem) c.in_ok-asked.ensures.passed in
+    -- the answer of the search for columns of the source that are late for the part
     let found = rw (c.source-process.ensures.source, c.problem-problem.ensures.problem) at c.in_ok-found-2.ensures in
     lacks_source g c.args.admitted.now.order c.args.tables.now.nodes c.args.column.now c.args.edge c.in_ok-found-2.found
     off c.in-Some.part

@@ -1,5 +1,5 @@
--- Proof of `least_of_lacking`: the least scenario in which a column matches and one of several inputs is live and not
--- there by its time, if there is one.
+-- Proof of `least_of_lacking`: the least scenario in which a column matches, and one of several inputs is live and
+-- isn't there by its time.
 use Rattle.std.proofs.Common.{subst}
 use Rattle.std.specs.List.{list_any}
 use Rattle.std.proofs.lemmas.List.{take_all}

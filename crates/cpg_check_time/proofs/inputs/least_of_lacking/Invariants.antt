@@ -1,13 +1,13 @@
--- Loops of `least_of_lacking`: the least scenario in which a column matches and one of several inputs is live and not
--- there by its time, if there is one.
+-- Loops of `least_of_lacking`: the least scenario in which a column matches, and one of several inputs is live and
+-- isn't there by its time.
 use Rattle.std.proofs.Common.{take}
 use Rattle.std.specs.List.{list_any}
 use Rattle.cpg_base.specs.First.{IsFirst}
 use Rattle.cpg_check_time.specs.Inputs.{lacks_input}
 use Rattle.cpg_check_time.proofs.inputs.least_of_lacking.Given as goal
 
--- after each edge, `found` is the first scenario in which the column lacks one of the edges so far (none if there is
--- none)
+-- after each edge, `found` is the least scenario in which the column lacks one of the inputs so far, and `None` if
+-- there is none
 abbrev pub invariant-loop-edge : goal.invariant-loop-edge
 invariant-loop-edge l = IsFirst l.admitted.graph l.admitted.order
     (λ s. list_any (λ e. lacks_input l.admitted.graph l.tables.nodes l.column e s) (take l.edge-index l.edges)) l.found

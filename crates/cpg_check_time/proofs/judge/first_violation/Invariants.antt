@@ -1,5 +1,5 @@
--- Loops of `first_violation`: the first violation of the rule, by item and column, with the least scenario in the
--- urgency order in which it stands.
+-- Loops of `first_violation`: the first violation of a rule, by item and column, with the least scenario in the urgency
+-- order in which it occurs.
 use Rattle.std.proofs.Common.{ℕ, ◌≡◌, ◌<◌, Option, false}
 use Rattle.cpg_base.specs.Scenario.{Scenario, IsScenario}
 use Rattle.cpg_table.specs.Valid.{breaks}

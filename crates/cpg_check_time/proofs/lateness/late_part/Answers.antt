@@ -1,5 +1,4 @@
--- Proof of `late_part`: the scenarios of a cube in which an execution that starts at a time ends after another; `None`
--- if there are none.
+-- Proof of `late_part`: the part of a cube in whose scenarios an execution that starts at `start` ends after `time`.
 use Rattle.std.proofs.Common.{arith}
 use Rattle.cpg_check_time.proofs.Counts.{part_known}
 use Rattle.cpg_check_time.proofs.lateness.late_part.Goals as goal

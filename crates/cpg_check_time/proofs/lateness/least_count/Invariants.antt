@@ -1,5 +1,4 @@
--- Loops of `least_count`: the least count of faults with which an execution that starts at a time ends after another;
--- `None` if even the greatest is too few.
+-- Loops of `least_count`: the least count of faults with which an execution that starts at `start` ends after `time`.
 use Rattle.std.proofs.Common.{ℕ, ◌+◌, ◌<◌, ◌≤◌}
 use Rattle.cpg_base.specs.Duration.{duration}
 use Rattle.cpg_check_time.proofs.lateness.least_count.Given as goal

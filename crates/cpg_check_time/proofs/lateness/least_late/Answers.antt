@@ -1,5 +1,5 @@
 -- Proof of `least_late`: the least scenario that a cube and a column match, and in which the execution that the column
--- starts ends after a time; if there is one.
+-- starts ends after `time`.
 use Rattle.std.proofs.Common.{◌≡◌, ◌&&◌, [], ap}
 use Rattle.cpg_base.specs.Scenario.{Scenario, IsScenario}
 use Rattle.cpg_base.proofs.First.{first_same}
@@ -7,19 +7,19 @@ use Rattle.cpg_cube.specs.Cube.{matches}
 use Rattle.cpg_check_time.specs.Lateness.{ends_after}
 use Rattle.cpg_check_time.proofs.lateness.least_late.Goals as goal
 
--- the scenario that was written into is lawful, also if memory runs out
+-- `room` is the least scenario that both match, which is one of the graph, also if memory runs out
 pub returns-in_err-part-clause-room : goal.returns-in_err-part-clause-room
 returns-in_err-part-clause-room c =
     let lawful : IsScenario c.args.problem.now c.meets.new.least = (c.if-not-meets.ensures.least []).lawful in
     record { values = lawful.values; faults = lawful.faults }
 
--- so it is if no count is late
+-- so it is if the execution always ends in time
 pub returns-in_default-clause-room : goal.returns-in_default-clause-room
 returns-in_default-clause-room c =
     let lawful : IsScenario c.args.problem.now c.meets.new.least = (c.if-not-meets.ensures.least []).lawful in
     record { values = lawful.values; faults = lawful.faults }
 
--- so it is when the two cubes are met in it
+-- so it may be written into again
 pub met-requires-clause-room : goal.met-requires-clause-room
 met-requires-clause-room c =
     let lawful : IsScenario c.args.problem.now c.meets.new.least = (c.if-not-meets.ensures.least []).lawful in

@@ -1,5 +1,5 @@
--- Proof of `least_of_lower`: the least scenario in which a column of an item clashes with one of an item with a lower
--- number, if there is one.
+-- Proof of `least_of_lower`: the least scenario in which a column of an item clashes with some column of an item with a
+-- lower number.
 use Rattle.std.proofs.Common.{◌≡◌, arith, subst}
 use Rattle.std.specs.List.{list_any}
 use Rattle.cpg_base.specs.Numbers.{numbers_below}

@@ -1,4 +1,4 @@
--- Proof of `least_of`: the least scenario in which one of several columns is as asked, if there is one.
+-- Proof of `least_of`: the least scenario in which one of several columns is as asked.
 use Rattle.std.proofs.Common.{map, subst, Bor}
 use Rattle.std.specs.List.{list_any}
 use Rattle.std.proofs.lemmas.List.{take_all}
@@ -18,7 +18,7 @@ earlier-found-requires-clause-second g c = lawful_if_some c.args.problem.now c.a
     (g.Q.Question.asks c.args.question.now c.args.problem.now c.beside-item.result.now) c.in_ok-next.next
     (c.in_ok-next.ensures.first c.args.order.now)
 
--- the earlier of the answer so far and the next column's is the first of one column more
+-- the earlier of the answer so far and the next column's is the least for one column more
 pub loop-beside-preserved : goal.loop-beside-preserved
 loop-beside-preserved g c =
     let first : IsFirst c.args.problem.now c.args.order.now

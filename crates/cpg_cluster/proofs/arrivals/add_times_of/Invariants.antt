@@ -1,4 +1,5 @@
--- Loops of `add_times_of`: adds the arrival times of the rows of a sender.
+-- Loops of `add_times_of`, which adds the arrival times in the hear rows of sender `other`, row by row; `senders`
+-- has the sender of each row.
 use Rattle.std.proofs.Common.{◌≡◌, ◌++◌, drop}
 use Rattle.cpg_cluster.specs.Keeping.{arrival_times}
 use Rattle.cpg_cluster.proofs.arrivals.add_times_of.Given as goal

@@ -1,4 +1,4 @@
--- Proof of `arrivals_from`: when frames arrive from a sender, in order.
+-- Proof of `arrivals_from`, which returns the arrival times in the hear rows of sender `other`, by time.
 use Rattle.std.proofs.lemmas.List.Sorted.{IsNonDecreasingBy-from_sort}
 use Rattle.cpg_cluster.proofs.arrivals.arrivals_from.Goals as goal
 

@@ -1,4 +1,5 @@
--- Proof of `first_after`: the place of the first time that is later than this.
+-- Proof of `first_after`, which returns the place of the first time that is later than `time`, or their number if
+-- there is none.
 use Rattle.std.proofs.Common.{◌≡◌, true, false, rules, arith}
 use Rattle.std.specs.Prelude.{nat_le}
 use Rattle.std.specs.List.Sorted.{IsPartitionPoint}
@@ -6,7 +7,8 @@ use Rattle.std.proofs.lemmas.Bool.{leb-true, leb-false}
 use Rattle.std.proofs.lemmas.List.Sorted.{IsPartitionPoint-from_clause, IsPartitionedBy-leb}
 use Rattle.cpg_cluster.proofs.arrivals.first_after.Goals as goal
 
--- the place parts the times up to this one from the later ones
+-- The times before the place are no later than the time, and those from it on are later. They don't fall, so a place
+-- with this property is found.
 point : (c : goal.After-partition_point) →
     IsPartitionPoint (λ y. nat_le y c.args.time ≡ true)
     (λ y. nat_le y c.args.time ≡ false) c.args.times.now c.partition_point.result

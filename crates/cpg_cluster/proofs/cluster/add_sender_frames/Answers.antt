@@ -1,4 +1,5 @@
--- Proof of `add_sender_frames`: adds the frames of a sender's acts of an item, if there is such a sender.
+-- Proof of `add_sender_frames`, which adds the frame of an item, with this value, if there is such a sender and its
+-- frame arrives at the time.
 use Rattle.std.proofs.Common.{◌++◌, arith, sym, ap, ◌∙◌, [], append-nil, length, List, Option, subst}
 use Rattle.std.specs.Option.{option_map_or}
 use Rattle.std.proofs.lemmas.List.{length-append}
@@ -37,7 +38,7 @@ returns-then-sender-members-clause-frames c =
     c.if-sender-members.true c.index-members-sender.is has
     c.as_slice-noted.ensures.value)
 
--- a sender that there is not has no frames
+-- if there is no such sender, it has no frames
 pub returns-else-sender-members-clause-frames : goal.returns-else-sender-members-clause-frames
 returns-else-sender-members-clause-frames c =
     sym (ap (λ (o : Option Member). c.args.frames.now.items

@@ -1,4 +1,5 @@
--- Loops of `gather_frames`: gathers the frames that arrive at the time, row by row.
+-- Loops of `gather_frames`, which replaces `frames` with those that arrive at the time, hear row by hear row;
+-- `senders` has the sender of each row.
 use Rattle.std.proofs.Common.{◌≡◌, ◌++◌, drop}
 use Rattle.std.specs.Vec.{vec_capacity}
 use Rattle.cpg_cluster.specs.Keeping.{frames_by}

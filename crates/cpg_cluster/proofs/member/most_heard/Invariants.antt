@@ -1,4 +1,4 @@
--- Loops of `most_heard`: the greatest number of hear rows of any node.
+-- Loops of `most_heard`, which returns the greatest number of hear rows that a node has, or 0 if there are no nodes.
 use Rattle.std.proofs.Common.{◌≤◌, ◌<◌, ℕ, length, get_or}
 use Rattle.cpg_cluster.specs.declared.member.Member.{Member}
 use Rattle.cpg_cluster.proofs.member.most_heard.Given as goal

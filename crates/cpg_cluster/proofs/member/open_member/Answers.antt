@@ -1,11 +1,13 @@
--- Proof of `open_member`: a node before its first turn, with all the room that it needs for a play.
+-- Proof of `open_member`, which returns node `number` before its first turn, with all the room that it needs for a
+-- play.
 use Rattle.std.proofs.Common.{ℕ, List, length, subst, ◌∙◌, ap, map, rules}
 use Rattle.cpg_base.specs.Graph.{home}
 use Rattle.cpg_table.specs.Table.{Row}
 use Rattle.cpg_cluster.specs.Keeping.{AreIndexed}
 use Rattle.cpg_cluster.proofs.member.open_member.Goals as goal
 
--- the member has the table, nothing done, and room for all that its node does in a play
+-- The senders and arrivals are those of the table's hear rows. Nothing is done yet, and the room that was reserved is
+-- that for the table's rows.
 pub returns : goal.returns
 returns c = record {
   node = search rules;

@@ -1,4 +1,4 @@
--- Proof of `open_members`: the nodes of tables before their first turns.
+-- Proof of `open_members`, which returns the nodes of the tables, by number, before their first turns.
 use Rattle.std.proofs.Common.{subst, sym, ap, ◌∙◌, arith, inl, inr, length}
 use Rattle.std.proofs.lemmas.List.{length-drop}
 use Rattle.cpg_head.specs.Head.{Head}
@@ -7,7 +7,7 @@ use Rattle.cpg_cluster.specs.Keeping.{AreOpen}
 use Rattle.cpg_cluster.proofs.Opening.{open_next}
 use Rattle.cpg_cluster.proofs.member.open_members.Goals as goal
 
--- the member of the next table is open too
+-- One more member is open: the one that was opened with the next table.
 pub loop-number-preserved : goal.loop-number-preserved
 loop-number-preserved c =
     let l = c.loop-number.number-iterator in
@@ -26,7 +26,7 @@ loop-number-preserved c =
       end = range.0 ∙ invariant.end;
     }
 
--- after the loop every table has its member
+-- After the loop all numbers or all tables are used up. There are as many of both, so every table has its member.
 pub returns-clause-members : goal.returns-clause-members
 returns-clause-members c =
     let nodes = c.args.tables.nodes in

@@ -1,5 +1,5 @@
--- Proof of `take_turn`: a node takes the reports of the executions that are over by its next instant, and then its turn
--- with these frames.
+-- Proof of `take_turn`: a member takes the reports of the executions that are over by its next instant `time`, and
+-- then its turn with these frames.
 use Rattle.std.proofs.Common.{◌≡◌, ◌++◌, [], arith, sym, ap, ap₂, Option, ◌∙◌, length, ◌≤◌, List, fold, subst}
 use Rattle.cpg_table.specs.Table.{NodeTable}
 use Rattle.cpg_node.specs.Dispatcher.{Own, Running, Act, next, turn, acts_of_turn}
@@ -10,7 +10,7 @@ use Rattle.cpg_cluster.specs.Keeping.{note}
 use Rattle.cpg_cluster.proofs.Asking.{at_some, tail_is}
 use Rattle.cpg_cluster.proofs.member.take_turn.Goals as goal
 
--- the dispatcher before the turn
+-- The dispatcher before the turn has taken the reports: those that were added behind the earlier ones are just these.
 ready-1 : (c : goal.After-acts) →
     c.finish_all.new.node.dispatcher
     ≡ ready c.args.problem.now c.args.scenario.now c.args.lengths.now c.args.time c.args.member.now.node.dispatcher
@@ -24,7 +24,7 @@ ready-1 c =
     (c.own-own.ensures.own ∙ ap (λ (t : NodeTable). t.own) c.table.ensures) c.executions-running.ensures.executions))
     (omega arith))
 
--- the acts of the node are those of its turn
+-- the acts of the node are those of its turn, which is at its next instant
 done-1 : (c : goal.After-acts) →
     c.acts.result.now ≡ acts_of_turn (ready c.args.problem.now c.args.scenario.now c.args.lengths.now c.args.time
     c.args.member.now.node.dispatcher) c.args.time []
@@ -34,13 +34,13 @@ done-1 c = c.acts.ensures ∙ at_some (next c.finish_all.new.node.dispatcher) c.
     (ap next (ready-1 c) ∙ c.requires.next) c.turn.ensures.acts
     ∙ ap (λ d. acts_of_turn d c.args.time [] c.args.frames.now) (ready-1 c)
 
--- there is room for the acts of the turn
+-- there is room for the acts of the turn, as the caller requires
 pub append_acts-requires : goal.append_acts-requires
 append_acts-requires c =
     subst (λ (as' : List Act). length (c.args.member.now.acts.items ++ as') ≤ vec_capacity c.args.member.now.acts)
     (sym (done-1 c)) c.requires.acts_fit
 
--- the node before its turn is the one after the reports
+-- the same as `ready-1`, seen from after the acts are noted
 ready-2 : (c : goal.After-note_acts) →
     c.finish_all.new.node.dispatcher
     ≡ ready c.args.problem.now c.args.scenario.now c.args.lengths.now c.args.time c.args.member.now.node.dispatcher

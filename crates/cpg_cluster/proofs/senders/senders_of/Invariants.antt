@@ -1,4 +1,4 @@
--- Loops of `senders_of`: the sender of each row.
+-- Loops of `senders_of`, which returns the node that sends the item of each row.
 use Rattle.std.proofs.Common.{◌≡◌, map, take}
 use Rattle.cpg_base.specs.Graph.{home}
 use Rattle.cpg_table.specs.Table.{Row}

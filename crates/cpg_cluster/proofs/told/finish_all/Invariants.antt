@@ -1,4 +1,4 @@
--- Loops of `finish_all`: gives the node the reports of executions that are over, one after another.
+-- Loops of `finish_all`, which gives the node these reports, each at its time, one after another.
 use Rattle.std.proofs.Common.{◌≡◌, drop}
 use Rattle.cpg_cluster.specs.Taking.{AllFinish, all_finished}
 use Rattle.cpg_cluster.proofs.told.finish_all.Given as goal

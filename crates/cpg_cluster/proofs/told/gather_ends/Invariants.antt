@@ -1,4 +1,4 @@
--- Loops of `gather_ends`: gathers the executions whose planned end is at the time.
+-- Loops of `gather_ends`, which adds the reports whose planned end is this time, each with it, by process.
 use Rattle.std.proofs.Common.{◌≡◌, ◌++◌, drop}
 use Rattle.std.specs.Vec.{vec_capacity}
 use Rattle.cpg_cluster.specs.Taking.{ends_by}

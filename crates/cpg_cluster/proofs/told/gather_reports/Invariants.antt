@@ -1,4 +1,5 @@
--- Loops of `gather_reports`: gathers the reports of executions that are over by the time.
+-- Loops of `gather_reports`, which adds the reports of executions that are over by the time and haven't been taken,
+-- by process.
 use Rattle.std.proofs.Common.{◌≡◌, ◌++◌, drop}
 use Rattle.std.specs.Vec.{vec_capacity}
 use Rattle.cpg_cluster.specs.Taking.{reports_by}

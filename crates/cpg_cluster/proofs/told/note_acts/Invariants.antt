@@ -1,4 +1,4 @@
--- Loops of `note_acts`: notes acts at their items.
+-- Loops of `note_acts`, which notes acts at their items, one after another.
 use Rattle.std.proofs.Common.{◌≡◌, drop, fold}
 use Rattle.cpg_cluster.specs.Keeping.{note}
 use Rattle.cpg_cluster.proofs.told.note_acts.Given as goal

@@ -1,4 +1,5 @@
--- Proof of `waited_on`: the least member that a member waits on before it takes an instant.
+-- Proof of `waited_on`, which returns the least number of a member that a member waits on before it takes an
+-- instant, or `None` if it waits on none.
 use Rattle.std.proofs.Common.{arith, refl, sym, ap, ◌∙◌, ◌≡◌, ℕ, ◌<◌, length, get_or, inl, inr, Bool, List}
 use Rattle.std.proofs.lemmas.List.{get_or_default}
 use Rattle.std.proofs.lemmas.Bool.{cases_eq}
@@ -8,11 +9,12 @@ use Rattle.cpg_cluster.specs.Cluster.{Waits}
 use Rattle.cpg_cluster.proofs.Asking.{first_waits, none_waits}
 use Rattle.cpg_cluster.proofs.waiting.waited_on.Goals as goal
 
--- before the loop there is no sender yet
+-- no sender is before the first
 pub loop-sender-init : goal.loop-sender-init
 loop-sender-init c = record { other = refl; none = λ j d h. absurd (omega arith) }
 
--- the test of the sender at the place
+-- The answer of the call in the loop is the test of the sender with number i, as the item of the loop is the i-th
+-- member and `other` counts the members.
 tested : (members : List Member) (member : Member) (time other i : ℕ) (item d : Member) (r : Bool) →
     i < length members → other ≡ i →
     item ≡ get_or members i item →
@@ -34,7 +36,7 @@ returns-then-waits_between c d =
     c.waits_between.result c.loop-sender-test.true c.loop-sender.invariant.other c.sender-item.is
     c.waits_between.ensures ∙ c.if-waits_between.true)
 
--- the member waits on none of those seen so far
+-- the member doesn't wait on this sender either: one before it is among those so far, or is this one
 pub loop-sender-preserved : goal.loop-sender-preserved
 loop-sender-preserved c = record {
   other = omega (arith, c.loop-sender.invariant.other);
@@ -47,7 +49,7 @@ loop-sender-preserved c = record {
   ];
 }
 
--- the member waits on none, so a turn is taken
+-- after the loop the member waits on no sender, so the filtered list is empty
 pub returns : goal.returns
 returns c d = none_waits (λ b. waits_between c.args.time c.args.member.now b (get_or c.args.members.now b d))
     (length c.args.members.now) (λ j h. c.loop-sender.invariant.none j d (omega arith))

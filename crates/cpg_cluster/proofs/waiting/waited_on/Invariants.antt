@@ -1,4 +1,5 @@
--- Loops of `waited_on`: the least member that a member waits on before it takes an instant.
+-- Loops of `waited_on`, which returns the least number of a member that a member waits on before it takes an
+-- instant, or `None` if it waits on none.
 use Rattle.std.proofs.Common.{false, ◌≡◌, ◌<◌, ℕ, get_or}
 use Rattle.cpg_cluster.specs.declared.member.Member.{Member}
 use Rattle.cpg_cluster.specs.Keeping.{waits_between}

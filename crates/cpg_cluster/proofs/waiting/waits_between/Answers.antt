@@ -1,4 +1,4 @@
--- Proof of `waits_between`: whether a member waits on another before it takes an instant.
+-- Proof of `waits_between`: whether a member waits on the member with number `other` before it takes an instant.
 use Rattle.std.proofs.Common.{length, ◌∙◌, ap}
 use Rattle.std.specs.List.{list_any}
 use Rattle.cpg_node.specs.Dispatcher.{zip_with}
@@ -6,14 +6,15 @@ use Rattle.cpg_cluster.specs.Keeping.{waits_by}
 use Rattle.cpg_cluster.proofs.Arriving.{any_index, index_at}
 use Rattle.cpg_cluster.proofs.waiting.waits_between.Goals as goal
 
--- the arrival times of a sender are in order
+-- the arrival times of a sender that the member keeps are in order
 pub waits_on-requires : goal.waits_on-requires
 waits_on-requires c = (index_at c.args.member.now.node.dispatcher.table.hears c.args.member.now.senders.items
     (length c.args.member.now.arrivals.items) c.args.member.now.arrivals.items c.args.other
     c.index-times.result.now c.as_slice.result.now c.requires.indexed c.requires.other c.index-times.ensures
     c.as_slice.ensures.value).rises
 
--- the arrival times of the other node say whether it is waited on, as the rows do
+-- The times that the member keeps of the sender are those in the rows of that sender, so one of them makes it wait
+-- exactly if a column of such a row does.
 pub returns : goal.returns
 returns c =
     let m = c.args.member.now in

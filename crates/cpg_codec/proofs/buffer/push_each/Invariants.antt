@@ -1,3 +1,5 @@
+-- Loops of `push_each`, which adds the bytes of literals, three for each, for which there is room; one literal at a
+-- time.
 use Rattle.std.proofs.Common.{◌≡◌, ◌+◌, ◌*◌, ◌++◌, take}
 use Rattle.std.specs.Prelude.{vec_len, vec_capacity}
 use Rattle.std.specs.List.{flat_map}

@@ -1,8 +1,9 @@
+-- Proof of `push_eight`, which adds the bytes of eight literals, for which there is room.
 use Rattle.std.proofs.Common.{◌≡◌, ◌∙◌, ◌++◌, true, is_ok, length, ap, rules}
 use Rattle.cpg_codec.proofs.Blocks.{appended, eight_bytes}
 use Rattle.cpg_codec.proofs.buffer.push_eight.Goals as goal
 
--- the added bytes are those of the eight literals
+-- the added block has three bytes for each of the eight literals, in the order of their spelling
 pub returns-clause-items : goal.returns-clause-items
 returns-clause-items c =
     let old = c.args.bytes.now.items in

@@ -1,8 +1,9 @@
+-- Proof of `push_four`, which adds the bytes of four literals, for which there is room.
 use Rattle.std.proofs.Common.{◌≡◌, ◌∙◌, ◌++◌, true, is_ok, length, ap, rules}
 use Rattle.cpg_codec.proofs.Blocks.{appended, four_bytes}
 use Rattle.cpg_codec.proofs.buffer.push_four.Goals as goal
 
--- the added bytes are those of the four literals
+-- the added block has three bytes for each of the four literals, in the order of their spelling
 pub returns-clause-items : goal.returns-clause-items
 returns-clause-items c =
     let old = c.args.bytes.now.items in

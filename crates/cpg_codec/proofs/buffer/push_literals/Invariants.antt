@@ -1,3 +1,5 @@
+-- Loops of `push_literals`, which adds literals as `push_each` does, but in blocks of sixteen, then of eight and of
+-- four, since a block is copied at once.
 use Rattle.std.proofs.Common.{◌≡◌, ◌+◌, ◌*◌, ◌≤◌, ◌++◌, length}
 use Rattle.std.specs.Prelude.{vec_len, vec_capacity}
 use Rattle.std.specs.List.{flat_map}

@@ -1,8 +1,9 @@
+-- Proof of `push_sixteen`, which adds the bytes of sixteen literals, three for each, for which there is room.
 use Rattle.std.proofs.Common.{◌≡◌, ◌∙◌, ◌++◌, true, is_ok, length, ap, rules}
 use Rattle.cpg_codec.proofs.Blocks.{appended, sixteen_bytes}
 use Rattle.cpg_codec.proofs.buffer.push_sixteen.Goals as goal
 
--- the added bytes are those of the sixteen literals
+-- the added block has three bytes for each of the sixteen literals, in the order of their spelling
 pub returns-clause-items : goal.returns-clause-items
 returns-clause-items c =
     let old = c.args.bytes.now.items in

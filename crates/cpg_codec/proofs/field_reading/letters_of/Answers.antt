@@ -5,7 +5,7 @@ use Rattle.cpg_base.specs.Name.{is_name_byte}
 use Rattle.cpg_codec.proofs.Loop.{times_on, times_end, times_done}
 use Rattle.cpg_codec.proofs.field_reading.letters_of.Goals as goal
 
--- if a letter can't be read, the letters can't
+-- the next letter can't be read; by the invariant reading all of them then fails in the same way
 pub returns-in_err-letter : goal.returns-in_err-letter
 returns-in_err-letter c =
     let p = err_from_is_err_and c.from_residual.result c.from_residual.ensures.1 in
@@ -14,7 +14,7 @@ returns-in_err-letter c =
     (read_repeated (byte_by is_name_byte) c.args.count c.args.bytes.now) c.loop-test.true c.in_err-letter.ensures
     c.loop.invariant)
 
--- one more letter is read
+-- the next letter is read; by the invariant reading all goes on with the bytes after it
 pub loop-preserved : goal.loop-preserved
 loop-preserved c =
     rw c.in_ok-push.ensures.items (times_on (byte_by is_name_byte) c.loop.letters.items c.args.count c.loop.counter

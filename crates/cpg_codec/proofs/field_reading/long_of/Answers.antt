@@ -4,7 +4,7 @@ use Rattle.cpg_codec.specs.Fields.{field}
 use Rattle.cpg_codec.proofs.Digits.{long_found, field_is_long}
 use Rattle.cpg_codec.proofs.field_reading.long_of.Goals as goal
 
--- the number of the first eight bytes is in range, so it is what the grammar reads
+-- the first eight bytes spell this number (`field_is_long`), and it is in range, so it is what the grammar reads
 pub returns-then-is_within : goal.returns-then-is_within
 returns-then-is_within c =
     let bytes = c.args.bytes.now in

@@ -2,7 +2,7 @@
 use Rattle.cpg_codec.proofs.HeadFields.{name_reads}
 use Rattle.cpg_codec.proofs.field_reading.name_of.Goals as goal
 
--- what the reader of names takes is a lawful name
+-- letters that the grammar reads as a name are a well-formed name
 pub named-requires : goal.named-requires
 named-requires c = rw c.as_slice.ensures.value
     (name_reads.takes c.args.bytes.now c.in_ok-text.text.items c.in_ok-text.rest.now c.in_ok-text.ensures).0

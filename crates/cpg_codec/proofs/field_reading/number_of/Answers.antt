@@ -4,28 +4,28 @@ use Rattle.cpg_codec.proofs.Digits.{digit_goes_on, digit_stops, digit_none, digi
 use Rattle.cpg_codec.proofs.Digits.{under_shift, reaches_shift, above_shift, within_shift, fits_more}
 use Rattle.cpg_codec.proofs.field_reading.number_of.Goals as goal
 
--- no byte is left, so the number ends too early
+-- no byte is left, so the reader of the grammar fails here too, with nothing left
 pub returns-in-empty-clause-gives : goal.returns-in-empty-clause-gives
 returns-in-empty-clause-gives c =
     let d = digit_none c.args.low c.args.high (c.args.width - c.loop-done.done) (c.args.width - 1 - c.loop-done.done)
     c.loop-done.number c.loop-done.rest.now (omega arith) c.in-empty.len_below in
     sym c.loop-done.invariant.same ∙ d
 
--- the number so far leaves room for one more byte
+-- the number so far is at most `high` without the bytes that are left, so 256 times it doesn't overflow
 pub overflow_mul-next : goal.overflow_mul-next
 overflow_mul-next c =
     let f = fits_more c.args.high (c.args.width - c.loop-done.done) (c.args.width - 1 - c.loop-done.done)
     c.loop-done.number (omega arith) c.loop-done.invariant.small (omega arith) in
     omega (arith, f)
 
--- the number so far leaves room for one more byte
+-- the byte is added without an overflow, for the same reason
 pub overflow_add-next : goal.overflow_add-next
 overflow_add-next c =
     let f = fits_more c.args.high (c.args.width - c.loop-done.done) (c.args.width - 1 - c.loop-done.done)
     c.loop-done.number (omega arith) c.loop-done.invariant.small (omega arith) in
     omega (arith, f, c.type_inv.bytes 0)
 
--- with this digit the number is too great, so the grammar refuses it here
+-- with this byte the number is above `high`, whatever follows: the grammar refuses the byte too
 pub returns-then-high-after-clause-gives : goal.returns-then-high-after-clause-gives
 returns-then-high-after-clause-gives c =
     let k : c.args.width - c.loop-done.done ≡ suc (c.args.width - 1 - c.loop-done.done) = omega arith in
@@ -35,7 +35,7 @@ returns-then-high-after-clause-gives c =
     (c.loop-done.number * 256 + get_or c.loop-done.rest.now 0 0) c.if-high-after.true) in
     sym c.loop-done.invariant.same ∙ d
 
--- with this digit the number is too small, so the grammar refuses it here
+-- with this byte the number is below `low`, whatever follows: the grammar refuses the byte too
 pub returns-then-next-low-clause-gives : goal.returns-then-next-low-clause-gives
 returns-then-next-low-clause-gives c =
     let k : c.args.width - c.loop-done.done ≡ suc (c.args.width - 1 - c.loop-done.done) = omega arith in
@@ -45,7 +45,7 @@ returns-then-next-low-clause-gives c =
     (c.loop-done.number * 256 + get_or c.loop-done.rest.now 0 0) c.if-next-low.true) in
     sym c.loop-done.invariant.same ∙ d
 
--- with this digit the number may still be in range, so the grammar goes on
+-- with this byte the number may still be in range (`lo`, `le`), so the grammar takes it and goes on
 pub loop-done-preserved : goal.loop-done-preserved
 loop-done-preserved c =
     let k : c.args.width - c.loop-done.done ≡ suc (c.args.width - (c.loop-done.done + 1)) = omega arith in
@@ -65,14 +65,14 @@ loop-done-preserved c =
       small = le;
     }
 
--- all digits are read, so the number is what the grammar reads
+-- no byte of the number is left, so by the invariant it is what the grammar reads
 pub returns-clause-gives : goal.returns-clause-gives
 returns-clause-gives c =
     let d = digit_done c.args.low c.args.high (c.args.width - c.loop-done.done) c.loop-done.number c.loop-done.rest.now
     (omega arith) in
     sym c.loop-done.invariant.same ∙ d
 
--- a number that the grammar reads lies between low and high
+-- a number that the grammar reads is from `low` to `high`
 pub returns-clause-range : goal.returns-clause-range
 returns-clause-range c = number_only c.args.width c.args.low c.args.high c.args.bytes.now c.loop-done.number
     c.loop-done.rest.now c.requires.some c.requires.fits

@@ -5,7 +5,7 @@ use Rattle.cpg_codec.specs.Grammar.{read_time}
 use Rattle.cpg_codec.proofs.Loop.{times_on, times_end, times_done}
 use Rattle.cpg_codec.proofs.field_reading.times_of.Goals as goal
 
--- if a time can't be read, the times can't
+-- the next time can't be read; by the invariant reading all of them then fails in the same way
 pub returns-in_err-time : goal.returns-in_err-time
 returns-in_err-time c =
     let p = err_from_is_err_and c.from_residual.result c.from_residual.ensures.1 in
@@ -13,7 +13,7 @@ returns-in_err-time c =
     (times_end read_time c.in_err-time.field-0.0 c.loop.times.items c.args.count c.loop.counter c.loop.rest.now
     (read_repeated read_time c.args.count c.args.bytes.now) c.loop-test.true c.in_err-time.ensures c.loop.invariant)
 
--- one more time is read
+-- the next time is read; by the invariant reading all goes on with the bytes after it
 pub loop-preserved : goal.loop-preserved
 loop-preserved c =
     rw c.in_ok-push.ensures.items (times_on read_time c.loop.times.items c.args.count c.loop.counter c.loop.rest.now

@@ -5,7 +5,7 @@ use Rattle.cpg_codec.specs.Grammar.{read_edge}
 use Rattle.cpg_codec.proofs.Loop.{times_on, times_end, times_done}
 use Rattle.cpg_codec.proofs.head_reading.edges_of.Goals as goal
 
--- if an edge can't be read, the edges can't
+-- the next edge can't be read; by the invariant reading all of them then fails in the same way
 pub returns-in_err-edge : goal.returns-in_err-edge
 returns-in_err-edge c =
     let p = err_from_is_err_and c.from_residual-in_err-edge.result c.from_residual-in_err-edge.ensures.1 in
@@ -14,7 +14,7 @@ returns-in_err-edge c =
     (read_repeated (read_edge c.args.processes) c.args.count c.args.bytes.now) c.loop-test.true c.in_err-edge.ensures
     c.loop.invariant)
 
--- one more edge is read
+-- the next edge is read; by the invariant reading all goes on with the bytes after it
 pub loop-preserved : goal.loop-preserved
 loop-preserved c =
     rw c.in_ok-push.ensures.items (times_on (read_edge c.args.processes) c.loop.edges.items c.args.count c.loop.counter

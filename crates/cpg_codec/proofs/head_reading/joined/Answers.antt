@@ -10,7 +10,7 @@ unreachable-requires c =
     c.in_default.ensures.refused
     (plain_head p.version p.faults p.nodes.items p.processes.items p.extras.items p.edges.items c.requires.lawful)
 
--- in version 1 the head of the parts has no extras
+-- in version 1 the head of the parts has no extras, so it is the one that was made
 pub returns-then-parts-ne2 : goal.returns-then-parts-ne2
 returns-then-parts-ne2 c =
     let p = c.args.parts in
@@ -25,7 +25,7 @@ unreachable-requires-in-None c =
     (made_extras p.version p.faults p.nodes.items p.processes.items p.extras.items p.edges.items c.if-parts-ne2.false
     c.requires.kept c.requires.lawful))
 
--- in version 2 the head of the parts has their extras
+-- in version 2 the head that was made gets the extras, and is then the head of the parts
 pub returns : goal.returns
 returns c =
     let p = c.args.parts in

@@ -5,7 +5,7 @@ use Rattle.cpg_codec.specs.Grammar.{read_name}
 use Rattle.cpg_codec.proofs.Loop.{times_on, times_end, times_done}
 use Rattle.cpg_codec.proofs.head_reading.names_of.Goals as goal
 
--- if a name can't be read, the names can't
+-- the next name can't be read; by the invariant reading all of them then fails in the same way
 pub returns-in_err-name : goal.returns-in_err-name
 returns-in_err-name c =
     let p = err_from_is_err_and c.from_residual-in_err-name.result c.from_residual-in_err-name.ensures.1 in
@@ -13,7 +13,7 @@ returns-in_err-name c =
     (times_end read_name c.in_err-name.field-0.0 c.loop.names.items c.args.count c.loop.counter c.loop.rest.now
     (read_repeated read_name c.args.count c.args.bytes.now) c.loop-test.true c.in_err-name.ensures c.loop.invariant)
 
--- one more name is read
+-- the next name is read; by the invariant reading all goes on with the bytes after it
 pub loop-preserved : goal.loop-preserved
 loop-preserved c =
     rw c.in_ok-push.ensures.items (times_on read_name c.loop.names.items c.args.count c.loop.counter c.loop.rest.now

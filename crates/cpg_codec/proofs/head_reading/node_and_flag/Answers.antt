@@ -1,4 +1,4 @@
--- Proof of `node_and_flag`: the node of a process, and its condition flag, if `ones` processes before have a
+-- Proof of `node_and_flag`: the node of a process and its condition flag, if `ones` processes before it have a
 -- condition.
 use Rattle.std.proofs.Common.{arith}
 use Rattle.cpg_codec.proofs.Records.{place_found}

@@ -9,7 +9,7 @@ use Rattle.cpg_codec.proofs.Loop.{goes_on, ends, is_done, nothing_in_front, down
 use Rattle.cpg_codec.proofs.WrittenHeads.{written_push, kept_push}
 use Rattle.cpg_codec.proofs.head_reading.processes_of.Goals as goal
 
--- how many condition processes there are with one process more
+-- how many processes have a condition, with one process more
 abbrev step : ℕ → Written → ℕ
 step ones w = ones + bit w.process.condition
 
@@ -28,7 +28,7 @@ loop-init c = record {
   kept = rw (c.in_ok-processes.ensures.items, c.new-extras.ensures.items) (none_kept (c.args.version == 2));
 }
 
--- if a process can't be read, the processes can't
+-- the next process can't be read; by the invariant reading all of them then fails in the same way
 pub returns-in_err-process-clause-gives : goal.returns-in_err-process-clause-gives
 returns-in_err-process-clause-gives c =
     let p = err_from_is_err_and c.from_residual-in_err-process.result c.from_residual-in_err-process.ensures.1 in
@@ -40,12 +40,12 @@ returns-in_err-process-clause-gives c =
     (down_more c.args.count c.loop.counter c.loop-test.true) c.in_err-process.ensures.gives
     c.loop.invariant.so_far)
 
--- a process adds at most one condition, so the conditions are still no more than the processes
+-- a process has at most one condition, so there are still no more conditions than processes
 few_more : (ones b counter : ℕ) (t : Bool) → b ≡ bit t → ones ≤ counter → ones + b ≤ counter + 1
 few_more ones b counter true e h = omega arith
 few_more ones b counter false e h = omega arith
 
--- one more process is read, with its extras
+-- the next process is read with its extras; by the invariant reading all goes on with the bytes after it
 pub loop-preserved : goal.loop-preserved
 loop-preserved c =
     let q = c.in_ok-process.process in
@@ -61,7 +61,7 @@ loop-preserved c =
     (read_processes c.args.version c.args.faults c.args.nodes c.args.count c.args.bytes.now)
     (down_more c.args.count c.loop.counter c.loop-test.true) c.in_ok-process.ensures.gives
     c.loop.invariant.so_far in
-    -- what is read so far, that the condition processes are few, and that extras are kept if the version has them
+    -- `few`: a condition more at most; `kept`: an extra more exactly in version 2
     record {
       so_far = rw (c.in_ok-push.ensures.items, c.in_ok-push_extra.ensures, w, c.bit_of-ones.ensures) g;
       few = few_more c.loop.ones c.bit_of-ones.result c.loop.counter q.condition c.bit_of-ones.ensures
@@ -71,7 +71,7 @@ loop-preserved c =
           c.loop.invariant.kept);
     }
 
--- all processes are read
+-- no process is left, so those so far are all
 pub returns-clause-gives : goal.returns-clause-gives
 returns-clause-gives c = is_done step (λ (left : ℕ) ones. read_process c.args.version c.args.faults c.args.nodes ones)
     (written_by c.loop.processes.items c.loop.extras.items)

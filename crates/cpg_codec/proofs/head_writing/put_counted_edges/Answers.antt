@@ -7,7 +7,7 @@ use Rattle.std.specs.Int.{w16, to_be_bytes}
 use Rattle.cpg_codec.proofs.Puts.{Puts-then, Puts-first}
 use Rattle.cpg_codec.proofs.head_writing.put_counted_edges.Goals as goal
 
--- if the count can't be put, the counted edges can't
+-- the sink took only a proper prefix of the count, with which the counted edges begin
 pub returns-in_err-put_short-clause-put : goal.returns-in_err-put_short-clause-put
 returns-in_err-put_short-clause-put g c =
     let p = err_from_is_err_and c.from_residual.result c.from_residual.ensures.1 in

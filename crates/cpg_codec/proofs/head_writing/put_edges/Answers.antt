@@ -5,7 +5,7 @@ use Rattle.cpg_codec.specs.Spelling.{edge_bytes}
 use Rattle.cpg_codec.proofs.Puts.{puts_more, puts_fail, Puts-failed}
 use Rattle.cpg_codec.proofs.head_writing.put_edges.Goals as goal
 
--- one more edge is put
+-- the bytes so far are put, and so are those of this edge; neither met a fault
 pub loop-from-preserved : goal.loop-from-preserved
 loop-from-preserved g c = record {
   put = puts_more edge_bytes _ _ _ _ _ _ (c.args.edges.now) (c.loop-from.from-index)
@@ -13,7 +13,7 @@ loop-from-preserved g c = record {
   kept = c.in_ok-put.ensures.cause.kept ∙ c.loop-from.invariant.kept;
 }
 
--- if an edge can't be put, the edges can't
+-- the sink took a proper prefix of the edges before this one and of this one, and so one of all
 pub returns-in_err-put-clause-put : goal.returns-in_err-put-clause-put
 returns-in_err-put-clause-put g c =
     let p = err_from_is_err_and c.from_residual.result c.from_residual.ensures.1 in

@@ -5,7 +5,7 @@ use Rattle.cpg_codec.specs.Spelling.{deadline_number}
 use Rattle.cpg_codec.proofs.Puts.{Puts-then, Puts-first}
 use Rattle.cpg_codec.proofs.head_writing.put_extra.Goals as goal
 
--- if the release can't be put, the extras can't
+-- the sink took only a proper prefix of the release, with which the extras begin
 pub returns-in_err-put_long-clause-put : goal.returns-in_err-put_long-clause-put
 returns-in_err-put_long-clause-put g c =
     let p = err_from_is_err_and c.from_residual.result c.from_residual.ensures.1 in

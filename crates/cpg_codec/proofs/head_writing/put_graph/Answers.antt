@@ -8,12 +8,12 @@ use Rattle.cpg_codec.proofs.Short.{short_edges}
 use Rattle.cpg_codec.proofs.Puts.{Puts-then, Puts-first, Puts-failed, fails_second, fails_first}
 use Rattle.cpg_codec.proofs.head_writing.put_graph.Goals as goal
 
--- a lawful head has so few edges that two bytes hold their number
+-- the ends of the edges of a lawful head fit a byte each
 pub put_counted_edges-requires-clause-short : goal.put_counted_edges-requires-clause-short
 put_counted_edges-requires-clause-short g c =
     rw c.edges.ensures.edges (short_edges c.args.head.now c.edges.ensures.within)
 
--- if the count can't be put, the graph can't
+-- the sink took only a proper prefix of the count, with which the graph begins
 pub returns-in_err-put-clause-put : goal.returns-in_err-put-clause-put
 returns-in_err-put-clause-put g c =
     let p = err_from_is_err_and c.from_residual.result c.from_residual.ensures.1 in
@@ -22,7 +22,7 @@ returns-in_err-put-clause-put g c =
     ++ flat_map edge_bytes c.args.head.now.edges)) c.from_residual.result p.0 p.1
     (rw c.processes.ensures.processes at c.in_err-put.ensures.put))
 
--- if the processes can't be put after the count, the graph can't
+-- the count is put, and of the processes the sink took a proper prefix; together that is one of the graph
 pub returns-in_err-put_processes-clause-put : goal.returns-in_err-put_processes-clause-put
 returns-in_err-put_processes-clause-put g c =
     let p = err_from_is_err_and c.from_residual-in_err-put_processes.result

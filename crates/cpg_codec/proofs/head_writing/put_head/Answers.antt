@@ -9,7 +9,7 @@ use Rattle.cpg_codec.proofs.HeadParts.{head_parts}
 use Rattle.cpg_codec.proofs.Puts.{Puts-then, Puts-first, Puts-failed, fails_second, fails_first}
 use Rattle.cpg_codec.proofs.head_writing.put_head.Goals as goal
 
--- if the first numbers can't be put, the head can't
+-- the sink took only a proper prefix of the first numbers, with which the head begins
 pub returns-in_err-put-clause-put : goal.returns-in_err-put-clause-put
 returns-in_err-put-clause-put g c =
     let p = err_from_is_err_and c.from_residual.result c.from_residual.ensures.1 in
@@ -21,7 +21,7 @@ returns-in_err-put-clause-put g c =
     ++ flat_map edge_bytes c.args.head.now.edges)))) c.from_residual.result p.0 p.1
     (rw (c.version.ensures, c.faults.ensures.faults, c.nodes-nodes.ensures.nodes) at c.in_err-put.ensures.put))
 
--- if the names of the nodes can't be put after the first numbers, the head can't
+-- the first numbers are put, and of the names of the nodes the sink took a proper prefix; together that is one of the head
 pub returns-in_err-put_names-clause-put : goal.returns-in_err-put_names-clause-put
 returns-in_err-put_names-clause-put g c =
     let p = err_from_is_err_and c.from_residual-in_err-put_names.result c.from_residual-in_err-put_names.ensures.1 in

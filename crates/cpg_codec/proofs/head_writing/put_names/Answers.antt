@@ -5,7 +5,7 @@ use Rattle.cpg_codec.specs.Spelling.{name_bytes}
 use Rattle.cpg_codec.proofs.Puts.{item_more, item_fails, Puts-failed}
 use Rattle.cpg_codec.proofs.head_writing.put_names.Goals as goal
 
--- one more name is put
+-- the bytes so far are put, and so are those of this name; neither met a fault
 pub loop-name-preserved : goal.loop-name-preserved
 loop-name-preserved g c = record {
   put = item_more name_bytes _ _ _ _ _ _ c.args.names.now c.loop-name.name-index c.name-item.result c.name-item.is
@@ -13,7 +13,7 @@ loop-name-preserved g c = record {
   kept = c.in_ok-put_name.ensures.cause.kept ∙ c.loop-name.invariant.kept;
 }
 
--- if a name can't be put, the names can't
+-- the sink took a proper prefix of the names before this one and of this one, and so one of all
 pub returns-in_err-put_name-clause-put : goal.returns-in_err-put_name-clause-put
 returns-in_err-put_name-clause-put g c =
     let p = err_from_is_err_and c.from_residual.result c.from_residual.ensures.1 in

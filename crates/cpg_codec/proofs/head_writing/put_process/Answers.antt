@@ -8,7 +8,7 @@ use Rattle.cpg_codec.proofs.HeadParts.{process_parts}
 use Rattle.cpg_codec.proofs.Puts.{Puts-then, Puts-first, Puts-failed, fails_second, fails_first}
 use Rattle.cpg_codec.proofs.head_writing.put_process.Goals as goal
 
--- if the name can't be put, the process can't
+-- the sink took only a proper prefix of the name, with which the process begins
 pub returns-in_err-put_name-clause-put : goal.returns-in_err-put_name-clause-put
 returns-in_err-put_name-clause-put g c =
     let p = err_from_is_err_and c.from_residual.result c.from_residual.ensures.1 in
@@ -19,7 +19,7 @@ returns-in_err-put_name-clause-put g c =
     c.from_residual.result p.0 p.1
     c.in_err-put_name.ensures.put)
 
--- if the node and the flag can't be put after the name, the process can't
+-- the name is put, and of the node and the flag the sink took a proper prefix; together that is one of the process
 pub returns-in_err-put-clause-put : goal.returns-in_err-put-clause-put
 returns-in_err-put-clause-put g c =
     let p = err_from_is_err_and c.from_residual-in_err-put.result c.from_residual-in_err-put.ensures.1 in

@@ -6,7 +6,7 @@ use Rattle.cpg_codec.proofs.WrittenHeads.{written_at, written_length}
 use Rattle.cpg_codec.proofs.Puts.{item_more, item_fails, puts_all, Puts-failed}
 use Rattle.cpg_codec.proofs.head_writing.put_processes.Goals as goal
 
--- one more process is put, with its extras
+-- the bytes so far are put, and so are those of this process with its extras; neither met a fault
 pub loop-number-preserved : goal.loop-number-preserved
 loop-number-preserved g c =
     let lt = rw c.processes-processes.ensures.processes at c.loop-number-test.true in
@@ -21,7 +21,7 @@ loop-number-preserved g c =
       kept = c.in_ok-put_process.ensures.cause.kept ∙ c.loop-number.invariant.kept;
     }
 
--- if a process can't be put, the processes can't
+-- the sink took a proper prefix of the processes before this one and of this one, and so one of all
 pub returns-in_err-put_process-clause-put : goal.returns-in_err-put_process-clause-put
 returns-in_err-put_process-clause-put g c =
     let p = err_from_is_err_and c.from_residual.result c.from_residual.ensures.1 in
@@ -34,7 +34,7 @@ returns-in_err-put_process-clause-put g c =
     (rw c.processes-processes.ensures.processes at c.index-processes-number.is) c.extra_of-extra.ensures)
     (omega (arith, lt, written_length c.args.head.now)) c.loop-number.invariant.put c.in_err-put_process.ensures.put)
 
--- all processes are put
+-- no process is left, so the bytes so far are those of all
 pub returns-clause-put : goal.returns-clause-put
 returns-clause-put g c =
     let le = rw c.processes-processes.ensures.processes at c.loop-number-test.false in

@@ -5,7 +5,7 @@ use Rattle.cpg_codec.specs.Spelling.{byte}
 use Rattle.cpg_codec.proofs.Puts.{Puts-then, Puts-first}
 use Rattle.cpg_codec.proofs.head_writing.put_text.Goals as goal
 
--- if the length can't be put, the name can't
+-- the sink took only a proper prefix of the length, with which the name begins
 pub returns-in_err-put-clause-put : goal.returns-in_err-put-clause-put
 returns-in_err-put-clause-put g c =
     let p = err_from_is_err_and c.from_residual.result c.from_residual.ensures.1 in

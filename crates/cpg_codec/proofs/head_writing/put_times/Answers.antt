@@ -5,7 +5,7 @@ use Rattle.std.specs.Int.{w64, to_be_bytes}
 use Rattle.cpg_codec.proofs.Puts.{puts_more, puts_fail, Puts-failed}
 use Rattle.cpg_codec.proofs.head_writing.put_times.Goals as goal
 
--- one more time is put
+-- the bytes so far are put, and so are those of this time; neither met a fault
 pub loop-time-preserved : goal.loop-time-preserved
 loop-time-preserved g c = record {
   put = puts_more (to_be_bytes w64) _ _ _ _ _ _ (c.args.times.now) (c.loop-time.time-index)
@@ -13,7 +13,7 @@ loop-time-preserved g c = record {
   kept = c.in_ok-put_long.ensures.cause.kept ∙ c.loop-time.invariant.kept;
 }
 
--- if a time can't be put, the times can't
+-- the sink took a proper prefix of the times before this one and of this one, and so one of all
 pub returns-in_err-put_long-clause-put : goal.returns-in_err-put_long-clause-put
 returns-in_err-put_long-clause-put g c =
     let p = err_from_is_err_and c.from_residual.result c.from_residual.ensures.1 in

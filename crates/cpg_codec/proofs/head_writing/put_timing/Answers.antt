@@ -6,7 +6,7 @@ use Rattle.std.specs.Int.{w64, to_be_bytes}
 use Rattle.cpg_codec.proofs.Puts.{Puts-then, Puts-first}
 use Rattle.cpg_codec.proofs.head_writing.put_timing.Goals as goal
 
--- if the times can't be put, the timing can't
+-- the sink took only a proper prefix of the times, with which the timing begins
 pub returns-in_err-put_times-clause-put : goal.returns-in_err-put_times-clause-put
 returns-in_err-put_times-clause-put g c =
     let p = err_from_is_err_and c.from_residual.result c.from_residual.ensures.1 in

@@ -1,10 +1,11 @@
+-- Proof of `is_each_lawful`, which returns whether each literal is lawful, looking at one after another.
 use Rattle.std.proofs.Common.{All, sym, subst, arith}
 use Rattle.std.proofs.lemmas.List.{take_more, take_all}
 use Rattle.std.proofs.lemmas.List.Elements.{All-push}
 use Rattle.cpg_table.specs.Lawful.{IsLawfulLiteral}
 use Rattle.cpg_codec.proofs.lawful_literals.is_each_lawful.Goals as goal
 
--- one more literal is lawful
+-- the literals before this one are lawful, and the test says that this one is
 pub loop-literal-preserved : goal.loop-literal-preserved
 loop-literal-preserved c =
     subst (All (IsLawfulLiteral c.args.space.now))

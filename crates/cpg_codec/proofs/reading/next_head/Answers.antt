@@ -5,7 +5,7 @@ use Rattle.cpg_codec.proofs.HeadFields.{head_reads}
 use Rattle.cpg_codec.proofs.Rests.{left_is, left_within}
 use Rattle.cpg_codec.proofs.reading.next_head.Goals as goal
 
--- reading a head leaves no more bytes than there were
+-- what is left after a head is a part of what was unread, so it isn't longer
 pub read_to-requires : goal.read_to-requires
 read_to-requires c =
     let read = ap read_head (sym c.rest.ensures) ∙ c.in_ok-head.ensures in

@@ -19,7 +19,7 @@ loop-node-init c =
     let z : length c.args.head.now.nodes - 0 ≡ length c.args.head.now.nodes = omega arith in
     record { so_far = rw (c.new-nodes.ensures.items, z) (nothing_in_front _); few = omega arith }
 
--- if the table of a node can't be read, the tables can't
+-- the table of the next node can't be read; by the invariant reading all of them then fails in the same way
 pub returns-in_err-table : goal.returns-in_err-table
 returns-in_err-table c =
     let p = err_from_is_err_and c.from_residual-in_err-table.result c.from_residual-in_err-table.ensures.1 in
@@ -32,7 +32,7 @@ returns-in_err-table c =
     (read_nodes c.args.head.now c.args.unread.now) (numbers_more c.loop-node.node (length c.args.head.now.nodes) n)
     c.in_err-table.ensures.gives c.loop-node.invariant.so_far)
 
--- the table of one more node is read
+-- the table of the next node is read; by the invariant reading all goes on with the bytes after it
 pub loop-node-preserved : goal.loop-node-preserved
 loop-node-preserved c =
     let e = ap length c.nodes.ensures.nodes in
@@ -48,7 +48,7 @@ loop-node-preserved c =
       few = c.in_ok-table.ensures.total.1;
     }
 
--- no node is left, so all tables are read
+-- no node is left, so the tables so far are all
 pub returns : goal.returns
 returns c =
     let e = ap length c.nodes.ensures.nodes in

@@ -2,11 +2,11 @@
 use Rattle.cpg_codec.proofs.WholePack.{found, only, bad}
 use Rattle.cpg_codec.proofs.reading.read_pack.Goals as goal
 
--- tables that are returned are the ones that the bytes spell
+-- tables that are returned are what the grammar reads of the bytes, so they are lawful and spelled by these
 pub returns-clause-found : goal.returns-clause-found
 returns-clause-found c = found c.args.bytes.items c.answer_of.result c.answer_of.ensures
 
--- bytes that spell tables are read as these
+-- if the bytes spell lawful tables, the grammar reads just these, so no others are returned, and no `BadPack`
 pub returns-clause-only : goal.returns-clause-only
 returns-clause-only c = only c.args.bytes.items c.answer_of.result c.answer_of.ensures
 

@@ -2,7 +2,7 @@
 use Rattle.cpg_codec.proofs.ColumnFields.{front_reads, literals_rise}
 use Rattle.cpg_codec.proofs.row_reading.column_of.Goals as goal
 
--- the variables of literals that were read rise
+-- literals that the grammar reads have rising variables
 pub cube_of-requires : goal.cube_of-requires
 cube_of-requires c =
     let f = ((front_reads c.args.space.now c.requires).takes c.args.bytes.now

@@ -7,7 +7,7 @@ use Rattle.cpg_codec.specs.Grammar.{read_column}
 use Rattle.cpg_codec.proofs.Loop.{times_on, times_end, times_done}
 use Rattle.cpg_codec.proofs.row_reading.columns_of.Goals as goal
 
--- if a column can't be read, the columns can't
+-- the next column can't be read; by the invariant reading all of them then fails in the same way
 pub returns-in_err-column-clause-gives : goal.returns-in_err-column-clause-gives
 returns-in_err-column-clause-gives c =
     let p = err_from_is_err_and c.from_residual-in_err-column.result c.from_residual-in_err-column.ensures.1 in
@@ -16,7 +16,7 @@ returns-in_err-column-clause-gives c =
     (read_repeated (read_column c.args.space.now) c.args.count c.args.bytes.now) c.loop-test.true
     c.in_err-column.ensures c.loop.invariant.so_far)
 
--- one more column is read
+-- the next column is read; by the invariant reading all goes on with the bytes after it
 pub loop-preserved : goal.loop-preserved
 loop-preserved c =
     record {
@@ -28,7 +28,7 @@ loop-preserved c =
       count = grind (arith, common_steps);
     }
 
--- all columns are read
+-- no column is left, so those so far are all
 pub returns-clause-gives : goal.returns-clause-gives
 returns-clause-gives c =
     times_done (read_column c.args.space.now) c.loop.columns.items c.args.count c.loop.counter c.loop.rest.now

@@ -17,7 +17,7 @@ unfolding read_literals
 loop-done-init c = let z : c.args.count - 0 ≡ c.args.count = omega arith in
     rw (c.in_ok-literals.ensures.items, z) (nothing_in_front _)
 
--- if a literal can't be read, the literals can't
+-- the next literal can't be read; by the invariant reading all of them then fails in the same way
 pub returns-in_err-literal : goal.returns-in_err-literal
 returns-in_err-literal c =
     let p = err_from_is_err_and c.from_residual-in_err-literal.result c.from_residual-in_err-literal.ensures.1 in
@@ -27,7 +27,7 @@ returns-in_err-literal c =
     (read_literals c.args.space.now c.args.count c.args.bytes.now)
     (down_more c.args.count c.loop-done.done c.loop-done-test.true) c.in_err-literal.ensures c.loop-done.invariant)
 
--- one more literal is read, and the next variable is above it
+-- the next literal is read, and the least variable is now one above its own; by the invariant reading all goes on
 pub loop-done-preserved : goal.loop-done-preserved
 loop-done-preserved c =
     let q = c.in_ok-literal.literal in
@@ -40,7 +40,7 @@ loop-done-preserved c =
     let one : q.variable + 1 ≡ suc q.variable = omega arith in
     rw (c.in_ok-push.ensures.items, one) g
 
--- all literals are read
+-- no literal is left, so those so far are all
 pub returns : goal.returns
 returns c = is_done step (read_literal c.args.space.now) c.loop-done.literals.items
     (down (c.args.count - c.loop-done.done)) c.loop-done.least c.loop-done.rest.now

@@ -5,7 +5,7 @@ use Rattle.cpg_codec.proofs.Rests.{left_is, left_within}
 use Rattle.cpg_codec.proofs.TableFields.{row_reads}
 use Rattle.cpg_codec.proofs.row_reading.next_row.Goals as goal
 
--- the reader of a row leaves no more bytes than there were
+-- what is left after a row is a part of what was unread, so it isn't longer
 pub read_to-requires : goal.read_to-requires
 read_to-requires c =
     let read =

@@ -30,7 +30,7 @@ loop-item-init c = record {
   few = c.requires.before;
 }
 
--- the row of one more item is read
+-- the row of the next item is read; by the invariant reading all goes on with the bytes after it
 pub loop-item-preserved : goal.loop-item-preserved
 loop-item-preserved c =
     let q = c.in_ok-row.row in

@@ -3,7 +3,7 @@
 use Rattle.cpg_codec.proofs.TableFields.{rows_are_of}
 use Rattle.cpg_codec.proofs.row_reading.table_of.Goals as goal
 
--- the rows that were read for the node's items are the rows of the node
+-- rows that the grammar reads for the node's items are lawful rows of the node
 pub of_rows-requires : goal.of_rows-requires
 of_rows-requires c =
     rows_are_of c.args.head.now c.args.node c.args.space.now c.args.items.now c.args.before c.args.unread.now

@@ -1,3 +1,4 @@
+-- Proof of `eight_of`, which returns the eight literals that these bytes spell, three bytes for each.
 use Rattle.std.proofs.Common.{◌≡◌, ◌∙◌, ◌∷◌, [], length, ap, ap₂, rules, sym}
 use Rattle.std.specs.List.{flat_map}
 use Rattle.cpg_cube.specs.declared.literal.Literal.{Literal}
@@ -5,7 +6,7 @@ use Rattle.cpg_codec.specs.Spelling.{literal_bytes}
 use Rattle.cpg_codec.proofs.Blocks.{elements}
 use Rattle.cpg_codec.proofs.row_taking.eight_of.Goals as goal
 
--- the literals have the 24 bytes that they are made of
+-- each literal is spelled by the three bytes that it is made of, so all by the 24
 pub returns : goal.returns
 returns c =
     let many : length c.args.bytes ≡ 24 = search rules in

@@ -1,9 +1,12 @@
+-- Proof of `skip_eights`, which returns how many literals `bytes` and the list begin with in common, counted in
+-- blocks of eight and at most `most`, and the bytes after these.
 use Rattle.std.proofs.Common.{◌∙◌, ◌-◌, ◌≤◌, ap, drop, arith}
 use Rattle.std.proofs.lemmas.List.{drop-drop}
 use Rattle.cpg_codec.proofs.Fronts.{block_more}
 use Rattle.cpg_codec.proofs.row_taking.skip_eights.Goals as goal
 
--- the bytes begin with the next eight literals, too
+-- `front`: the block of 24 bytes spells the next eight literals, so the bytes begin with these too; `left`: the list and
+-- the bytes are both cut after them
 pub loop-count-preserved : goal.loop-count-preserved
 loop-count-preserved c =
     let was = c.loop-count.invariant in

@@ -1,8 +1,10 @@
+-- Proof of `skip_same`, which returns how many literals `bytes` and the list begin with in common, at most `most`,
+-- and the bytes after these.
 use Rattle.std.proofs.Common.{◌+◌}
 use Rattle.cpg_codec.proofs.Fronts.{front_more}
 use Rattle.cpg_codec.proofs.row_taking.skip_same.Goals as goal
 
--- the bytes begin with the eights, the four and the single literals
+-- what the bytes begin with in blocks of eight, then in one of four, then one by one, makes one front of the list
 pub returns : goal.returns
 returns c =
     let ls = c.args.literals.now in

@@ -1,3 +1,5 @@
+-- Loops of `take_columns`, which returns the `count` columns that `bytes` begin with, all lawful, and the bytes after
+-- them.
 use Rattle.std.proofs.Common.{◌≡◌, ◌++◌, All, length}
 use Rattle.std.specs.List.{flat_map}
 use Rattle.cpg_table.specs.Lawful.{IsLawfulColumn}

@@ -1,3 +1,5 @@
+-- Proof of `take_cube`, which returns the cube of the first `count` literals of `bytes`, all lawful, and the bytes
+-- after them.
 use Rattle.std.proofs.Common.{◌≡◌, ◌++◌, All, take, sym, subst, rules}
 use Rattle.std.proofs.lemmas.List.Elements.{All-append, All-take}
 use Rattle.cpg_cube.specs.Cube.{IsRising}
@@ -5,7 +7,7 @@ use Rattle.cpg_cube.proofs.Joined.{rising_behind}
 use Rattle.cpg_table.specs.Lawful.{IsLawfulLiteral}
 use Rattle.cpg_codec.proofs.row_taking.take_cube.Goals as goal
 
--- the literals held rise, as they do together with those before them
+-- the cube was made, so its variables rise; those held are its last ones
 pub are_lawful-requires-clause-rising : goal.are_lawful-requires-clause-rising
 are_lawful-requires-clause-rising c =
     let front = take c.skip_same-same.result.0 c.args.before.now in
@@ -13,7 +15,7 @@ are_lawful-requires-clause-rising c =
     let same : c.as_slice.result.now ≡ c.as_slice-2.result.now = search rules in
     subst IsRising same (rising_behind front c.as_slice.result.now all)
 
--- the literals of the column before are lawful, and those held are
+-- the cube has literals of the column before, which are lawful, and those held, which were tested
 pub returns-clause-lawful : goal.returns-clause-lawful
 returns-clause-lawful c =
     let P = IsLawfulLiteral c.args.space.now in

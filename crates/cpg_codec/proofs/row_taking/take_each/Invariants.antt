@@ -1,3 +1,5 @@
+-- Loops of `take_each`, which appends the first `count` literals of `bytes` to `held`, and returns the bytes after
+-- them; `Odd` if the bytes end too early.
 use Rattle.std.proofs.Common.{◌≡◌, ◌+◌, ◌++◌, length}
 use Rattle.std.specs.List.{flat_map}
 use Rattle.cpg_codec.specs.Spelling.{literal_bytes}

@@ -1,3 +1,5 @@
+-- Loops of `take_literals`, which puts the first `count` literals of `bytes` in place of those that `held` had, and
+-- returns the bytes after them; `Odd` if the bytes end too early.
 use Rattle.std.proofs.Common.{◌≡◌, ◌+◌, ◌++◌, length}
 use Rattle.std.specs.List.{flat_map}
 use Rattle.cpg_codec.specs.Spelling.{literal_bytes}

@@ -1,3 +1,4 @@
+-- Proof of `put_counted`, which puts how many literals a column has, and these.
 use Rattle.std.proofs.Common.{length}
 use Rattle.std.specs.List.{flat_map}
 use Rattle.std.proofs.lemmas.Result.{err_from_is_err_and}
@@ -5,7 +6,7 @@ use Rattle.cpg_codec.specs.Spelling.{byte, literal_bytes}
 use Rattle.cpg_codec.proofs.Puts.{Puts-then, Puts-first}
 use Rattle.cpg_codec.proofs.row_writing.put_counted.Goals as goal
 
--- if the count can't be put, the counted literals can't
+-- the sink took only a proper prefix of the count, with which the counted literals begin
 pub returns-in_err-put-clause-put : goal.returns-in_err-put-clause-put
 returns-in_err-put-clause-put g c =
     let p = err_from_is_err_and c.from_residual.result c.from_residual.ensures.1 in

@@ -1,10 +1,11 @@
+-- Proof of `put_each`, which puts literals, one after another.
 use Rattle.std.proofs.Common.{◌∙◌}
 use Rattle.std.proofs.lemmas.Result.{err_from_is_err_and}
 use Rattle.cpg_codec.specs.Spelling.{literal_bytes}
 use Rattle.cpg_codec.proofs.Puts.{puts_more, puts_fail, Puts-failed}
 use Rattle.cpg_codec.proofs.row_writing.put_each.Goals as goal
 
--- one more literal is put
+-- the bytes so far are put, and so are those of this literal; neither met a fault
 pub loop-literal-preserved : goal.loop-literal-preserved
 loop-literal-preserved g c = record {
   put = puts_more literal_bytes _ _ _ _ _ _ (c.args.literals.now) (c.loop-literal.literal-index)
@@ -13,7 +14,7 @@ loop-literal-preserved g c = record {
   kept = c.in_ok-put.ensures.cause.kept ∙ c.loop-literal.invariant.kept;
 }
 
--- if a literal can't be put, the literals can't
+-- the sink took a proper prefix of the literals before this one and of this one, and so one of all
 pub returns-in_err-put-clause-put : goal.returns-in_err-put-clause-put
 returns-in_err-put-clause-put g c =
     let p = err_from_is_err_and c.from_residual.result c.from_residual.ensures.1 in

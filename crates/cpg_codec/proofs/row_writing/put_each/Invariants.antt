@@ -1,3 +1,4 @@
+-- Loops of `put_each`, which puts literals, one after another.
 use Rattle.std.proofs.Common.{◌≡◌, take}
 use Rattle.std.specs.List.{flat_map}
 use Rattle.cpg_codec.specs.Spelling.{literal_bytes}

@@ -1,3 +1,4 @@
+-- Proof of `put_parts`, which puts a column of this time and these literals, part by part.
 use Rattle.std.proofs.Common.{◌++◌, length}
 use Rattle.std.specs.List.{flat_map}
 use Rattle.std.proofs.lemmas.Result.{err_from_is_err_and}
@@ -6,7 +7,7 @@ use Rattle.std.specs.Int.{w64, to_be_bytes}
 use Rattle.cpg_codec.proofs.Puts.{Puts-then, Puts-first}
 use Rattle.cpg_codec.proofs.row_writing.put_parts.Goals as goal
 
--- if the time can't be put, the column can't
+-- the sink took only a proper prefix of the time, with which the column begins
 pub returns-in_err-put_long-clause-put : goal.returns-in_err-put_long-clause-put
 returns-in_err-put_long-clause-put g c =
     let p = err_from_is_err_and c.from_residual.result c.from_residual.ensures.1 in

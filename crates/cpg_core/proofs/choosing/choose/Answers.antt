@@ -1,4 +1,4 @@
--- Proof of `choose`: the compile's order with its figures, given the outcomes of a graph's tracks.
+-- Proof of `choose`: returns the compile's order with its figures.
 use Rattle.std.proofs.Common.{rules, sym, subst}
 use Rattle.cpg_order.specs.Urgency.{IsTopological, first_order}
 use Rattle.cpg_latest.specs.Laws.{HasFigures}
@@ -12,6 +12,7 @@ pub returns-then-is_some : goal.returns-then-is_some
 returns-then-is_some c =
     let g = c.args.admitted.now.graph in
     let urgency = c.args.admitted.now.order in
+    -- the graph is admitted, and its first order is topological
     let a = c.first_order.ensures.admitted in
     let top : IsTopological g (first_order g urgency) =
     rw c.first_order.ensures.order at c.first_order.ensures.topological in
@@ -22,11 +23,12 @@ returns-then-is_some c =
     c.in_ok-first.first.worst first
     (given_there _ c.given.result _ c.given.ensures.given (search rules)))
 
--- the graph has many tracks, so the first order is taken
+-- the graph has too many tracks for a track order, so the first order is taken
 pub returns-in_default : goal.returns-in_default
 returns-in_default c =
     let g = c.args.admitted.now.graph in
     let urgency = c.args.admitted.now.order in
+    -- the graph is admitted, and its first order is topological
     let a = c.first_order.ensures.admitted in
     let top : IsTopological g (first_order g urgency) =
     rw c.first_order.ensures.order at c.first_order.ensures.topological in

@@ -1,5 +1,5 @@
--- Proof of `taken_of_tracks`: the order that is taken, given the figures of the first order and the track order of a
--- graph that gives no order.
+-- Proof of `taken_of_tracks`: returns which order is taken for a graph that gives none: the track order (`order`) if it
+-- is better than the urgency order and no item is too wide under it, and otherwise the urgency order.
 use Rattle.std.proofs.Common.{◌∙◌, sym, subst}
 use Rattle.std.proofs.lemmas.Bool.{both_ways}
 use Rattle.cpg_order.specs.Urgency.{IsTopological, first_order}
@@ -8,11 +8,12 @@ use Rattle.cpg_core.specs.Accepted.{IsTaken}
 use Rattle.cpg_core.proofs.Figures.{first_better, first_same, first_wide, tracks_better}
 use Rattle.cpg_core.proofs.choosing.taken_of_tracks.Goals as goal
 
--- the track order is the first order, so that is taken
+-- the track order is no other than the first order, so the first order is taken
 pub returns-then-are_same : goal.returns-then-are_same
 returns-then-are_same c =
     let g = c.args.admitted.now.graph in
     let urgency = c.args.admitted.now.order in
+    -- the graph is admitted, and its first order is topological
     let a = c.first_order-first_order.ensures.admitted in
     let top : IsTopological g (first_order g urgency) =
     rw c.first_order-first_order.ensures.order at c.first_order-first_order.ensures.topological in
@@ -26,6 +27,7 @@ pub returns-then-not-is_better : goal.returns-then-not-is_better
 returns-then-not-is_better c =
     let g = c.args.admitted.now.graph in
     let urgency = c.args.admitted.now.order in
+    -- the graph is admitted, and its first order is topological
     let a = c.first_order-first_order.ensures.admitted in
     let top : IsTopological g (first_order g urgency) =
     rw c.first_order-first_order.ensures.order at c.first_order-first_order.ensures.topological in
@@ -40,6 +42,7 @@ pub returns-in-Some : goal.returns-in-Some
 returns-in-Some c =
     let g = c.args.admitted.now.graph in
     let urgency = c.args.admitted.now.order in
+    -- the graph is admitted, and its first order is topological
     let a = c.first_order-first_order.ensures.admitted in
     let top : IsTopological g (first_order g urgency) =
     rw c.first_order-first_order.ensures.order at c.first_order-first_order.ensures.topological in
@@ -53,6 +56,7 @@ pub returns : goal.returns
 returns c =
     let g = c.args.admitted.now.graph in
     let urgency = c.args.admitted.now.order in
+    -- the graph is admitted, and its first order is topological
     let a = c.first_order-first_order.ensures.admitted in
     let top : IsTopological g (first_order g urgency) =
     rw c.first_order-first_order.ensures.order at c.first_order-first_order.ensures.topological in

@@ -1,11 +1,11 @@
--- Proof of `wide_if_urgent`: the least item that is too wide by its views under the urgency order of a graph that gives
--- no order.
+-- Proof of `wide_if_urgent`: returns the least item that is too wide by its views under the urgency order of a graph
+-- that gives no order.
 use Rattle.std.proofs.Common.{◌≡◌, ℕ, Option, Some, None, IfNone, subst}
 use Rattle.cpg_order.specs.Urgency.{first_order}
 use Rattle.cpg_reach.specs.Wide.{IsNarrow}
 use Rattle.cpg_core.proofs.choosing.wide_if_urgent.Goals as goal
 
--- what holds where there is nothing may be weakened
+-- if P gives Q, and P holds if r is None, then Q does
 if_none : (r : Option ℕ) (P Q : Type 0) → (P → Q) → IfNone r P → IfNone r Q
 if_none None P Q f h = f h
 if_none (Some x) P Q f h = h

@@ -1,4 +1,4 @@
--- Proof of `assembled`: the tables of the rows of a compile.
+-- Proof of `assembled`: returns the tables that have these rows, with the order under which they were built.
 use Rattle.cpg_core.proofs.RowsCompiled.{assembled_compilation}
 use Rattle.cpg_core.proofs.compiling.assembled.Goals as goal
 

@@ -1,4 +1,4 @@
--- Proof of `compile_first`: the rows of the first order, if nothing is late under it.
+-- Proof of `compile_first`: returns the rows of the first order, if that is taken and nothing is late under it.
 use Rattle.std.proofs.Common.{refl, sym, subst}
 use Rattle.cpg_order.specs.Urgency.{IsTopological, first_order}
 use Rattle.cpg_core.specs.Compiled.{IsCompileOrder}
@@ -11,6 +11,7 @@ pub rows_of_first-requires-clause-in_time : goal.rows_of_first-requires-clause-i
 rows_of_first-requires-clause-in_time c =
     let g = c.args.admitted.now.graph in
     let urgency = c.args.admitted.now.order in
+    -- the graph is admitted, and its first order is topological
     let a = c.first_order-order.ensures.admitted in
     let top : IsTopological g (first_order g urgency) =
     rw c.first_order-order.ensures.order at c.first_order-order.ensures.topological in
@@ -22,6 +23,7 @@ pub returns-clause-rows : goal.returns-clause-rows
 returns-clause-rows c =
     let g = c.args.admitted.now.graph in
     let urgency = c.args.admitted.now.order in
+    -- the graph is admitted, and its first order is topological
     let a = c.first_order-order.ensures.admitted in
     let top : IsTopological g (first_order g urgency) =
     rw c.first_order-order.ensures.order at c.first_order-order.ensures.topological in

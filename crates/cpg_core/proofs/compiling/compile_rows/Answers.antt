@@ -1,17 +1,15 @@
--- Proof of `compile_rows`: the rows of a graph under the order that compiles it: the order that the graph gives; else
--- the track order if it gives a lesser greatest excess than the urgency order, or an equal one and an earlier greatest
--- finish; and else the urgency order.
+-- Proof of `compile_rows`: returns the rows of a graph under the compile's order.
 use Rattle.std.proofs.Common.{◌≡◌, subst, arith}
 use Rattle.cpg_order.specs.Urgency.{first_order}
 use Rattle.cpg_core.specs.Accepted.{order_taken}
 use Rattle.cpg_core.specs.Compiled.{IsMeasured}
 use Rattle.cpg_core.proofs.compiling.compile_rows.Goals as goal
 
--- if the excess is above 0, the first order is late
+-- the excess of the order that is taken is above 0, so something is late under the first order
 pub shown_late-requires-clause-late : goal.shown_late-requires-clause-late
 shown_late-requires-clause-late c = (c.in_ok-taken.ensures.late c.if-taken-gt0.true).0
 
--- and nothing else helps
+-- the excess of the order that is taken is above 0, so no other order helps
 pub shown_late-requires-clause-helpless : goal.shown_late-requires-clause-helpless
 shown_late-requires-clause-helpless c = (c.in_ok-taken.ensures.late c.if-taken-gt0.true).1
 

@@ -1,4 +1,5 @@
--- Proof of `compile_untracked`: the rows of the first order of a graph that has no track order.
+-- Proof of `compile_untracked`: returns the rows of the first order of a graph that has too many tracks for a track
+-- order.
 use Rattle.std.proofs.Common.{◌≡◌, sym, subst, inl, inr, arith}
 use Rattle.cpg_order.specs.Urgency.{IsTopological, first_order}
 use Rattle.cpg_core.specs.Compiled.{IsCompileOrder}
@@ -15,6 +16,7 @@ pub returns-clause-rows : goal.returns-clause-rows
 returns-clause-rows c =
     let g = c.args.admitted.now.graph in
     let urgency = c.args.admitted.now.order in
+    -- the graph is admitted, and its first order is topological
     let a = c.first_order-order.ensures.admitted in
     let top : IsTopological g (first_order g urgency) =
     rw c.first_order-order.ensures.order at c.first_order-order.ensures.topological in

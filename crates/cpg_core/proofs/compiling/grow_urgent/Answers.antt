@@ -1,4 +1,4 @@
--- Proof of `grow_urgent`: what is found under the urgency order of a graph that gives no order.
+-- Proof of `grow_urgent`: returns what is found under the urgency order of a graph that gives no order.
 use Rattle.std.proofs.Common.{subst}
 use Rattle.cpg_reach.specs.Wide.{IsNarrow}
 use Rattle.cpg_core.proofs.compiling.grow_urgent.Goals as goal

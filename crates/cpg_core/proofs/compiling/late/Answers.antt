@@ -1,5 +1,5 @@
--- Proof of `late`: the fault that a process ends past its due under the first order: the process of the greatest
--- excess, with its end in the scenario of that excess.
+-- Proof of `late`: returns the fault `Late` of a graph that is late under its first order: the least scenario with the
+-- greatest excess, the least process that has this excess there, and its end.
 use Rattle.std.proofs.Common.{◌≡◌, ◌<◌, ◌∙◌, ◌+◌, ap, sym, subst, arith, Some}
 use Rattle.cpg_base.specs.Graph.{process_count}
 use Rattle.cpg_base.specs.Duration.{due}
@@ -28,6 +28,7 @@ pub end_past-requires : goal.end_past-requires
 end_past-requires c =
     let g = c.args.admitted.now.graph in
     let urgency = c.args.admitted.now.order in
+    -- the due that is read is that of the process
     let due_is : c.due.result ≡ due g c.in-Some.process =
     c.due.ensures ∙ ap (λ h. due h c.in-Some.process) c.problem-problem.ensures.problem in
     omega (

@@ -1,4 +1,5 @@
--- Proof of `shown_late`: the fault that a process ends past its due, for a graph that is late.
+-- Proof of `shown_late`: returns the fault of a graph that is late, or the fault that comes first when its first order
+-- is grown: that something is too wide, or that memory runs out.
 use Rattle.cpg_order.specs.Urgency.{IsTopological, first_order}
 use Rattle.cpg_core.proofs.Figures.{grown_late}
 use Rattle.cpg_core.proofs.compiling.shown_late.Goals as goal
@@ -8,6 +9,7 @@ pub late-requires-clause-late : goal.late-requires-clause-late
 late-requires-clause-late c =
     let g = c.args.admitted.now.graph in
     let urgency = c.args.admitted.now.order in
+    -- the graph is admitted, and its first order is topological
     let a = c.first_order-order.ensures.admitted in
     let top : IsTopological g (first_order g urgency) =
     rw c.first_order-order.ensures.order at c.first_order-order.ensures.topological in

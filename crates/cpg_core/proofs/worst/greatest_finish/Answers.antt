@@ -1,5 +1,5 @@
--- Proof of `greatest_finish`: the greatest finish of a graph that is compiled, in time units: that of the tables that
--- `compile` would make.
+-- Proof of `greatest_finish`: returns the greatest finish of a graph that compiles, in time units: that of the tables
+-- that `compile` would make.
 use Rattle.std.proofs.Common.{subst}
 use Rattle.cpg_order.specs.Urgency.{first_order}
 use Rattle.cpg_reach.specs.Wide.{IsNarrow}
@@ -12,7 +12,7 @@ narrow_finish-requires c =
     rw c.in_default.is at c.in_ok-item.ensures.none in
     record { narrow = subst (IsNarrow c.args.admitted.now.graph) c.first_order.ensures.order found }
 
--- no item is found, so none is too wide under the first order
+-- no item is found, so none is too wide under the order that callers know as the first
 pub returns-clause-narrow : goal.returns-clause-narrow
 returns-clause-narrow c =
     let found : IsNarrow c.args.admitted.now.graph c.first_order.result.now =

@@ -1,4 +1,5 @@
--- Proof of `grow_narrow_first`: what is found under the first order, if no item is too wide under it.
+-- Proof of `grow_narrow_first`: returns what is found under the first order, under which no item is too wide by its
+-- views.
 use Rattle.std.proofs.Common.{◌∙◌, sym, subst}
 use Rattle.cpg_reach.specs.Wide.{IsNarrow}
 use Rattle.cpg_core.proofs.worst.grow_narrow_first.Goals as goal

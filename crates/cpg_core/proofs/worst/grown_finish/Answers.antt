@@ -1,5 +1,5 @@
--- Proof of `grown_finish`: the greatest finish by the trees of the first order alone, for a graph that has no track
--- order.
+-- Proof of `grown_finish`: returns the greatest finish of a graph that has too many tracks for a track order, by the
+-- trees of its first order.
 use Rattle.std.proofs.Common.{None, inl, inr, arith}
 use Rattle.cpg_order.specs.Urgency.{IsTopological, first_order}
 use Rattle.cpg_core.proofs.Figures.{accepted, grown_many}
@@ -14,6 +14,7 @@ pub returns-clause-accepted : goal.returns-clause-accepted
 returns-clause-accepted c =
     let g = c.args.admitted.now.graph in
     let urgency = c.args.admitted.now.order in
+    -- the graph is admitted, and its first order is topological
     let a = c.first_order-order.ensures.admitted in
     let top : IsTopological g (first_order g urgency) =
     rw c.first_order-order.ensures.order at c.first_order-order.ensures.topological in

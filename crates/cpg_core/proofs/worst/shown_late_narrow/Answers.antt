@@ -1,5 +1,5 @@
--- Proof of `shown_late_narrow`: the fault that a process ends past its due, for a late graph in which no item is too
--- wide.
+-- Proof of `shown_late_narrow`: returns the fault of a late graph in which no item is too wide by its views, or
+-- `OutOfMemory`.
 use Rattle.cpg_order.specs.Urgency.{IsTopological, first_order}
 use Rattle.cpg_core.proofs.Figures.{grown_late}
 use Rattle.cpg_core.proofs.worst.shown_late_narrow.Goals as goal
@@ -9,6 +9,7 @@ pub late_narrow-requires-clause-late : goal.late_narrow-requires-clause-late
 late_narrow-requires-clause-late c =
     let g = c.args.admitted.now.graph in
     let urgency = c.args.admitted.now.order in
+    -- the graph is admitted, and its first order is topological
     let a = c.first_order-order.ensures.admitted in
     let top : IsTopological g (first_order g urgency) =
     rw c.first_order-order.ensures.order at c.first_order-order.ensures.topological in

@@ -1,4 +1,5 @@
--- Proof of `along`: the least scenario that a list of cubes leaves of a cube, variable by variable along the order.
+-- Proof of `least_along`, `least_by_number` and `least_of_part`, which return the least scenario that a list of cubes leaves
+-- of a cube, variable by variable along the order.
 use Rattle.std.proofs.Common.{rules, ◌≡◌, ◌∙◌, true, false, sym, subst, Some, None, List, Bor, map}
 use Rattle.std.specs.List.{list_any}
 use Rattle.std.proofs.lemmas.Bool.{OnTrue_at}
@@ -33,6 +34,7 @@ least_along-returns-in_default t c =
     let g = c.args.problem.now in
     let order = c.args.order.now in
     let cube = c.args.cube.now in
+    -- the cube matches no scenario
     let none : IsFirst g order (matches cube) None = rw c.in_default.is at (c.in_ok-least.ensures.first order) in
     left_of_none g order (map seen c.args.by.items) cube none
 
@@ -43,6 +45,7 @@ least_along-returns-in_default-place_of_match t c =
     let order = c.args.order.now in
     let cube = c.args.cube.now in
     let least = c.in-Some.least in
+    -- the least scenario that the cube matches
     let first : IsFirst g order (matches cube) (Some least) = rw c.in-Some.is at (c.in_ok-least.ensures.first order) in
     let none : list_any (λ b. matches b least) (map seen c.args.by.items) ≡ false =
     any_map (λ b. matches b least) seen c.args.by.items ∙
@@ -64,6 +67,7 @@ least_by_number-is_late-requires-clause-part t c =
     let l : Literal = record { variable = v; low = c.loop-number.number; high = c.loop-number.number } in
     let known : IsVariable g v =
     All-head (IsVariable g) v c.in-Some.others.now (rw c.in-Some.ensures.cases.0 at c.requires.variables) in
+    -- the cube narrowed by the literal
     let some : with_literal l c.args.cube.now ≡ Some c.in-Some-2.part = search rules in
     subst (IsKnown g) (with-is l c.args.cube.now c.in-Some-2.part some)
     (known-narrowed g l c.args.cube.now known c.requires.cube)

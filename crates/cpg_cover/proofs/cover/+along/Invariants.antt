@@ -1,4 +1,5 @@
--- Loops of `along`: the least scenario that a list of cubes leaves of a cube, variable by variable along the order.
+-- Recursion and loop of `least_along`, `least_by_number` and `least_of_part`, which return the least scenario that a list of
+-- cubes leaves of a cube, variable by variable along the order.
 use Rattle.std.proofs.Common.{◌+◌, ◌*◌, ◌&&◌, length, map}
 use Rattle.std.specs.Prelude.{nat_lt}
 use Rattle.cpg_base.specs.First.{IsFirst}
@@ -11,15 +12,15 @@ use Rattle.cpg_cover.proofs.cover.+along.Given as goal
 abbrev pub decreases-least_along : goal.decreases-least_along
 decreases-least_along l = length l.variables.now * 3 + 1
 
--- by the numbers of the next variable: the parts have one variable less
+-- it calls `least_of_part` for the numbers of the first variable, with one variable less
 abbrev pub decreases-least_by_number : goal.decreases-least_by_number
 decreases-least_by_number l = length l.variables.now * 3
 
--- a part, before it is split by the variables that are left
+-- it calls `least_along` with the same variables
 abbrev pub decreases-least_of_part : goal.decreases-least_of_part
 decreases-least_of_part l = length l.variables.now * 3 + 2
 
--- the first of those with a lesser number of the variable
+-- `found` is the least scenario that is left and has a number of the variable below `number`; None if there is none
 abbrev pub invariant-least_by_number-loop-number : goal.invariant-least_by_number-loop-number
 invariant-least_by_number-loop-number l = IsFirst l.problem l.order
     (λ s. is_left (map (λ b. b.now) l.by.items) l.cube s && nat_lt (number_of s l.variable) l.number) l.found

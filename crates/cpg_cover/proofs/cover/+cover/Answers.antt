@@ -1,4 +1,5 @@
--- Proof of `cover`: the least scenario that a list of cubes leaves of a cube, one cube of the list after another.
+-- Proof of `left_of`, `left_of_part` and `left_outside`, which return the least scenario that a list of cubes leaves of a
+-- cube, one cube of the list after another.
 use Rattle.std.proofs.Common.{rules, ◌≡◌, ◌<◌, ◌≤◌, ◌∙◌, [], ◌∷◌, ap, sym, subst, true, false, Some, None, List, length}
 use Rattle.std.proofs.Common.{get_or, map, Bor, IsPermutation, arith}
 use Rattle.std.specs.Prelude.{All}
@@ -32,6 +33,7 @@ left_of-returns-in_default t c =
     let g = c.args.problem.now in
     let order = c.args.order.now in
     let cube = c.args.cube.now in
+    -- the cube matches no scenario
     let none : IsFirst g order (matches cube) None = rw c.in_default.is at (c.in_ok-least.ensures.first order) in
     left_of_none g order (map seen c.args.by.items) cube none
 
@@ -42,6 +44,7 @@ left_of-returns-in_default-place_of_match t c =
     let order = c.args.order.now in
     let cube = c.args.cube.now in
     let least = c.in-Some.least in
+    -- the least scenario that the cube matches
     let first : IsFirst g order (matches cube) (Some least) = rw c.in-Some.is at (c.in_ok-least.ensures.first order) in
     let none : list_any (λ b. matches b least) (map seen c.args.by.items) ≡ false =
     any_map (λ b. matches b least) seen c.args.by.items ∙
@@ -57,7 +60,7 @@ left_of-left_outside-requires t c =
     let first = c.remove-first.result.now in
     let first_known : IsKnown g first =
     rw c.remove-first.ensures.value (c.requires.list c.in-Some-place_of_match.place c.remove-first.result within) in
-    -- so have the literals that cut, in their new order, of which there are few
+    -- the literals that cut have known variables too, in their new order, and there are at most 256
     let cutting = c.in_ok-cutting.cutting.items in
     let few : length cutting ≤ 256 = c.in_ok-cutting.ensures.few in
     let ranked : IsPermutation cutting c.in_ok-literals.literals.items =
@@ -67,7 +70,7 @@ left_of-left_outside-requires t c =
     rw c.as_slice-4.ensures.value (All-permutation (λ (l : Literal). IsVariable g l.variable) cutting
     c.in_ok-literals.literals.items ranked c.in_ok-cutting.ensures.known) in
     let literals : length c.as_slice-4.result.now ≤ 256 = rw c.as_slice-4.ensures.value (omega arith) in
-    -- and the other cubes of the list
+    -- the other cubes of the list have known variables
     let list : All (λ (b : Bor (List Literal)). IsKnown g b.now) c.as_slice-5.result.now =
     rw (c.as_slice-5.ensures.value, c.remove-first.ensures.items)
     (all_removed (λ (b : Bor (List Literal)). IsKnown g b.now) c.args.by.items c.in-Some-place_of_match.place
@@ -85,11 +88,11 @@ left_of-returns t c =
     ap seen c.remove-first.ensures.value in
     let ranked : IsPermutation c.in_ok-cutting.cutting.items c.in_ok-literals.literals.items =
     rw c.as_slice-2.ensures.value at c.in_ok-literals.ensures in
-    -- these literals match where that cube does
+    -- in a scenario of the cube, these literals match exactly if the cube taken out does
     let cut : (s : Scenario) → IsScenario g s → matches c.args.cube.now s ≡ true →
     matches c.in_ok-cutting.cutting.items s ≡ matches first s =
     rw c.literals.ensures.literals at c.in_ok-cutting.ensures.same in
-    -- so what is outside them is what it leaves
+    -- so what the other cubes leave outside these literals is what the whole list leaves
     left_by_taken g c.args.order.now seen c.args.by.items c.in-Some-place_of_match.place c.remove-first.result
     c.in_ok-literals.literals.items c.args.cube.now c.in_ok-found.found within
     (λ s i t. sym (matches_permutation c.in_ok-cutting.cutting.items c.in_ok-literals.literals.items s ranked)
@@ -99,6 +102,7 @@ left_of-returns t c =
 -- the literal allows no number that the cube allows, so this part of the cube is empty
 pub left_of_part-returns-in_default-2-clause-part : goal.left_of_part-returns-in_default-2-clause-part
 left_of_part-returns-in_default-2-clause-part t c =
+    -- the literal leaves its variable no number
     let none : with_literal c.in-Some.literal c.args.cube.now ≡ None = search rules in
     rw c.in-Some.is
     (part_none c.args.problem.now c.args.order.now (map seen c.args.by.now) c.in-Some.literal c.args.cube.now none)
@@ -107,6 +111,7 @@ left_of_part-returns-in_default-2-clause-part t c =
 pub left_of_part-meeting-requires-clause-cube : goal.left_of_part-meeting-requires-clause-cube
 left_of_part-meeting-requires-clause-cube t c =
     let g = c.args.problem.now in
+    -- the cube narrowed by the literal
     let some : with_literal c.in-Some.literal c.args.cube.now ≡ Some c.in-Some-2.part = search rules in
     let known : IsVariable g c.in-Some.literal.variable = rw c.in-Some.is at c.requires.literal in
     subst (IsKnown g) (with-is c.in-Some.literal c.args.cube.now c.in-Some-2.part some)
@@ -116,6 +121,7 @@ left_of_part-meeting-requires-clause-cube t c =
 pub left_of_part-left_of-requires : goal.left_of_part-left_of-requires
 left_of_part-left_of-requires t c =
     let g = c.args.problem.now in
+    -- the cube narrowed by the literal
     let some : with_literal c.in-Some.literal c.args.cube.now ≡ Some c.in-Some-2.part = search rules in
     let known : IsVariable g c.in-Some.literal.variable = rw c.in-Some.is at c.requires.literal in
     let part : IsKnown g c.in-Some-2.part =
@@ -162,6 +168,7 @@ left_outside-returns-in_default-2 t c =
     let split : c.args.literals.now ≡ l ∷ ls = c.in-Some.ensures.cases.0 in
     let known : IsVariable g l.variable =
     All-head (λ (m : Literal). IsVariable g m.variable) l ls (rw split at c.requires.literals) in
+    -- the literal leaves its variable no number
     let none : with_literal l cube ≡ None = search rules in
     -- the answers for the parts below it and above it
     let below = first_below g few order by l cube c.in_ok-low.low (rw c.below.ensures at c.in_ok-low.ensures.part)
@@ -183,6 +190,7 @@ left_outside-meeting-requires-clause-cube t c =
     let split : c.args.literals.now ≡ l ∷ ls = c.in-Some.ensures.cases.0 in
     let known : IsVariable g l.variable =
     All-head (λ (m : Literal). IsVariable g m.variable) l ls (rw split at c.requires.literals) in
+    -- the cube narrowed by the literal
     let some : with_literal l c.args.cube.now ≡ Some c.in-Some-2.within = search rules in
     subst (IsKnown g) (with-is l c.args.cube.now c.in-Some-2.within some)
     (known-narrowed g l c.args.cube.now known c.requires.cube)

@@ -1,4 +1,4 @@
--- Proof of `covers`: whether a list covers a cube.
+-- Proof of `covers`, which says whether a list covers a cube.
 use Rattle.std.proofs.Common.{◌≡◌, ◌∙◌, List, Bor, map, ap}
 use Rattle.cpg_base.specs.First.{IsFirst}
 use Rattle.cpg_cube.specs.declared.literal.Literal.{Literal}
@@ -19,6 +19,7 @@ uncovered-requires-clause-list c =
 pub returns-clause-least : goal.returns-clause-least
 returns-clause-least c =
     let g = c.args.problem.now in
+    -- the cubes referred to are those of the columns
     let same : map (λ (b : Bor (List Literal)). b.now) c.as_slice.result.now ≡ c.args.by.now =
     ap (map (λ (b : Bor (List Literal)). b.now)) c.as_slice.ensures.value ∙ c.in_ok-cubes.ensures in
     let first : IsFirst g c.args.order.now (is_left c.args.by.now c.args.cube.now) c.in_ok-found.found =

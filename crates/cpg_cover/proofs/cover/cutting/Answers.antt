@@ -1,4 +1,4 @@
--- Proof of `cutting`: the literals of a list that aren't known to hold in every scenario that a cube matches.
+-- Proof of `cutting`, which returns those literals that may fail in some scenario that a cube matches.
 use Rattle.std.proofs.Common.{rules, ◌≡◌, ◌∙◌, ap, true, get_or, None, Some, arith}
 use Rattle.std.proofs.lemmas.Bool.{both_ways}
 use Rattle.std.proofs.lemmas.List.{take_all}
@@ -18,7 +18,9 @@ pub returns-in_default-clause-same : goal.returns-in_default-clause-same
 returns-in_default-clause-same c s i t =
     let g = c.args.problem.now in
     let a = c.args.cube.now in
+    -- this cube is a cube of the graph: its variables rise, and each is one of the graph's
     let is : IsCube g a = record { rising = c.literals.ensures.rising; known = c.requires.cube } in
+    -- its literals ask for more than k faults, or one of them can't hold
     let none : budget_left (is_open g.faults) asked_of_literal g.faults a ≡ None = search rules in
     absurd (both_ways (matches a s) (unmatched g c.faults-k.ensures.within a is (met_from_none g.faults a none) s i) t)
 
@@ -44,7 +46,9 @@ loop-literal-preserved c =
       }
       -- the literal spans all numbers that its variable has in the cube, so it holds wherever the cube matches
       | else-not-spans w ↦
+          -- this cube is a cube of the graph: its variables rise, and each is one of the graph's
           let is : IsCube g a = record { rising = c.literals.ensures.rising; known = c.requires.cube } in
+          -- the faults that this cube leaves, and its bounds
           let some : budget_left (is_open g.faults) asked_of_literal g.faults a ≡ Some c.in-Some.left = search rules in
           let are : AreBounds a c.of-bounds.result.low c.of-bounds.result.high = search rules in
           let span : spans c.of-bounds.result.low c.of-bounds.result.high c.in-Some.left l ≡ true = search rules in

@@ -1,4 +1,4 @@
--- Loops of `cutting`: the literals of a list that aren't known to hold in every scenario that a cube matches.
+-- Loops of `cutting`, which returns those literals that may fail in some scenario that a cube matches.
 use Rattle.std.proofs.Common.{◌≡◌, ◌≤◌, true, length, take}
 use Rattle.cpg_base.specs.Scenario.{Scenario, IsScenario}
 use Rattle.cpg_cube.specs.Cube.{matches}

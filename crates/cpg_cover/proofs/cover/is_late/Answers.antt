@@ -1,4 +1,5 @@
--- Proof of `is_late`: whether a part has no scenario before one that is found.
+-- Proof of `is_late`, which says whether the part needn't be searched: true only if a scenario is found, and none that
+-- the part matches comes before it.
 use Rattle.std.proofs.Common.{◌∙◌, Some, sym, not}
 use Rattle.std.proofs.lemmas.Bool.{OnTrue_from, not-true}
 use Rattle.cpg_base.specs.First.{IsFirst}
@@ -19,6 +20,7 @@ pub returns : goal.returns
 returns c =
     let g = c.args.problem.now in
     let order = c.args.order.now in
+    -- the least scenario that the cube matches
     let first : IsFirst g order (matches c.args.part.now) (Some c.in-Some-2.least) =
     rw c.in-Some-2.is at (c.in_ok-least.ensures.first order) in
     rw c.in-Some.is (OnTrue_from (not c.is_before.result) (IsLate g order c.args.part.now (Some c.in-Some.found))

@@ -1,4 +1,4 @@
--- Loops of `lent`: a reference to each cube.
+-- Loops of `lent`, which returns a reference to each cube, in their order.
 use Rattle.std.proofs.Common.{◌≡◌, take, map}
 use Rattle.cpg_cover.proofs.cover.lent.Given as goal
 

@@ -1,5 +1,5 @@
--- Proof of `meeting`: the cubes of a list that match some scenario together with a cube: they leave the same of it as
--- the whole list.
+-- Proof of `meeting`, which returns those cubes of a list that match some scenario together with `cube`: they leave the
+-- same of it as the whole list.
 use Rattle.std.proofs.Common.{rules, ◌≡◌, ◌∙◌, sym, ap, false, None, Some, ◌&&◌, arith, List, Bor}
 use Rattle.std.specs.Prelude.{is_some}
 use Rattle.std.specs.List.{list_any}
@@ -21,7 +21,9 @@ pub returns-in_default-clause-same : goal.returns-in_default-clause-same
 returns-in_default-clause-same c s i =
     let g = c.args.problem.now in
     let a = c.args.cube.now in
+    -- this cube is a cube of the graph: its variables rise, and each is one of the graph's
     let is : IsCube g a = record { rising = c.literals.ensures.rising; known = c.requires.cube } in
+    -- its literals ask for more than k faults, or one of them can't hold
     let none : budget_left (is_open g.faults) asked_of_literal g.faults a ≡ None = search rules in
     left_same (λ (b : Bor (List Literal)). b.now) c.new-kept.result.items c.args.by.now a s
     (λ t. absurd
@@ -52,8 +54,10 @@ loop-other-preserved c =
       }
       -- the cube doesn't fit beside the bounds of this one, so no scenario matches both
       | else-fits w ↦
+          -- both lists of literals are cubes of the graph
           let is_a : IsCube g a = record { rising = c.literals.ensures.rising; known = c.requires.cube } in
           let is_b : IsCube g b = record { rising = c.literals-literals.ensures.rising; known = known } in
+          -- the faults that this cube leaves, and its bounds
           let some : budget_left (is_open g.faults) asked_of_literal g.faults a ≡ Some c.in-Some.left = search rules in
           let are : AreBounds a c.of-bounds.result.low c.of-bounds.result.high = search rules in
           let unfit : is_some (budget_left (touches g.faults c.of-bounds.result.low c.of-bounds.result.high)

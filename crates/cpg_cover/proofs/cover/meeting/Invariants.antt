@@ -1,5 +1,5 @@
--- Loops of `meeting`: the cubes of a list that match some scenario together with a cube: they leave the same of it as
--- the whole list.
+-- Loops of `meeting`, which returns those cubes of a list that match some scenario together with `cube`: they leave the
+-- same of it as the whole list.
 use Rattle.std.proofs.Common.{◌≡◌, ◌≤◌, true, take, vec_len}
 use Rattle.std.specs.Prelude.{All}
 use Rattle.std.specs.List.{list_any}

@@ -1,4 +1,5 @@
--- Loops of `place_of_match`: the place of a cube that matches a scenario.
+-- Loops of `place_of_match`, which returns the place of the first cube that matches a scenario; `None` exactly if none
+-- does.
 use Rattle.std.proofs.Common.{◌≡◌, drop}
 use Rattle.std.specs.List.{list_any}
 use Rattle.cpg_cube.specs.Cube.{matches}

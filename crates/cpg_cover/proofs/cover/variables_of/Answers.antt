@@ -1,4 +1,4 @@
--- Proof of `variables_of`: the variables along an order on which some cube has a literal.
+-- Proof of `variables_of`, which returns the variables on which some cube has a literal, in the order of the processes.
 use Rattle.std.proofs.Common.{◌<◌, All, sym, subst, arith}
 use Rattle.std.proofs.lemmas.List.Elements.{All-push}
 use Rattle.cpg_base.specs.Graph.{IsVariable, process_count}
@@ -21,12 +21,14 @@ pub loop-variable-preserved : goal.loop-variable-preserved
 loop-variable-preserved c =
     let g = c.args.problem.now in
     let n = process_count g in
+    -- the order has processes of the graph only, so the variables along it are the graph's
     let within : All (λ p. p < n) c.processes.result.now = subst (All (λ p. p < n)) (sym c.processes.ensures.processes)
     (within_order n c.args.order.now (rw c.requires at c.processes.ensures.order.all)) in
     let all : All (IsVariable g) c.as_slice-variable-items.result.now =
     rw (c.as_slice-variable-items.ensures.value, c.in_ok-all.ensures)
     (variables_known g c.processes.result.now within) in
     elim c.if-marks-variable.branch [
+      -- it is marked, and added; or it isn't, and the list stays
       | then-marks-variable+in_ok-push w ↦ rw (w.variables-is, w.in_ok-push.ensures.items)
           (All-push (IsVariable g) c.loop-variable.variables.items _ c.loop-variable.invariant
           (all c.loop-variable.variable-index 0 (omega arith)))

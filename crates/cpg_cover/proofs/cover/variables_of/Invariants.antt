@@ -1,4 +1,4 @@
--- Loops of `variables_of`: the variables along an order on which some cube has a literal.
+-- Loops of `variables_of`, which returns the variables on which some cube has a literal, in the order of the processes.
 use Rattle.std.specs.Prelude.{All}
 use Rattle.cpg_base.specs.Graph.{IsVariable}
 use Rattle.cpg_cover.proofs.cover.variables_of.Given as goal

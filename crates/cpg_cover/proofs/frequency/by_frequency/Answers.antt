@@ -1,4 +1,4 @@
--- Proof of `by_frequency`: the literals of a list, first those on variables that most cubes of another list have a
+-- Proof of `by_frequency`, which returns the literals, those on the variables first that most cubes of `by` have a
 -- literal on.
 use Rattle.std.proofs.Common.{rules, ◌≡◌, map}
 use Rattle.std.proofs.lemmas.List.Sorted.{IsPermutation-map}

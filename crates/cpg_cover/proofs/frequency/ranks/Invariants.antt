@@ -1,4 +1,4 @@
--- Loops of `ranks`: the literals, each with how many cubes have one on its variable.
+-- Loops of `ranks`, which returns the literals, each with the count of its variable.
 use Rattle.std.proofs.Common.{◌≡◌, take, map}
 use Rattle.cpg_cover.proofs.frequency.ranks.Given as goal
 

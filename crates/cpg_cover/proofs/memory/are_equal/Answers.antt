@@ -1,4 +1,4 @@
--- Proof of `are_equal`: whether two lists of literals are found to be equal.
+-- Proof of `are_equal`: whether two lists of literals are equal.
 use Rattle.std.proofs.Common.{rules, arith}
 use Rattle.std.proofs.lemmas.List.{take_more_same}
 use Rattle.cpg_cube.specs.declared.literal.Literal.{Literal}

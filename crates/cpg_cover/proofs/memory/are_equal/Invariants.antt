@@ -1,4 +1,4 @@
--- Loops of `are_equal`: whether two lists of literals are found to be equal.
+-- Loops of `are_equal`: whether two lists of literals are equal.
 use Rattle.std.proofs.Common.{◌≡◌, take}
 use Rattle.cpg_cover.proofs.memory.are_equal.Given as goal
 

@@ -1,4 +1,4 @@
--- Proof of `are_same`: whether two lists of cubes are found to be equal.
+-- Proof of `are_same`: whether two lists of cubes are equal.
 use Rattle.std.proofs.Common.{rules, ◌≡◌, arith}
 use Rattle.std.proofs.lemmas.List.{take_more_same}
 use Rattle.cpg_cover.proofs.memory.are_same.Goals as goal

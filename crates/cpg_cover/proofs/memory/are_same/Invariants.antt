@@ -1,4 +1,4 @@
--- Loops of `are_same`: whether two lists of cubes are found to be equal.
+-- Loops of `are_same`: whether two lists of cubes are equal.
 use Rattle.std.proofs.Common.{◌≡◌, take}
 use Rattle.cpg_cover.proofs.memory.are_same.Given as goal
 

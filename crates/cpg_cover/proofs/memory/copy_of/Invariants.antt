@@ -1,4 +1,4 @@
--- Loops of `copy_of`: a list of equal cubes.
+-- Loops of `copy_of`, which returns a list of equal cubes.
 use Rattle.std.proofs.Common.{◌≡◌, take}
 use Rattle.cpg_cover.proofs.memory.copy_of.Given as goal
 

@@ -1,4 +1,4 @@
--- Proof of `is_same`: whether two literals are found to be equal.
+-- Proof of `is_same`: whether two literals are equal.
 use Rattle.std.proofs.Common.{arith}
 use Rattle.cpg_cube.proofs.Ranges.{same_literal}
 use Rattle.cpg_cover.proofs.memory.is_same.Goals as goal

@@ -1,4 +1,4 @@
--- Proof of `mark_all`: marks the variables of literals.
+-- Proof of `mark_all`, which marks the variables of literals.
 use Rattle.std.proofs.Common.{rules, ◌<◌, get_or, slice_set, take, length, true, false, ap, arith}
 use Rattle.cpg_base.specs.Numbers.{same_bool}
 use Rattle.cpg_cube.specs.declared.literal.Literal.{Literal}
@@ -17,7 +17,9 @@ loop-literal-preserved c =
     let inv = c.loop-literal.invariant in
     let within : l.variable < length marks = search rules in
     record {
+      -- a mark that is there stays
       kept = λ v t. still_marked marks l.variable v (inv.kept v t);
+      -- so those of the literals before stay, and the next one's is made
       marked = all_one_more (λ m. same_bool (get_or later m.variable false) true) ls at blank (omega arith)
           (all_still_marked marks later (take at ls) (λ v t. still_marked marks l.variable v t) inv.marked)
           (ap (λ b. same_bool b true) (now_marked marks l.variable within));

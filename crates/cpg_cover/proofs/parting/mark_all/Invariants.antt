@@ -1,4 +1,4 @@
--- Loops of `mark_all`: marks the variables of literals.
+-- Loops of `mark_all`, which marks the variables of literals.
 use Rattle.std.proofs.Common.{take}
 use Rattle.cpg_cover.specs.Fewest.{AreMore}
 use Rattle.cpg_cover.proofs.parting.mark_all.Given as goal

@@ -1,4 +1,5 @@
--- Loops of `parted`: the cubes all of whose variables are marked, or none.
+-- Loops of `parted`, which returns copies of the cubes whose variables are all marked (`wanted` true) or all unmarked
+-- (`wanted` false).
 use Rattle.std.proofs.Common.{◌≡◌, ℕ, take, true}
 use Rattle.cpg_cover.specs.Fewest.{AreMarked, is_any_at}
 use Rattle.cpg_cover.proofs.parting.parted.Given as goal

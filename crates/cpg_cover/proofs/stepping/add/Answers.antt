@@ -1,4 +1,4 @@
--- Proof of `add`: adds a cube to a list, unless it is found there.
+-- Proof of `add`, which adds a cube to a list, unless it is found there already.
 use Rattle.cpg_cover.specs.Fewest.{matches_at}
 use Rattle.cpg_cover.proofs.FewestLaws.{any_inserted}
 use Rattle.cpg_cover.proofs.stepping.add.Goals as goal

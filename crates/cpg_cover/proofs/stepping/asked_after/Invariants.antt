@@ -1,4 +1,4 @@
--- Loops of `asked_after`: what the literals ask after the step; `None` if they can't all hold.
+-- Loops of `asked_after`, which returns what literals still ask after a step; `None` if one of them can't hold.
 use Rattle.std.proofs.Common.{◌≡◌, ℕ, take, true}
 use Rattle.cpg_cover.specs.Fewest.{IsStep, after, matches_at}
 use Rattle.cpg_cover.proofs.stepping.asked_after.Given as goal

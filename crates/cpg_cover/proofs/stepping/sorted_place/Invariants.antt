@@ -1,4 +1,4 @@
--- Loops of `sorted_place`: where a cube belongs in a list that is sorted, and `None` if it stands there already.
+-- Loops of `sorted_place`, which returns where a cube belongs in a sorted list, or `None` if the list has it already.
 use Rattle.std.proofs.Common.{◌≤◌, length}
 use Rattle.cpg_cover.proofs.stepping.sorted_place.Given as goal
 

@@ -1,4 +1,5 @@
--- Loops of `stepped`: what the cubes ask after the step, those that may match.
+-- Loops of `stepped`, which returns the cubes of what some cubes still ask after a step, without those that can't
+-- match.
 use Rattle.std.proofs.Common.{◌≡◌, ℕ, take, true}
 use Rattle.cpg_cover.specs.Fewest.{IsStep, after, is_any_at}
 use Rattle.cpg_cover.proofs.stepping.stepped.Given as goal

@@ -1,5 +1,5 @@
--- Loops of `budget_left`: what is left of `k` faults after those that the literals ask for; `None` if they match no
--- scenario of at most `k` faults.
+-- Loops of `budget_left`, which returns what is left of `k` faults after those that the literals ask for; `None`
+-- exactly if some literal can't hold with at most `k` faults, or all together ask for more.
 use Rattle.std.proofs.Common.{◌≡◌, drop}
 use Rattle.cpg_cube.specs.Fit.{is_open, asked_of_literal}
 use Rattle.cpg_cube.specs.Bounds.{budget_left}

@@ -1,4 +1,4 @@
--- Loops of `cubes_of`: a reference to the cube of each column.
+-- Loops of `cubes_of`, which returns a reference to the cube of each column, in their order.
 use Rattle.std.proofs.Common.{◌≡◌, take, map}
 use Rattle.cpg_cube.proofs.column.cubes_of.Given as goal
 

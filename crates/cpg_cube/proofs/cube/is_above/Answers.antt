@@ -1,4 +1,4 @@
--- Proof of `is_above`: whether a variable is above all of these literals.
+-- Proof of `is_above`: whether `variable` is greater than those of all literals.
 use Rattle.std.proofs.Common.{◌-◌, ◌<◌, ◌≡◌, All, Some, length, nat_lt, ltb-true, rules}
 use Rattle.std.specs.Prelude.{slice_get}
 use Rattle.std.proofs.lemmas.Bool.{OnTrue_from}

@@ -1,4 +1,5 @@
--- Proof of `narrow`: puts a literal in its place, or meets the one on its variable with it.
+-- Proof of `narrow`, which meets the literal on the same variable with this one, or puts this one in its place if there
+-- is none.
 use Rattle.std.proofs.Common.{rules, ◌≡◌, ◌<◌, ◌∙◌, sym, ap, length, Some, None, refl, length-set}
 use Rattle.std.specs.Prelude.{position, slice_index_or, slice_set}
 use Rattle.smallvec.proofs.SmallVecLemmas.{items-with_items}
@@ -30,6 +31,7 @@ returns-then-other-literal-clause-narrowed c =
     search rules in
     let xs = c.args.literals.now.items in
     let other = slice_index_or xs c.in-Some.place blank in
+    -- the list after the literal is written through the borrowed slice
     let written : slice_set c.as_mut_slice.result.now c.in-Some.place c.met.result
     ≡ slice_set xs c.in-Some.place (meet_literal c.args.literal other) =
     rw (c.met.ensures, c.as_slice-2.ensures, c.as_mut_slice.ensures.value) refl in
@@ -44,6 +46,7 @@ returns-then-other-literal-clause-undo c =
     let within : c.in-Some.place < length xs = search rules in
     let there : slice_index_or c.as_slice-2.result.now c.in-Some.place blank ≡ slice_index_or xs c.in-Some.place blank =
     rw c.as_slice-2.ensures refl in
+    -- the list after the literal is written through the borrowed slice
     let written : slice_set c.as_mut_slice.result.now c.in-Some.place c.met.result
     ≡ slice_set xs c.in-Some.place c.met.result = rw c.as_mut_slice.ensures.value refl in
     undo_set c.met.result xs _ c.in-Some.place _ blank within there
@@ -78,6 +81,7 @@ returns-then-other-literal-clause-on c =
     let same : (slice_index_or c.as_slice-2.result.now c.in-Some.place blank).variable ≡ c.args.literal.variable =
     c.if-other-literal.true in
     let met : c.met.result.variable ≡ c.args.literal.variable = ap (λ (m : Literal). m.variable) c.met.ensures ∙ same in
+    -- the list after the literal is written through the borrowed slice
     let written : slice_set c.as_mut_slice.result.now c.in-Some.place c.met.result
     ≡ slice_set xs c.in-Some.place c.met.result = rw c.as_mut_slice.ensures.value refl in
     on_set c.met.result xs _ c.in-Some.place c.args.literal.variable _ within same met

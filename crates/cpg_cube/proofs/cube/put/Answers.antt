@@ -1,5 +1,5 @@
--- Proof of `put`: does what `narrow` does, without a search if the variable is above all others, as is usual along a
--- path.
+-- Proof of `put`, which does what `narrow` does, without a search if the variable is above all others, as is usual
+-- along a path.
 use Rattle.std.proofs.Common.{rules, ◌<◌, All, ◌∙◌, sym}
 use Rattle.cpg_cube.specs.Cube.{Literal}
 use Rattle.cpg_cube.proofs.Above.{narrowed_above}

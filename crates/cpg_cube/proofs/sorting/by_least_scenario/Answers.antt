@@ -1,5 +1,5 @@
--- Proof of `by_least_scenario`: the columns by the least scenario along the order that they match: none has the lows of
--- its cube before those of an earlier one.
+-- Proof of `by_least_scenario`, which returns the columns sorted by the least scenario that each matches: no cube's
+-- lows come before those of an earlier column, along the order.
 use Rattle.std.proofs.Common.{ℕ, ◌<◌, ◌≤◌, ◌≡◌, ◌≢◌, ◌∙◌, List, All, length, map, get_or, IsPermutation, arith, sym, ap}
 use Rattle.std.proofs.Common.{subst, rules}
 use Rattle.std.specs.List.{AllPairs}

@@ -1,4 +1,5 @@
--- Proof of `first_by_key`: the place of the first column with the least key.
+-- Proof of `first_by_key`, which returns the place of the first column with the least key; `None` exactly if there is
+-- no column.
 use Rattle.std.proofs.Common.{◌<◌, ◌≡◌, ◌∙◌, arith, get_or, length, refl, rules, ap, subst}
 use Rattle.std.proofs.lemmas.Grind.{common_steps}
 use Rattle.std.proofs.lemmas.List.{get_or_default}

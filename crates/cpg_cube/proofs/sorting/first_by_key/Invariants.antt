@@ -1,4 +1,5 @@
--- Loops of `first_by_key`: the place of the first column with the least key.
+-- Loops of `first_by_key`, which returns the place of the first column with the least key; `None` exactly if there is
+-- no column.
 use Rattle.cpg_cube.proofs.KeyOrder.{IsBest}
 use Rattle.cpg_cube.proofs.sorting.first_by_key.Given as goal
 

@@ -1,5 +1,5 @@
--- Proof of `first_by_least_scenario`: the place of the column with the least scenario along the order: no column has
--- the lows of its cube before those of this one's.
+-- Proof of `first_by_least_scenario`, which returns the place of the column with the least scenario: no cube's lows
+-- come before those of its cube, along the order.
 use Rattle.std.proofs.Common.{ℕ, ◌<◌, ◌≤◌, ◌≡◌, ◌≢◌, ◌∙◌, List, All, length, arith, sym, ap, subst}
 use Rattle.std.specs.List.{AllPairs}
 use Rattle.std.proofs.lemmas.Option.{IfSome_then}

@@ -1,5 +1,5 @@
--- Proof of `key_of`: the key of a cube: the lows along some variables that aren't 0, each with how many places are
--- left.
+-- Proof of `key_of`, which returns the key of a cube: its lows that aren't 0, in the order of the places, each as one
+-- number with how many places are left.
 use Rattle.std.proofs.Common.{◌≡◌, ◌<◌, ◌++◌, ◌∙◌, [], List, All, ap, sym, subst, rules}
 use Rattle.std.proofs.lemmas.List.Elements.{All-append}
 use Rattle.cpg_cube.specs.Cube.{Literal}

@@ -1,5 +1,5 @@
--- Loops of `key_of`: the key of a cube: the lows along some variables that aren't 0, each with how many places are
--- left.
+-- Loops of `key_of`, which returns the key of a cube: its lows that aren't 0, in the order of the places, each as one
+-- number with how many places are left.
 use Rattle.std.proofs.Common.{◌≡◌, [], length}
 use Rattle.cpg_cube.specs.Keys.{AreBytes, with_lows_of}
 use Rattle.cpg_cube.proofs.sorting.key_of.Given as goal

@@ -1,4 +1,5 @@
--- Proof of `place_in`: how many numbers of a key stand before one.
+-- Proof of `place_in`, which returns the place of `number` in a key, whose numbers fall: behind all that are at least
+-- as great.
 use Rattle.std.proofs.Common.{arith, rules}
 use Rattle.cpg_cube.proofs.KeyPlaces.{place_here, place_next}
 use Rattle.cpg_cube.proofs.sorting.place_in.Goals as goal

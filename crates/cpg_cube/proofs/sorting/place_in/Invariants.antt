@@ -1,4 +1,5 @@
--- Loops of `place_in`: how many numbers of a key stand before one.
+-- Loops of `place_in`, which returns the place of `number` in a key, whose numbers fall: behind all that are at least
+-- as great.
 use Rattle.std.proofs.Common.{◌≡◌, ◌+◌, ◌-◌, drop, length}
 use Rattle.cpg_cube.specs.Keys.{place_in}
 use Rattle.cpg_cube.proofs.sorting.place_in.Given as goal

@@ -1,5 +1,5 @@
--- Proof of `places_along`: how many places are left at each variable along an order, a process's count and then its
--- value: 256 at the first, and 0 at a number that is no variable of the problem.
+-- Proof of `places_along`, which returns by variable how many places are left at it along an order: 256 at the first,
+-- one less at each that follows, and 0 at a number that is no variable of the problem.
 use Rattle.std.proofs.Common.{ℕ, ◌<◌, ◌≤◌, ◌≡◌, ◌≢◌, ◌∙◌, List, All, length, arith, sym, ap, subst}
 use Rattle.std.specs.List.{AllPairs}
 use Rattle.cpg_base.specs.Graph.{process_count}

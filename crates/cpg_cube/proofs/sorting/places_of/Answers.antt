@@ -1,10 +1,11 @@
--- Proof of `places_of`: how many places are left at each of some variables, and 0 at others.
+-- Proof of `places_of`, which returns by variable how many places are left at it in a list of variables: 256 at the
+-- first, one less at each that follows, and 0 at a variable that isn't in the list.
 use Rattle.std.proofs.Common.{◌<◌, rules, arith, refl, length}
 use Rattle.std.specs.Prelude.{slice_index_or}
 use Rattle.cpg_cube.proofs.KeyPlaces.{places_none, places_more}
 use Rattle.cpg_cube.proofs.sorting.places_of.Goals as goal
 
--- before the first variable no place is written
+-- before the first variable no place is written: all are 0, and 256 are left
 pub loop-variable-init : goal.loop-variable-init
 loop-variable-init c = record { left = refl; long = refl; places = places_none }
 

@@ -1,4 +1,5 @@
--- Loops of `places_of`: how many places are left at each of some variables, and 0 at others.
+-- Loops of `places_of`, which returns by variable how many places are left at it in a list of variables: 256 at the
+-- first, one less at each that follows, and 0 at a variable that isn't in the list.
 use Rattle.std.proofs.Common.{ℕ, ◌≡◌, ◌+◌, get_or, length, take}
 use Rattle.cpg_cube.specs.Keys.{left_at}
 use Rattle.cpg_cube.proofs.sorting.places_of.Given as goal

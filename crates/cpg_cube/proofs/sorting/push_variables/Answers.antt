@@ -1,4 +1,5 @@
--- Proof of `push_variables`: adds a process's count and then its value, if it has a condition.
+-- Proof of `push_variables`, which adds the variable of a process's fault count, and then that of its condition's value
+-- if it has a condition.
 use Rattle.std.proofs.Common.{◌<◌, arith, rules}
 use Rattle.cpg_base.specs.Graph.{condition_count}
 use Rattle.cpg_base.proofs.ConditionProcesses.{condition_of_below}

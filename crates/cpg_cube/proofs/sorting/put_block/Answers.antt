@@ -1,4 +1,4 @@
--- Proof of `put_block`: puts the lows of literals, at once if all begin at 0.
+-- Proof of `put_block`, which puts the lows of a block of literals into a key; there is nothing to put if all are 0.
 use Rattle.std.proofs.Common.{◌≡◌, ◌∙◌, sym}
 use Rattle.cpg_cube.proofs.KeyPlaces.{bytes_of_none, none_put}
 use Rattle.cpg_cube.proofs.sorting.put_block.Goals as goal

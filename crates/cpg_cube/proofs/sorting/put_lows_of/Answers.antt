@@ -1,4 +1,4 @@
--- Proof of `put_lows_of`: puts the lows of literals.
+-- Proof of `put_lows_of`, which puts the lows of literals into a key.
 use Rattle.std.proofs.Common.{ℕ, ◌<◌, take, All, arith, rules, sym, subst}
 use Rattle.std.proofs.lemmas.List.{take_all, take_more}
 use Rattle.std.proofs.lemmas.List.Elements.{All-push}

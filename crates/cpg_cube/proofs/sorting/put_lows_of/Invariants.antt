@@ -1,4 +1,4 @@
--- Loops of `put_lows_of`: puts the lows of literals.
+-- Loops of `put_lows_of`, which puts the lows of literals into a key.
 use Rattle.std.proofs.Common.{◌≡◌, drop, take}
 use Rattle.cpg_cube.specs.Keys.{AreBytes, with_lows_of}
 use Rattle.cpg_cube.proofs.sorting.put_lows_of.Given as goal

@@ -1,4 +1,4 @@
--- Proof of `put_number`: puts a number before the lesser ones.
+-- Proof of `put_number`, which puts a number into a key, before the lesser ones.
 use Rattle.std.proofs.Common.{ℕ, ◌≡◌, ◌∙◌, ◌≤◌, ◌∷◌, ◌++◌, take, drop, List, length, ap, arith, rules}
 use Rattle.std.specs.Prelude.{insert}
 use Rattle.cpg_cube.specs.Keys.{place_in}

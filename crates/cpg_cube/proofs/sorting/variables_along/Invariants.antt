@@ -1,5 +1,5 @@
--- Loops of `variables_along`: the variables along an order: of each process that of its count and then that of its
--- value, if it has a condition.
+-- Loops of `variables_along`, which returns the variables along an order: for each process that of its fault count, and
+-- then that of its condition's value if it has a condition.
 use Rattle.std.proofs.Common.{◌≡◌, ◌++◌, drop}
 use Rattle.cpg_cube.specs.Keys.{variables_along}
 use Rattle.cpg_cube.proofs.sorting.variables_along.Given as goal

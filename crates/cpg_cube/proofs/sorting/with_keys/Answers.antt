@@ -1,4 +1,4 @@
--- Proof of `with_keys`: the columns with their keys.
+-- Proof of `with_keys`, which returns the columns, each with the key of its cube.
 use Rattle.std.proofs.Common.{◌≡◌, ◌∙◌, List, [], All, arith, rules, sym, ap, subst}
 use Rattle.std.proofs.lemmas.Grind.{common_steps}
 use Rattle.std.proofs.lemmas.List.Elements.{All-push}

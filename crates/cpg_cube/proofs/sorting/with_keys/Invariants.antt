@@ -1,4 +1,4 @@
--- Loops of `with_keys`: the columns with their keys.
+-- Loops of `with_keys`, which returns the columns, each with the key of its cube.
 use Rattle.std.proofs.Common.{◌≡◌, ◌++◌, map, All}
 use Rattle.cpg_cube.specs.Keys.{IsKeyOf}
 use Rattle.cpg_cube.proofs.sorting.with_keys.Given as goal

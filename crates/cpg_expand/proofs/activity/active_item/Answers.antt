@@ -1,4 +1,5 @@
--- Proof of `active_item`: a tree that is true where an item that is started or sent is active.
+-- Proof of `active_item`, which returns a tree that is true where an item is active; the item is a start, or one that
+-- is sent.
 use Rattle.std.proofs.Common.{◌≡◌, ◌<◌, ◌∙◌, ap, arith, length, subst}
 use Rattle.cpg_base.specs.Graph.{Graph, process_count, producer}
 use Rattle.cpg_rules.specs.Guards.{tree_of}

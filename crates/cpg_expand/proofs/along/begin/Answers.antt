@@ -1,4 +1,5 @@
--- Proof of `begin`: adds the start and the end of a process, its frozen time, and when its node goes on after it.
+-- Proof of `begin`, which adds the start and the end of a process, its frozen time if it is frozen, and when its node
+-- goes on after it.
 use Rattle.std.proofs.Common.{◌≡◌, ◌∙◌, false, true, refl, sym, subst, inl, inr}
 use Rattle.cpg_base.specs.Graph.{Graph, is_frozen}
 use Rattle.cpg_rules.specs.Guards.{tree_of}
@@ -29,7 +30,7 @@ returns-clause-begun c =
       is = b.is;
     }
 
--- a fault on the way of a frozen process is one on the way to its start and end
+-- the process is frozen, so a tree too large on a frozen process's way is one on the way to its start and end
 pub returns-in_err-active-clause-fault : goal.returns-in_err-active-clause-fault
 returns-in_err-active-clause-fault c =
     let g = c.args.admitted.now.graph in
@@ -42,7 +43,7 @@ returns-in_err-active-clause-fault c =
     c.from_residual.result c.in_err-active.field-0.0 c.from_residual.ensures.1
     (λ x. inr (frozen, x)) c.in_err-active.ensures.fault
 
--- a fault on the way of a process that is not frozen is one on the way to its start and end
+-- the process isn't frozen, so a tree too large on such a process's way is one on the way to its start and end
 pub returns-in_err-active-2-clause-fault : goal.returns-in_err-active-2-clause-fault
 returns-in_err-active-2-clause-fault c =
     let g = c.args.admitted.now.graph in

@@ -1,5 +1,5 @@
--- Proof of `begin_frozen`: adds the start and the end of a frozen process, its frozen time, and when its node goes on
--- after it.
+-- Proof of `begin_frozen`, which adds the start and the end of a frozen process, its frozen time, and when its node
+-- goes on after it.
 use Rattle.std.proofs.Common.{◌<◌, ◌≡◌, ◌∙◌, ap, sym, subst, length, arith}
 use Rattle.cpg_base.specs.Graph.{Graph, process_count, node_of, inputs}
 use Rattle.cpg_base.specs.Order.{place}
@@ -36,7 +36,8 @@ active-requires-clause-tests c = tests_here c.args.admitted.now.graph c.args.adm
     c.problem-problem.ensures.problem
     c.guards-guards.result.now c.guards-guards.ensures.guards c.guard_of.result.now c.guard_of.ensures.below
 
--- the span that is looked at has the graph, the guards and the order that are given
+-- the span has the graph, the guards and the order that are given, and these belong together, since the graph is
+-- admitted
 pub latest_start-requires-clause-along : goal.latest_start-requires-clause-along
 latest_start-requires-clause-along c =
     let span = c.span_before-span.result in

@@ -1,5 +1,5 @@
--- Proof of `begin_thawed`: adds the start and the end of a process that isn't frozen, and when its node goes on after
--- it.
+-- Proof of `begin_thawed`, which adds the start and the end of a process that isn't frozen, and when its node goes on
+-- after it.
 use Rattle.std.proofs.Common.{◌<◌, ◌≡◌, ◌∙◌, ap, sym, subst, length, arith, inl, inr}
 use Rattle.cpg_base.specs.Graph.{Graph, process_count, process_at, node_of}
 use Rattle.cpg_rules.specs.Guards.{Guards, tree_of}
@@ -97,7 +97,7 @@ pub follow-requires-clause-wait : goal.follow-requires-clause-wait
 follow-requires-clause-wait c =
     subst (IsWait c.problem-problem.result.now) (sym c.wait_for-wait.ensures) c.in_ok-heard.ensures.of
 
--- a tree that is too large while hearing what the guard tests is one on the way of the process
+-- a tree that is too large on the way to the wait is one on the way of a process that isn't frozen
 pub returns-in_err-heard-clause-fault : goal.returns-in_err-heard-clause-fault
 returns-in_err-heard-clause-fault c =
     let h = c.problem-problem.result.now in
@@ -114,7 +114,7 @@ returns-in_err-heard-clause-fault c =
     (inl (subst (λ n. IsLargeWait h f n found) c.node_of-node.ensures.node x)))
     c.in_err-heard.ensures.fault
 
--- a tree that is too large down to the start is one after what the process waits for
+-- the wait is made, and a tree that is too large on the way to the starts is one made from it
 pub returns-in_err-start-clause-fault : goal.returns-in_err-start-clause-fault
 returns-in_err-start-clause-fault c =
     let h = c.problem-problem.result.now in
@@ -139,7 +139,7 @@ returns-in_err-start-clause-fault c =
       large = inl (subst (λ es. IsLargeStart h f wait (process_at h p).release es found) c.inputs-inputs.ensures x);
     }))) c.in_err-start.ensures.fault
 
--- a tree of the starts or the ends that is too large is one after what the process waits for
+-- the wait and the starts are made, and a tree of the starts or the ends that is too large is one made from the wait
 pub returns-in_err-next-clause-fault : goal.returns-in_err-next-clause-fault
 returns-in_err-next-clause-fault c =
     let h = c.problem-problem.result.now in

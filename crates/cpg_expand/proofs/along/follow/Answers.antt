@@ -1,4 +1,4 @@
--- Proof of `follow`: what follows from the starts of a process: its ends, and when its node goes on after it.
+-- Proof of `follow`, which returns the ends of a process, and from when on its node goes on after it.
 use Rattle.std.proofs.Common.{ap, inl, inr}
 use Rattle.cpg_expand.specs.Forest.{ForestState}
 use Rattle.cpg_expand.specs.Large.{IsLarge, IsLargeEnd}

@@ -1,4 +1,4 @@
--- Proof of `ready_after`: when the node of a frozen process goes on after it.
+-- Proof of `ready_after`, which returns from when on the node of a frozen process goes on after it.
 use Rattle.std.proofs.Common.{◌+◌, ◌≡◌, ◌∙◌, ap, sym, subst}
 use Rattle.cpg_base.specs.Graph.{Graph, node_of}
 use Rattle.cpg_order.specs.Guard.{Guard}

@@ -1,4 +1,5 @@
--- Proof of `step`: adds the trees of a process and of what it sends, and their frozen times.
+-- Proof of `step`, which adds the trees of a process and of what it sends, and the frozen times of those that are
+-- frozen.
 use Rattle.std.proofs.Common.{◌∙◌, subst}
 use Rattle.cpg_base.specs.Graph.{Graph}
 use Rattle.cpg_bus.specs.Plan.{queue_of}
@@ -19,7 +20,7 @@ returns-clause-grown c =
     (queue_of g c.args.process) c.begin.new.forest c.send.new.forest c.begin.new.frozen c.send.new.frozen)
     c.problem-problem.ensures.problem c.in_ok-send.ensures.added)
 
--- neither the beginning nor what is sent changes the item to name
+-- the item to name is the old forest's, since neither the beginning nor the sends change it
 pub returns-clause-wide : goal.returns-clause-wide
 returns-clause-wide c =
     added_wide c.problem-problem.result.now c.args.order.now c.in_ok-active.active

@@ -1,4 +1,4 @@
--- Proof of `found`: the tree of a guard.
+-- Proof of `found`, which returns where the tree of a guard is.
 use Rattle.std.proofs.Common.{sym, subst}
 use Rattle.cpg_order.specs.Guard.{Guard}
 use Rattle.cpg_expand.specs.Large.{IsLarge}
@@ -90,7 +90,7 @@ returns-in_ok-source-in-Test-clause-found g t c =
     (subst (λ (h : Guard). g.D.Descent.fits c.args.descent.now h c.in_ok-tree-in-Test.tree) (sym c.in-Test.ensures)
     (c.in_ok-tree-in-Test.ensures.fits c.in-Test.no.now c.in-Test.yes.now low.1 high.1)) c.in_ok-source-in-Test.ensures
 
--- a fault for the leaf is one for the guard
+-- the guard is this leaf, so a fault for the leaf is one for it
 pub returns-in_err-tree-in-Leaf-clause-fault : goal.returns-in_err-tree-in-Leaf-clause-fault
 returns-in_err-tree-in-Leaf-clause-fault g t c =
     handed_on _ c.from_residual.result c.in_err-tree-in-Leaf.field-0.0 c.from_residual.ensures.1
@@ -98,7 +98,7 @@ returns-in_err-tree-in-Leaf-clause-fault g t c =
     (g.D.Descent.wide c.args.descent.now) c.in_err-tree-in-Leaf.field-0.0 c.args.guard.now c.in-Leaf.activation
     c.in-Leaf.ensures c.in_err-tree-in-Leaf.ensures.fault)
 
--- a fault for the side for false is one for the test
+-- the tree of the side for false, or one on its way, is too large, and it is on the way of the test
 pub returns-in_err-no-in-Test-clause-fault : goal.returns-in_err-no-in-Test-clause-fault
 returns-in_err-no-in-Test-clause-fault g t c =
     handed_on _ c.from_residual-in_err-no-in-Test.result c.in_err-no-in-Test.field-0.0
@@ -107,7 +107,7 @@ returns-in_err-no-in-Test-clause-fault g t c =
     (g.D.Descent.wide c.args.descent.now) c.in_err-no-in-Test.field-0.0 c.args.guard.now c.in-Test.condition
     c.in-Test.no.now c.in-Test.yes.now c.in-Test.ensures c.in_err-no-in-Test.ensures.fault)
 
--- a fault for the side for true is one for the test
+-- the tree of the side for true, or one on its way, is too large, and it is on the way of the test
 pub returns-in_err-yes-in-Test-clause-fault : goal.returns-in_err-yes-in-Test-clause-fault
 returns-in_err-yes-in-Test-clause-fault g t c =
     handed_on _ c.from_residual-in_err-yes-in-Test.result c.in_err-yes-in-Test.field-0.0

@@ -1,4 +1,5 @@
--- Proof of `asked`: a tree that is true where a process of a span before a place tests a condition.
+-- Proof of `asked`, which returns a tree that is true where the guard of some process in the span and before `to`
+-- tests the condition.
 use Rattle.std.proofs.Common.{◌≡◌, ◌≤◌, true, length, arith, ap, subst}
 use Rattle.std.specs.Bool.{OnTrue}
 use Rattle.cpg_base.specs.Graph.{process_count}
@@ -23,7 +24,7 @@ returns-then-is_true-clause-asked c =
     (subst (λ b. OnTrue b (IsConstant true c.loop-other.asked.faults c.loop-other.asked)) c.if-is_true.true
     c.is_true.ensures) c.loop-other.invariant.1
 
--- all processes have been gone over
+-- the loop is over, so all processes of the graph have been gone over
 pub returns-clause-asked : goal.returns-clause-asked
 returns-clause-asked c =
     let g = c.args.span.now.problem.now in

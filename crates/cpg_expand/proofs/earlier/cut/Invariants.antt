@@ -1,4 +1,5 @@
--- Loops of `cut`: the first place from which on the processes of a node before another place have to be looked at.
+-- Loops of `cut`, which returns a place from which on the processes of the node before `to` have to be looked at: what
+-- stands before it has ended by the end of an always active process from there on.
 use Rattle.cpg_expand.specs.Earlier.{IsCut}
 use Rattle.cpg_expand.proofs.earlier.cut.Given as goal
 

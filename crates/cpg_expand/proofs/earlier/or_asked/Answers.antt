@@ -1,4 +1,5 @@
--- Proof of `or_asked`: a tree that is true where a given one is, or where a process of a span tests a condition.
+-- Proof of `or_asked`, which returns a tree that is true where `asked` is, or where the guard of process `other` tests
+-- the condition, if `other` is in the span and before `to`.
 use Rattle.std.proofs.Common.{true, subst, sym, ◌∙◌}
 use Rattle.cpg_order.specs.Guard.{Guard}
 use Rattle.cpg_tree.specs.Tree.{IsConstant}

@@ -1,4 +1,4 @@
--- Proof of `durations`: how long an execution of a process lasts with no fault, with one, and so on.
+-- Proof of `durations`, which returns how long an execution of a process lasts with 0, 1, .. k faults.
 use Rattle.cpg_base.proofs.Lists.{map_below_push}
 use Rattle.cpg_base.specs.Duration.{duration}
 use Rattle.cpg_expand.proofs.ending.durations.Goals as goal

@@ -1,4 +1,4 @@
--- Loops of `durations`: how long an execution of a process lasts with no fault, with one, and so on.
+-- Loops of `durations`, which returns how long an execution of a process lasts with 0, 1, .. k faults.
 use Rattle.std.proofs.Common.{◌≡◌, map}
 use Rattle.cpg_base.specs.Numbers.{numbers_below}
 use Rattle.cpg_base.specs.Duration.{duration}

@@ -1,4 +1,5 @@
--- Proof of `end`: the ends of a process.
+-- Proof of `end`, which returns the ends of a process, given its starts: in each scenario the start and the duration
+-- with its fault count there, and none where it doesn't start.
 use Rattle.std.proofs.Common.{ℕ, List, ◌≡◌, ◌∙◌, subst}
 use Rattle.cpg_tree.specs.Tree.{IsJoin, IsNumber}
 use Rattle.cpg_tree.specs.Variables.{is_variable}

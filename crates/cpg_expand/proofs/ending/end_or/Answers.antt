@@ -1,5 +1,5 @@
--- Proof of `end_or`: the ends of a process and, if it is inactive, the times from which on the node would have been
--- ready for it.
+-- Proof of `end_or`, which returns a tree with the end of a process where it is active, and with the time of `wait`
+-- elsewhere.
 use Rattle.cpg_tree.proofs.Readings.{later_pass, later_each, later_map}
 use Rattle.cpg_tree.specs.Read.{later_by}
 use Rattle.cpg_tree.specs.Variables.{is_variable}

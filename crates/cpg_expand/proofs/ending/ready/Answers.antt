@@ -1,5 +1,5 @@
--- Proof of `ready`: when the node of a process goes on: after its end, or, if it is inactive, once the node would have
--- been ready for it.
+-- Proof of `ready`, which returns from when on the node of a process goes on: after its end, or where it is inactive,
+-- when its wait would be over.
 use Rattle.cpg_expand.specs.Forest.{ready_by}
 use Rattle.cpg_expand.proofs.GuardTrees.{ready_always}
 use Rattle.cpg_expand.proofs.ending.ready.Goals as goal

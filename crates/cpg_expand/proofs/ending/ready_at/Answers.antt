@@ -1,4 +1,5 @@
--- Proof of `ready_at`: when the node of a process that is not always active goes on.
+-- Proof of `ready_at`, which returns when the node of a process goes on after it, for a process that isn't always
+-- active: at its end, or where it is inactive, when its wait would be over.
 use Rattle.std.proofs.Common.{sym, subst}
 use Rattle.cpg_expand.specs.Ending.{IsReadyTree}
 use Rattle.cpg_expand.specs.Forest.{IsWait, ends_of, later_tree, ready_by}

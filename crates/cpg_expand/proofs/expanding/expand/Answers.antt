@@ -1,5 +1,5 @@
--- Proof of `expand`: the exact tables of a graph under an order, with the frozen times and, in time units, the greatest
--- finish and the greatest excess of all runs, each with its first scenario by the urgency order.
+-- Proof of `expand`, which returns the tables of a graph under an order, with the frozen times and, in time units, the
+-- greatest finish and the greatest excess of all runs, each with its least scenario by the urgency order.
 use Rattle.std.proofs.Common.{◌≡◌, ◌∙◌, subst, sym}
 use Rattle.cpg_order.specs.Urgency.{IsTopological}
 use Rattle.cpg_run.specs.Built.{IsBuiltFor}
@@ -20,7 +20,7 @@ assemble-requires c =
     (subst (IsTopological g) (sym same) c.requires.topological)
     c.in_ok-rows.rows c.in_ok-rows.ensures.rows
 
--- the tables that are assembled of the rows are those of the order that is given
+-- the order that was grown is a copy of the one given, so the tables assembled of its rows are that one's
 pub returns-clause-built : goal.returns-clause-built
 returns-clause-built c =
     let g = c.args.admitted.now.graph in

@@ -1,4 +1,4 @@
--- Proof of `grow_bounded`: does what `grow` does, but does not refuse an item for its views.
+-- Proof of `grow_bounded`, which does what `grow` does, but refuses no item for its views alone.
 use Rattle.cpg_expand.specs.Large.{HasLargeTree}
 use Rattle.cpg_expand.specs.GrownFor.{IsWidth}
 use Rattle.cpg_expand.proofs.LargeShown.{handed_on}

@@ -1,4 +1,4 @@
--- Proof of `grow_narrow`: does what `grow` does, if no item is too wide.
+-- Proof of `grow_narrow`, which does what `grow` does if no item is too wide.
 use Rattle.cpg_expand.specs.Large.{HasLargeTree}
 use Rattle.cpg_expand.proofs.LargeShown.{none_named}
 use Rattle.cpg_expand.proofs.expanding.grow_narrow.Goals as goal

@@ -1,4 +1,5 @@
--- Proof of `measured`: how good an order is, measured by its trees.
+-- Proof of `measured`, which returns all that is found under an order: its trees, with the greatest finish and the
+-- greatest excess that they tell.
 use Rattle.std.proofs.Common.{ℕ, ◌≡◌, List, Option, refl, ap, sym, subst, ◌∙◌}
 use Rattle.cpg_base.specs.Graph.{Graph, process_count}
 use Rattle.cpg_tree.specs.Tree.{TreeState}

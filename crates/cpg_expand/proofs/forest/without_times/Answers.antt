@@ -1,4 +1,4 @@
--- Proof of `without_times`: makes `count` trees that have no time in any scenario.
+-- Proof of `without_times`, which returns `count` trees that have no time in any scenario.
 use Rattle.std.proofs.Common.{None, subst}
 use Rattle.cpg_tree.specs.Tree.{IsConstant}
 use Rattle.cpg_tree.specs.Variables.{is_variable}

@@ -1,4 +1,4 @@
--- Proof of `zeros`: makes `count` trees that are 0 in every scenario.
+-- Proof of `zeros`, which returns `count` trees that are 0 in every scenario.
 use Rattle.std.proofs.Common.{subst}
 use Rattle.cpg_tree.specs.Tree.{IsConstant}
 use Rattle.cpg_tree.specs.Variables.{is_variable}

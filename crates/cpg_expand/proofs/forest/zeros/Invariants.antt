@@ -1,4 +1,4 @@
--- Loops of `zeros`: makes `count` trees that are 0 in every scenario.
+-- Loops of `zeros`, which returns `count` trees that are 0 in every scenario.
 use Rattle.std.proofs.Common.{◌≡◌, All, length}
 use Rattle.cpg_tree.specs.GraphTrees.{IsTree}
 use Rattle.cpg_tree.specs.Tree.{IsConstant}

@@ -1,4 +1,5 @@
--- Proof of `few_left`: refuses the trees that a process leaves behind, if one of them has too many leaves.
+-- Proof of `few_left`, which answers `TooWide` of the forest's item if a tree that the process leaves behind has too
+-- many leaves: one of what it sends, or that of when its node's slots are free.
 use Rattle.std.proofs.Common.{◌≡◌, ◌+◌, subst, inl, inr}
 use Rattle.cpg_base.specs.Graph.{node_of}
 use Rattle.cpg_base.specs.Order.{place}
@@ -6,14 +7,14 @@ use Rattle.cpg_expand.specs.Large.{HasLargeFree, HasLargeSend, IsLargeLeft}
 use Rattle.cpg_expand.proofs.LargeShown.{handed_as}
 use Rattle.cpg_expand.proofs.growing.few_left.Goals as goal
 
--- the tree of an item that the process sends has too many leaves
+-- an item that the process sends has too large a tree, which is one that the process leaves behind
 pub returns-in_err-few_sent : goal.returns-in_err-few_sent
 returns-in_err-few_sent c =
     handed_as (HasLargeSend c.args.problem.now c.args.process c.args.forest.now)
     (IsLargeLeft c.args.problem.now c.args.order.now c.args.process c.args.forest.now) c.args.forest.now.wide
     c.from_residual.result c.in_err-few_sent.field-0.0 c.from_residual.ensures.1 (λ x. inl x) c.in_err-few_sent.ensures
 
--- the tree of when the slots of the process's node are free has too many leaves
+-- the tree of when the slots of the process's node are free is too large, and it is one that the process leaves behind
 pub returns-in_err-few_free : goal.returns-in_err-few_free
 returns-in_err-few_free c =
     let g = c.args.problem.now in

@@ -1,4 +1,5 @@
--- Proof of `few_sent`: refuses the times of what a process sends if a tree of them has too many leaves.
+-- Proof of `few_sent`, which answers `TooWide` of the forest's item if the tree of an item that the process sends has
+-- too many leaves. `inside` is the forest as the code has it, list by list.
 use Rattle.std.proofs.Common.{◌≡◌, ◌∙◌, ℕ, ◌<◌, List, length, get_or, Contains, ap, subst, arith, refl, sym, Option}
 use Rattle.std.proofs.lemmas.List.Elements.{Contains-get_or}
 use Rattle.cpg_bus.specs.Plan.{queue_of}
@@ -24,7 +25,7 @@ index-requires c =
     (queue_of g c.args.process) c.loop-item.item-index c.loop-item-test.true is)).within in
     omega (arith, within, c.requires.forest.times, ap (λ (f : ForestState). length f.times) c.forest.view_is)
 
--- the tree of an item that the process sends has too many leaves
+-- the item stands in the process's queue, so it is one that it sends, and its tree has too many leaves
 pub returns-in_err-few : goal.returns-in_err-few
 returns-in_err-few c =
     let g = c.args.problem.now in

@@ -1,4 +1,5 @@
--- Proof of `grown`: the trees of all processes and of what they send, and the frozen times, under an order.
+-- Proof of `grown`, which returns the trees of all processes and of what they send, and the frozen times, under an
+-- order.
 use Rattle.std.proofs.Common.{ℕ, ◌<◌, List, Option, length, get_or, ◌∙◌, arith, sym, ap, subst}
 use Rattle.cpg_base.specs.Graph.{Graph, process_count}
 use Rattle.cpg_base.proofs.Places.{length_order}

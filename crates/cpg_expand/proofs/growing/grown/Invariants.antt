@@ -1,4 +1,5 @@
--- Loops of `grown`: the trees of all processes and of what they send, and the frozen times, under an order.
+-- Loops of `grown`, which returns the trees of all processes and of what they send, and the frozen times, under an
+-- order.
 use Rattle.std.proofs.Common.{◌≡◌}
 use Rattle.cpg_expand.specs.Grown.{IsGrown}
 use Rattle.cpg_expand.proofs.growing.grown.Given as goal

@@ -1,4 +1,5 @@
--- Loops of `are_own`: whether no input is from another node.
+-- Recursion of `are_own`, which says whether all these inputs come from the process's own node; so it is if there are
+-- none.
 use Rattle.std.proofs.Common.{length}
 use Rattle.cpg_expand.proofs.guarded.+are_own.Given as goal
 

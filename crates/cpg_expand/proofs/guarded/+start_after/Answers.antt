@@ -1,4 +1,4 @@
--- Proof of `start_after`: the starts of a process that waits for its node, its release and these inputs.
+-- Proof of `start_after`, which returns the starts of a process that waits for its node, its release and these inputs.
 use Rattle.std.proofs.Common.{ap, ℕ, ◌<◌, ◌∙◌, List, [], arith, sym, subst}
 use Rattle.std.proofs.lemmas.List.{nil_from_length}
 use Rattle.std.proofs.lemmas.Option.{MatchOption-at_none}
@@ -80,7 +80,7 @@ returns-in_err-start-2-clause-fault t c =
     c.in-Some.edge.now c.in-Some.others.now c.in-Some.ensures.cases.0
     (sym c.is_message.ensures ∙ c.if-not-is_message.true) c.in_err-start-2.ensures.fault)
 
--- the tree of the wait and the first input has too many leaves
+-- the first input comes from another node, and the tree of the wait with it has too many leaves
 pub returns-in_err-few-clause-fault : goal.returns-in_err-few-clause-fault
 returns-in_err-few-clause-fault t c =
     handed_on _ c.from_residual-in_err-few.result c.in_err-few.field-0.0 c.from_residual-in_err-few.ensures.1
@@ -90,7 +90,7 @@ returns-in_err-few-clause-fault t c =
     (named_as (IsLarge c.in_ok-there.there) c.forest.inside.wide c.args.forest.now.wide c.in_err-few.field-0.0
     (ap (λ (x : ForestState). x.wide) c.forest.view_is) c.in_err-few.ensures))
 
--- a fault for the others, after the first input, is one for all
+-- a tree too large with the other inputs, after the wait with the first, is one on the way of all inputs
 pub returns-in_err-start-4-clause-fault : goal.returns-in_err-start-4-clause-fault
 returns-in_err-start-4-clause-fault t c =
     handed_on _ c.from_residual-in_err-start-4.result c.in_err-start-4.field-0.0

@@ -1,4 +1,5 @@
--- Loops of `start_after`: the starts of a process that waits for its node, its release and these inputs.
+-- Recursion of `start_after`, which returns the starts of a process that waits for its node, its release and these
+-- inputs.
 use Rattle.std.proofs.Common.{length}
 use Rattle.cpg_expand.proofs.guarded.+start_after.Given as goal
 

@@ -1,5 +1,5 @@
--- Loops of `start_where`: the starts of a process where it is active, and no time elsewhere, if it waits for its node,
--- its release and these inputs.
+-- Recursion of `start_where`, which returns the starts of a process where it is active, and no time elsewhere; there
+-- it waits for its node, its release and these inputs.
 use Rattle.std.proofs.Common.{length}
 use Rattle.cpg_expand.proofs.guarded.+start_where.Given as goal
 

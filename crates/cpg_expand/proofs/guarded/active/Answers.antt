@@ -1,7 +1,8 @@
--- Proof of `active`: a tree that is true where a guard leads to an active leaf.
+-- Proof of `active`, which returns a tree that is true where a guard leads to an active leaf, so where its process is
+-- active.
 use Rattle.cpg_expand.proofs.PartsKnown.{any_leaves}
 use Rattle.cpg_expand.proofs.guarded.active.Goals as goal
 
--- the descent asks nothing of the leaves
+-- the descent for activity takes any leaf
 pub tree_down-requires-clause-leaves : goal.tree_down-requires-clause-leaves
 tree_down-requires-clause-leaves c = any_leaves c.args.guard.now

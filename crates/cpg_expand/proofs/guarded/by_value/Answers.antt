@@ -1,4 +1,5 @@
--- Proof of `by_value`: the tree that the value of a condition picks.
+-- Proof of `by_value`, which returns the tree that has the values of `yes` where the condition is true and those of
+-- `no` where it is false.
 use Rattle.std.proofs.Common.{◌+◌, ◌∙◌, subst}
 use Rattle.cpg_base.specs.Scenario.{number_of_value}
 use Rattle.cpg_tree.specs.Tree.{IsNumber}

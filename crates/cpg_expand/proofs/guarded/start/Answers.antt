@@ -1,4 +1,5 @@
--- Proof of `start`: the starts of a process with a guard: it waits for its node, its release and its inputs.
+-- Proof of `start`, which returns the starts of a process with a guard: it waits for its node, its release and its
+-- inputs.
 use Rattle.std.proofs.Common.{inl, inr}
 use Rattle.cpg_tree.proofs.Forks.{from_true}
 use Rattle.cpg_expand.specs.Forest.{ready_by}
@@ -32,7 +33,7 @@ returns-in_err-start-clause-fault c =
     c.from_residual.result c.in_err-start.field-0.0 c.from_residual.ensures.1
     (λ x. inl (for_all, x)) c.in_err-start.ensures.fault
 
--- a fault down the guard is one of the starts
+-- the inputs are taken at the leaves, so a tree too large on the way down the guard is one on the way to the starts
 pub returns-in_err-start-2-clause-fault : goal.returns-in_err-start-2-clause-fault
 returns-in_err-start-2-clause-fault c =
     let g = c.args.problem.now in

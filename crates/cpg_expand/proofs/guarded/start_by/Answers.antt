@@ -1,4 +1,6 @@
--- Proof of `start_by`: the starts of a process with an activation: it waits for its node, its release and its inputs.
+-- Proof of `start_by`, which returns the starts of a process with this activation: none if it is inactive, and
+-- otherwise once its node is ready, at its release or later, when all inputs, or the one that the activation names,
+-- are there.
 use Rattle.std.proofs.Common.{None, sym, subst, refl}
 use Rattle.cpg_base.specs.declared.activation.Activation.{Activation}
 use Rattle.cpg_base.specs.declared.activation.Activation.TheVariants.{Plain, By}

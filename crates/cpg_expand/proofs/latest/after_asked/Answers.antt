@@ -1,5 +1,5 @@
--- Proof of `after_asked`: the greater of a time and of the latest time at which a node has heard a condition where a
--- tree is true and a guard of a span before a place tests it.
+-- Proof of `after_asked`, which returns `latest`, raised to the latest time at which the span's node hears the
+-- condition, where `active` is true and the guard of some process in the span and before `to` tests it.
 use Rattle.std.proofs.Common.{subst}
 use Rattle.cpg_expand.specs.Forest.{heard_delay, heard_tree}
 use Rattle.cpg_expand.specs.Latest.{HasLater, IsRaised}

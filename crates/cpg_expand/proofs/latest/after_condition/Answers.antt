@@ -1,5 +1,5 @@
--- Proof of `after_condition`: the greater of a time and of the latest time at which a node has heard a condition where
--- a tree is true.
+-- Proof of `after_condition`, which returns `latest`, raised to the latest time at which a node hears a condition in a
+-- scenario in which `wanted` is true; `latest` if there is none.
 use Rattle.std.proofs.Common.{◌∙◌, ap, sym, subst}
 use Rattle.cpg_base.specs.Bus.{slot_length}
 use Rattle.cpg_base.specs.Graph.{home, node_of}

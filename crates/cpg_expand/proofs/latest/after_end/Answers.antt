@@ -1,4 +1,5 @@
--- Proof of `after_end`: the greater of a time and of the latest end of a process where a tree is true.
+-- Proof of `after_end`, which returns `latest`, raised to the latest end of a process in a scenario in which `wanted`
+-- is true; `latest` if there is none. `inside` is the forest as the code has it, list by list.
 use Rattle.std.proofs.Common.{ℕ, ◌≡◌, Option, refl, sym, subst}
 use Rattle.cpg_expand.specs.Forest.{ForestState, ends_of}
 use Rattle.cpg_expand.specs.Latest.{HasLater, IsRaised, or_later}

@@ -1,4 +1,5 @@
--- Proof of `after_ends`: the greater of a time and of the latest end of any process of a span before a place.
+-- Proof of `after_ends`, which returns `first`, raised to the latest end, where `active` is true, of any process in
+-- the span and before `to`.
 use Rattle.cpg_expand.proofs.LatestFound.{next_ended, none_ended}
 use Rattle.cpg_expand.proofs.latest.after_ends.Goals as goal
 

@@ -1,4 +1,5 @@
--- Proof of `after_frame`: the greater of a time and of the latest time at which a frame is there where a tree is true.
+-- Proof of `after_frame`, which returns `latest`, raised to the latest arrival of an item's frame in a scenario in
+-- which `wanted` is true; `latest` if there is none. `inside` is the forest as the code has it, list by list.
 use Rattle.std.proofs.Common.{ℕ, ◌≡◌, ◌∙◌, Option, refl, ap, sym, subst}
 use Rattle.cpg_base.specs.Bus.{slot_length}
 use Rattle.cpg_base.specs.Graph.{home}

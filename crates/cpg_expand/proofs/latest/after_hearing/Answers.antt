@@ -1,5 +1,5 @@
--- Proof of `after_hearing`: the greater of a time and of the latest time at which a node has heard what a guard of a
--- span before a place tests, where a tree is true.
+-- Proof of `after_hearing`, which returns `first`, raised to the latest time at which the span's node hears any
+-- condition where `active` is true and the guard of some process in the span and before `to` tests it.
 use Rattle.cpg_expand.proofs.LatestFound.{next_heard, none_heard}
 use Rattle.cpg_expand.proofs.latest.after_hearing.Goals as goal
 

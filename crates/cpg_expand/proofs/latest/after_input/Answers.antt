@@ -1,4 +1,5 @@
--- Proof of `after_input`: the greater of a time and of the latest time at which an input from another node is there.
+-- Proof of `after_input`, which returns `latest`, raised to the latest arrival of an input where `active` is true, if
+-- it comes from another node.
 use Rattle.std.proofs.Common.{◌≡◌, ◌∙◌, true, sym, subst}
 use Rattle.cpg_base.specs.Bus.{slot_length}
 use Rattle.cpg_base.specs.Graph.{home, is_message}

@@ -1,4 +1,5 @@
--- Proof of `after_inputs`: the greater of a time and of the latest time at which any of these inputs is there.
+-- Proof of `after_inputs`, which returns `first`, raised to the latest arrival, where `active` is true, of any of
+-- these inputs that comes from another node.
 use Rattle.std.proofs.Common.{get_or, refl}
 use Rattle.cpg_expand.proofs.LatestFound.{next_raised}
 use Rattle.cpg_expand.proofs.latest.after_inputs.Goals as goal

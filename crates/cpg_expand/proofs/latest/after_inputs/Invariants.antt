@@ -1,4 +1,5 @@
--- Loops of `after_inputs`: the greater of a time and of the latest time at which any of these inputs is there.
+-- Loops of `after_inputs`, which returns `first`, raised to the latest arrival, where `active` is true, of any of
+-- these inputs that comes from another node.
 use Rattle.std.proofs.Common.{take}
 use Rattle.cpg_expand.specs.Latest.{HasInputOf, IsRaised}
 use Rattle.cpg_expand.proofs.latest.after_inputs.Given as goal

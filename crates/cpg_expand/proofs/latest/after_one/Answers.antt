@@ -1,5 +1,5 @@
--- Proof of `after_one`: the greater of a time and of the latest end of a process where a tree is true, if the process
--- is one of a span before a place.
+-- Proof of `after_one`, which returns `latest`, raised to the latest end of process `other` where `active` is true, if
+-- that is in the span and before `to`.
 use Rattle.std.proofs.Common.{◌∙◌, sym}
 use Rattle.cpg_expand.proofs.EarlierFound.{between_from}
 use Rattle.cpg_expand.proofs.LatestFound.{one_ended}

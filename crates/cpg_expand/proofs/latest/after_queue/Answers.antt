@@ -1,5 +1,5 @@
--- Proof of `after_queue`: the greater of a time and of a round after the last of the items that stand before an item in
--- the queue of its node.
+-- Proof of `after_queue`, which returns `first`, raised to a round after the latest time of each item that stands
+-- before `sent` in the queue of its node, in a scenario in which `sent` goes.
 use Rattle.cpg_expand.proofs.LatestFound.{next_queued, none_queued}
 use Rattle.cpg_expand.proofs.latest.after_queue.Goals as goal
 

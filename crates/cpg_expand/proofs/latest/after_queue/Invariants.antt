@@ -1,5 +1,5 @@
--- Loops of `after_queue`: the greater of a time and of a round after the last of the items that stand before an item in
--- the queue of its node.
+-- Loops of `after_queue`, which returns `first`, raised to a round after the latest time of each item that stands
+-- before `sent` in the queue of its node, in a scenario in which `sent` goes.
 use Rattle.cpg_expand.specs.Latest.{HasQueuedOf, IsRaised}
 use Rattle.cpg_expand.proofs.latest.after_queue.Given as goal
 

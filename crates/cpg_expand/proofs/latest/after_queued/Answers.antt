@@ -1,5 +1,6 @@
--- Proof of `after_queued`: the greater of a time and of a round after the latest time at which an item is sent where
--- another one goes, if it stands before that one in the queue of its node.
+-- Proof of `after_queued`, which returns `latest`, raised to a round after the latest time of item `other` in a
+-- scenario in which `sent` goes, if `other` stands before it in the queue of its node. `inside` is the forest as the
+-- code has it, list by list.
 use Rattle.std.proofs.Common.{ℕ, ◌≡◌, ◌∙◌, Option, refl, sym, subst}
 use Rattle.cpg_tree.specs.Tree.{TreeState}
 use Rattle.cpg_base.specs.Bus.{round}

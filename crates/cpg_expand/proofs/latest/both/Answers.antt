@@ -1,4 +1,4 @@
--- Proof of `both`: a tree that is true where both of two trees are.
+-- Proof of `both`, which returns a tree that is true where both are.
 use Rattle.std.proofs.Common.{false, subst}
 use Rattle.cpg_tree.specs.Tree.{IsConstant}
 use Rattle.cpg_tree.specs.Variables.{is_variable}

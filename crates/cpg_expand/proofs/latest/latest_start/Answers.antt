@@ -1,4 +1,6 @@
--- Proof of `latest_start`: the latest start of a process.
+-- Proof of `latest_start`, which returns the latest start of a process in any scenario: it waits for its release,
+-- these inputs, the ends of the processes in the span before it, and until its node has heard what their guards and
+-- its own test.
 use Rattle.std.proofs.Common.{◌+◌, Some, ap, subst, ◌∙◌}
 use Rattle.cpg_base.specs.Graph.{condition_count, process_count, process_at}
 use Rattle.cpg_tree.specs.Tree.{HasOnePathEach, IsConstant}

@@ -1,4 +1,5 @@
--- Proof of `most_where`: the greatest time of a tree in a scenario in which another one is true.
+-- Proof of `most_where`, which returns the greatest time that `tree` has in a scenario in which `wanted` is true;
+-- `None` exactly if there is none.
 use Rattle.cpg_expand.proofs.LatestFound.{top_where}
 use Rattle.cpg_expand.proofs.latest.most_where.Goals as goal
 

@@ -1,4 +1,4 @@
--- Proof of `rows`: a row for each item: its tree is either kept in it or given back.
+-- Proof of `rows`, which returns a row for each item, by number.
 use Rattle.std.proofs.Common.{◌≡◌, ◌<◌, ◌∙◌, ◌∷◌, length, get_or, arith, rules, sym, ap, subst}
 use Rattle.cpg_tree.specs.GraphTrees.{IsTree}
 use Rattle.cpg_tree.specs.GraphTrees.{no_tree}
@@ -10,7 +10,7 @@ use Rattle.cpg_expand.specs.WideRows.{HaveWideRows}
 use Rattle.cpg_expand.proofs.LargeShown.{handed_on}
 use Rattle.cpg_expand.proofs.rows.rows.Goals as goal
 
--- the next tree is that of the item whose row is made
+-- the trees left begin with that of the next item, so the tree is one of the graph
 pub row-requires-clause-tree : goal.row-requires-clause-tree
 row-requires-clause-tree c =
     let g = c.args.problem.now in
@@ -65,7 +65,7 @@ returns-clause-few c =
     few_all c.args.wide c.args.problem.now c.loop-tree.rows.items c.loop-tree.item c.loop-tree.load
     (search rules) inv.few
 
--- this row, or all rows up to it, have too many columns
+-- the load refuses this row alone or all rows up to it, so the rows of the graph's trees are too wide
 pub returns-in_err-load-clause-fault : goal.returns-in_err-load-clause-fault
 returns-in_err-load-clause-fault c =
     let g = c.args.problem.now in

@@ -1,4 +1,4 @@
--- Loops of `rows`: a row for each item: its tree is either kept in it or given back.
+-- Loops of `rows`, which returns a row for each item, by number.
 use Rattle.std.proofs.Common.{◌≡◌, ◌≤◌, ◌+◌, drop, length}
 use Rattle.cpg_base.specs.declared.limits.TheConstants.{MOST_LOAD}
 use Rattle.cpg_tree_columns.specs.MadeRows.{AreFirstRows}

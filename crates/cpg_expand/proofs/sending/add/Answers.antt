@@ -1,4 +1,5 @@
--- Proof of `add`: adds the times of an item that a process sends, and when the slots of its node are free then.
+-- Proof of `add`, which adds an item that a process sends: its times, its frozen time if it is frozen, and when the
+-- slots of its node are free after it.
 use Rattle.std.proofs.Common.{◌∙◌}
 use Rattle.cpg_expand.proofs.FreeRead.{has_put}
 use Rattle.cpg_expand.proofs.SentTrees.{sent_count, item_added}

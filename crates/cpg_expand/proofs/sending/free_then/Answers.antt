@@ -1,4 +1,5 @@
--- Proof of `free_then`: when the slots of an item's node are free once it is sent, if an item waits for that.
+-- Proof of `free_then`, which returns when the slots of an item's node are free after it, if an item waits for that;
+-- otherwise any tree. `inside` is the forest as the code has it, list by list.
 use Rattle.std.proofs.Common.{arith, refl}
 use Rattle.cpg_base.specs.Bus.{round}
 use Rattle.cpg_base.specs.Graph.{home}

@@ -1,4 +1,5 @@
--- Proof of `freed`: when the slots are free once an item is sent.
+-- Proof of `freed`, which returns when the slots are free after an item: a round after it where it goes, and as before
+-- elsewhere.
 use Rattle.std.proofs.Common.{◌≡◌, ◌∙◌, true, false, sym}
 use Rattle.cpg_tree.proofs.Readings.{later_pass, later_each, later_map}
 use Rattle.cpg_tree.specs.Read.{later_by}

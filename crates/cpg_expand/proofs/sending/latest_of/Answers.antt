@@ -1,4 +1,5 @@
--- Proof of `latest_of`: the latest time at which an item would be sent, its frozen time aside, where it goes.
+-- Proof of `latest_of`, which returns the latest time at which a frozen item would be sent if it weren't frozen;
+-- `None` exactly if it never goes. `inside` is the forest as the code has it, list by list.
 use Rattle.std.proofs.Common.{◌∙◌, ap, arith}
 use Rattle.cpg_base.specs.Graph.{home, producer}
 use Rattle.cpg_bus.specs.Share.{share_of}

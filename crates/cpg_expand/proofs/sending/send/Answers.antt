@@ -1,4 +1,4 @@
--- Proof of `send`: adds what a process sends, in its order.
+-- Proof of `send`, which adds the items that a process sends, in the order of its queue.
 use Rattle.std.proofs.Common.{◌≡◌, ℕ, ◌<◌, List, length, get_or, Contains, ap, subst, arith}
 use Rattle.std.proofs.lemmas.List.Elements.{Contains-get_or}
 use Rattle.cpg_bus.specs.Plan.{queue_of}

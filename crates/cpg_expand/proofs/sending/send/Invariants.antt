@@ -1,4 +1,4 @@
--- Loops of `send`: adds what a process sends, in its order.
+-- Loops of `send`, which adds the items that a process sends, in the order of its queue.
 use Rattle.std.proofs.Common.{◌≡◌, length, take}
 use Rattle.cpg_base.specs.Graph.{item_count}
 use Rattle.cpg_bus.specs.Plan.{queue_of}

@@ -1,4 +1,5 @@
--- Proof of `slots_of`: the first free slots of an item's node at its producer's end or later, where the item goes.
+-- Proof of `slots_of`, which returns a tree with the first free slot of an item's node at its producer's end or later
+-- where the item goes, and no time elsewhere. `inside` is the forest as the code has it, list by list.
 use Rattle.std.proofs.Common.{◌∙◌, ap, arith, refl}
 use Rattle.cpg_base.specs.Graph.{home, producer}
 use Rattle.cpg_bus.specs.Share.{share_of}

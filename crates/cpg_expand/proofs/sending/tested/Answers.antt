@@ -1,4 +1,4 @@
--- Proof of `tested`: a tree that is true where a given one is and a condition has a value.
+-- Proof of `tested`, which returns a tree that is true where `active` is and the condition has the value `wanted`.
 use Rattle.std.proofs.Common.{◌+◌, false, subst}
 use Rattle.cpg_base.specs.Scenario.{number_of_value}
 use Rattle.cpg_tree.specs.Tree.{IsConstant, IsNumber}

@@ -1,4 +1,5 @@
--- Proof of `unfrozen_sent`: the first free slots at the end of a process or later, where an item is sent.
+-- Proof of `unfrozen_sent`, which returns a tree with the first free slot at `end` or later where an item goes, and no
+-- time elsewhere.
 use Rattle.std.proofs.Common.{None, subst}
 use Rattle.cpg_tree.specs.Tree.{IsConstant}
 use Rattle.cpg_tree.specs.Variables.{is_variable}

@@ -1,5 +1,5 @@
--- Proof of `freeze`: sets the latest time of an item as its frozen time, if there is one, and gives the tree of that
--- one time.
+-- Proof of `freeze`, which sets `latest` as the frozen time of an item, and returns the tree that has this time where
+-- the item goes.
 use Rattle.cpg_tree.specs.Variables.{is_variable}
 use Rattle.cpg_tree.proofs.GraphTrees.{same_tree}
 use Rattle.cpg_expand.proofs.starting.freeze.Goals as goal

@@ -1,11 +1,11 @@
--- Proof of `unfrozen_start`: the starts of a process, its frozen time aside, by where it is active.
+-- Proof of `unfrozen_start`, which returns the starts of a process that isn't frozen.
 use Rattle.std.proofs.Common.{subst}
 use Rattle.std.specs.Prelude.{IfErr}
 use Rattle.cpg_expand.specs.Forest.{ready_by}
 use Rattle.cpg_expand.specs.Large.{IsLargeStart, ShowsLarge}
 use Rattle.cpg_expand.proofs.starting.unfrozen_start.Goals as goal
 
--- a fault down the guard is one of the starts
+-- a tree that is too large on the way down the guard is one on the way to the starts
 pub returns-clause-fault : goal.returns-clause-fault
 returns-clause-fault c =
     let g = c.args.problem.now in

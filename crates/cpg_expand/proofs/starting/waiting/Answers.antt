@@ -1,4 +1,5 @@
--- Proof of `waiting`: from when on a node is ready for a process with a guard and has heard what the guard tests.
+-- Proof of `waiting`, which returns from when on a node is ready for a process and has heard what its guard tests.
+-- `inside` is the forest as the code has it, list by list.
 use Rattle.std.proofs.Common.{◌≡◌, refl, ap, subst, inl, inr}
 use Rattle.cpg_expand.specs.Forest.{ForestState, ready_at, ready_by}
 use Rattle.cpg_expand.specs.Later.{IsLatest}
@@ -31,7 +32,7 @@ returns-in_ok-few-in-Test-clause-wait c =
     wait_valued g f node c.args.guard.now heard wait c.in_ok-heard-in-Test.ensures.heard
     (subst (λ (r : Ready). IsLatest g.faults (ready_by g f r) heard wait) same c.in_ok-wait-in-Test.ensures.both)
 
--- the tree of when the node is ready has too many leaves
+-- the tree of when the node is ready has too many leaves, and the wait is made from it
 pub returns-in_err-few_ready-clause-fault : goal.returns-in_err-few_ready-clause-fault
 returns-in_err-few_ready-clause-fault c =
     handed_as (IsLarge (ready_of c.args.problem.now c.args.forest.now c.args.node))
@@ -39,7 +40,7 @@ returns-in_err-few_ready-clause-fault c =
     c.from_residual.result c.in_err-few_ready.field-0.0 c.from_residual.ensures.1
     (λ x. inl x) c.in_err-few_ready.ensures
 
--- a tree that is too large while hearing what the guard tests is one of the wait
+-- a tree that is too large on the way to what the guard tests is heard is one on the way to the wait
 pub returns-in_err-heard-in-Test-clause-fault : goal.returns-in_err-heard-in-Test-clause-fault
 returns-in_err-heard-in-Test-clause-fault c =
     handed_as (IsLargeHeard c.args.problem.now c.args.forest.now c.args.node c.args.guard.now)
@@ -47,7 +48,7 @@ returns-in_err-heard-in-Test-clause-fault c =
     c.from_residual-in_err-heard-in-Test.result c.in_err-heard-in-Test.field-0.0
     c.from_residual-in_err-heard-in-Test.ensures.1 (λ x. inr (inl x)) c.in_err-heard-in-Test.ensures.fault
 
--- the tree of when the node is ready and has heard what the guard tests has too many leaves
+-- the wait itself, when the node is ready and has heard what the guard tests, has too many leaves
 pub returns-in_err-few-in-Test-clause-fault : goal.returns-in_err-few-in-Test-clause-fault
 returns-in_err-few-in-Test-clause-fault c =
     let g = c.args.problem.now in

@@ -1,4 +1,5 @@
--- Loops of `is_queued_from`: whether an item that isn't frozen is sent by a node, for a process at a place or later.
+-- Loops of `is_queued_from`, which says whether the node sends some item that isn't frozen for a process at the place
+-- `at` or later.
 use Rattle.std.specs.Prelude.{ℕ, ◌≡◌, ◌≤◌, ◌<◌, true, false}
 use Rattle.cpg_base.specs.Graph.{home, is_frozen, is_sent, producer}
 use Rattle.cpg_base.specs.Order.{place}

@@ -1,4 +1,4 @@
--- Loops of `is_waited_for`: whether some process behind a given one is on the same node and is not frozen.
+-- Loops of `is_waited_for`, which says whether some process behind a given one is on the same node and isn't frozen.
 use Rattle.std.specs.Prelude.{ℕ, ◌≡◌, ◌<◌, false}
 use Rattle.cpg_base.specs.Graph.{node_of, is_frozen}
 use Rattle.cpg_base.specs.Order.{place}

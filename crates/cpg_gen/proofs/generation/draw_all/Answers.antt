@@ -1,4 +1,4 @@
--- Proof of `draw_all`: the processes and edges, drawn in the order of the processes.
+-- Proof of `draw_all`, which returns the processes and edges of the graph.
 use Rattle.std.proofs.Common.{rules, ℕ, ◌≡◌, ◌++◌, ◌∙◌, sym, ap, ap₂, cond, map}
 use Rattle.std.specs.List.{flat_map}
 use Rattle.cpg_base.specs.Numbers.{numbers_below}
@@ -11,7 +11,7 @@ use Rattle.cpg_gen.proofs.Advancing.{number_after-zero, number_after-suc}
 use Rattle.cpg_gen.proofs.Steps.{number_before_after, flat_map_below_push}
 use Rattle.cpg_gen.proofs.generation.draw_all.Goals as goal
 
--- at the start nothing is drawn
+-- before the first process nothing is drawn, and the draws start from the number itself
 pub loop-process_number-init : goal.loop-process_number-init
 loop-process_number-init c = record {
   draws = sym (number_after-zero c.args.number);
@@ -49,7 +49,7 @@ returns-clause-processes c =
     let ended : c.loop-process_number.process_number ≡ 60 = search rules in
     c.loop-process_number.invariant.processes ∙ ap (λ n. map (generated_process c.args.number) (numbers_below n)) ended
 
--- and all edges
+-- after 60 rounds all edges are drawn
 pub returns-clause-edges : goal.returns-clause-edges
 returns-clause-edges c =
     let ended : c.loop-process_number.process_number ≡ 60 = search rules in

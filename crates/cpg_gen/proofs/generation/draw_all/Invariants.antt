@@ -1,4 +1,4 @@
--- Loops of `draw_all`: the processes and edges, drawn in the order of the processes.
+-- Loops of `draw_all`, which returns the processes and edges of the graph.
 use Rattle.std.proofs.Common.{◌≡◌, map}
 use Rattle.std.specs.List.{flat_map}
 use Rattle.cpg_base.specs.Numbers.{numbers_below}

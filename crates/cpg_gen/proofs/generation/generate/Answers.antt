@@ -1,5 +1,5 @@
--- Proof of `generate`: the graph that a number generates: 60 processes on four nodes with at most two conditions, two
--- faults, and a deadline of 10^9 time units.
+-- Proof of `generate`, which returns the graph that a number generates: 60 processes on four nodes with at most two
+-- conditions, for two faults, with a deadline of 10^9 time units.
 use Rattle.cpg_gen.proofs.Limits.{parts_within}
 use Rattle.cpg_gen.proofs.generation.generate.Goals as goal
 

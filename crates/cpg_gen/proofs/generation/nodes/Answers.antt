@@ -1,11 +1,11 @@
--- Proof of `nodes`: the names of the four nodes.
+-- Proof of `nodes`, which returns the names of the four nodes: N0 to N3.
 use Rattle.std.proofs.Common.{rules}
 use Rattle.cpg_base.proofs.Lists.{map_below_push}
 use Rattle.cpg_gen.specs.Generated.{node_name}
 use Rattle.cpg_gen.proofs.Names.{node_name_is}
 use Rattle.cpg_gen.proofs.generation.nodes.Goals as goal
 
--- the letter and the number make a name
+-- `N` and a number below 4 make a name
 pub numbered-requires : goal.numbered-requires
 numbered-requires c = node_name_is c.loop-node.node (search rules)
 

@@ -1,4 +1,4 @@
--- Loops of `nodes`: the names of the four nodes.
+-- Loops of `nodes`, which returns the names of the four nodes: N0 to N3.
 use Rattle.std.proofs.Common.{◌≡◌, map}
 use Rattle.cpg_base.specs.Numbers.{numbers_below}
 use Rattle.cpg_gen.specs.Generated.{node_name}

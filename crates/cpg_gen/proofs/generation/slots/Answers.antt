@@ -1,4 +1,4 @@
--- Proof of `slots`: the slots of the four nodes.
+-- Proof of `slots`, which returns the slots of the four nodes, one each in the order of the nodes.
 use Rattle.cpg_base.proofs.Lists.{map_below_push}
 use Rattle.cpg_gen.specs.Generated.{slot_of}
 use Rattle.cpg_gen.proofs.generation.slots.Goals as goal

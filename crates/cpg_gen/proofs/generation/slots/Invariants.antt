@@ -1,4 +1,4 @@
--- Loops of `slots`: the slots of the four nodes.
+-- Loops of `slots`, which returns the slots of the four nodes, one each in the order of the nodes.
 use Rattle.std.proofs.Common.{◌≡◌, map}
 use Rattle.cpg_base.specs.Numbers.{numbers_below}
 use Rattle.cpg_gen.specs.Generated.{slot_of}

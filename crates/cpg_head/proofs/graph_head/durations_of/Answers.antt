@@ -1,9 +1,9 @@
--- Proof of `durations_of`: how long the executions of a process take.
+-- Proof of `durations_of`, which returns how long the executions of a process last.
 use Rattle.cpg_base.specs.Duration.{duration}
 use Rattle.cpg_base.proofs.Lists.{map_below_push}
 use Rattle.cpg_head.proofs.graph_head.durations_of.Goals as goal
 
--- the duration with one more fault is added
+-- the duration with the next number of faults is added behind those with less
 pub loop-faults-preserved : goal.loop-faults-preserved
 loop-faults-preserved c =
     map_below_push (duration c.args.problem.now c.args.process) c.loop-faults.times.items c.push.new.self.items

@@ -1,4 +1,4 @@
--- Loops of `durations_of`: how long the executions of a process take.
+-- Loops of `durations_of`, which returns how long the executions of a process last.
 use Rattle.std.proofs.Common.{◌≡◌, map}
 use Rattle.cpg_base.specs.Numbers.{numbers_below}
 use Rattle.cpg_base.specs.Duration.{duration}

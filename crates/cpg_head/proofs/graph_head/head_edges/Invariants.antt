@@ -1,4 +1,4 @@
--- Loops of `head_edges`: the ends of the edges.
+-- Loops of `head_edges`, which returns for each edge the processes that it leads from and to.
 use Rattle.std.proofs.Common.{◌≡◌, map, take}
 use Rattle.cpg_head.proofs.graph_head.head_edges.Given as goal
 

@@ -1,9 +1,9 @@
--- Proof of `head_processes`: what a head says of each process.
+-- Proof of `head_processes`, which returns what a head says of each process, by number.
 use Rattle.cpg_base.proofs.Lists.{map_below_push}
 use Rattle.cpg_head.specs.GraphHead.{head_process}
 use Rattle.cpg_head.proofs.graph_head.head_processes.Goals as goal
 
--- one more process is added
+-- what the head says of the next process is added behind what it says of those before
 pub loop-process-preserved : goal.loop-process-preserved
 loop-process-preserved c =
     map_below_push (head_process c.args.problem.now) c.loop-process.processes.items c.push.new.self.items

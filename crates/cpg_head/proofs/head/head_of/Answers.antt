@@ -1,4 +1,4 @@
--- Proof of `head_of`: the head of tables for a graph.
+-- Proof of `head_of`, which returns the head of tables for a graph.
 use Rattle.std.proofs.Common.{◌≡◌, rules, sym, subst, option_map}
 use Rattle.cpg_head.specs.Head.{Head, IsHead}
 use Rattle.cpg_head.specs.GraphHead.{head_of}

@@ -1,4 +1,4 @@
--- Loops of `condition_total`: how many of the first `processes` processes have a condition.
+-- Loops of `condition_total`, which returns how many of the first `processes` processes have a condition.
 use Rattle.std.proofs.Common.{◌≡◌, ◌≤◌, length, filter}
 use Rattle.cpg_base.specs.Numbers.{numbers_below}
 use Rattle.cpg_base.specs.Conditions.{has_conditional_output}

@@ -1,11 +1,12 @@
--- Proof of `edge_total`: how many edges there are in all instances.
+-- Proof of `edge_total`, which returns how many edges there are in all instances.
 use Rattle.std.proofs.Common.{◌≡◌, length, ap, sym, arith}
 use Rattle.cpg_hyper.proofs.Counted.{more_edges, part_le}
 use Rattle.cpg_hyper.proofs.edges.edge_total.Goals as goal
 
--- the edges of one more part are counted
+-- with the next part's edges counted, the sum is that of one part more, and still too small to overflow
 pub loop-part-preserved : goal.loop-part-preserved
 loop-part-preserved c =
+    -- the code counts the edges of this part
     let count : length c.part-item.result.problem.edges ≡ length c.edges.result.now =
     ap length (sym c.edges.ensures.edges) in
     let most = part_le c.args.whole c.part-item.result.period

@@ -1,4 +1,4 @@
--- Proof of `unrolled_edges`: the edges of all instances of all parts.
+-- Proof of `unrolled_edges`, which returns the edges of all instances of all parts.
 use Rattle.std.proofs.Common.{◌≡◌, length, ap, sym, arith}
 use Rattle.cpg_hyper.specs.Unrolled.{size_of}
 use Rattle.cpg_hyper.proofs.Counted.{more_processes, next_edges}
@@ -18,6 +18,7 @@ add_part-requires-clause-few c =
 -- the processes of this part are few enough to be multiplied
 pub overflow_mul-first : goal.overflow_mul-first
 overflow_mul-first c =
+    -- the code counts the processes of this part
     let count : size_of c.part-item.result ≡ length c.processes.result.now =
     ap length (sym c.processes.ensures.processes) in
     rw (← count) (omega (
@@ -31,6 +32,7 @@ overflow_mul-first c =
 -- the processes up to this part are few enough to be added
 pub overflow_add-first : goal.overflow_add-first
 overflow_add-first c =
+    -- the code counts the processes of this part
     let count : size_of c.part-item.result ≡ length c.processes.result.now =
     ap length (sym c.processes.ensures.processes) in
     rw (← count) (omega (
@@ -41,9 +43,10 @@ overflow_add-first c =
           c.loop-part.invariant.first,
     ))
 
--- the edges of one more part are added
+-- with the edges of the next part added, the list has those of one part more, and `first` is behind its processes
 pub loop-part-preserved : goal.loop-part-preserved
 loop-part-preserved c =
+    -- the code counts the processes of this part
     let count : size_of c.part-item.result ≡ length c.processes.result.now =
     ap length (sym c.processes.ensures.processes) in
     rw (← count) (record {

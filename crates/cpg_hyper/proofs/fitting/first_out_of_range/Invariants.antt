@@ -1,4 +1,4 @@
--- Loops of `first_out_of_range`: the first part whose period isn't in range.
+-- Loops of `first_out_of_range`, which returns the first part whose period isn't in range; `None` exactly if all are.
 use Rattle.cpg_hyper.specs.Refusals.{HoldsBefore, IsInRange}
 use Rattle.cpg_hyper.proofs.fitting.first_out_of_range.Given as goal
 

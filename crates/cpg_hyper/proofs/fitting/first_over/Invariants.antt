@@ -1,4 +1,5 @@
--- Loops of `first_over`: the first part whose deadline, or one of whose releases, is above its period.
+-- Loops of `first_over`, which returns the first part whose deadline, or one of whose releases, is above its period;
+-- `None` exactly if there is none.
 use Rattle.cpg_base.specs.Limits.{IsWithinLimits}
 use Rattle.cpg_hyper.specs.Refusals.{HoldsBefore, FitsPeriod}
 use Rattle.cpg_hyper.proofs.fitting.first_over.Given as goal

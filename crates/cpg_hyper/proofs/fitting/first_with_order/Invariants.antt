@@ -1,4 +1,5 @@
--- Loops of `first_with_order`: the first part that gives an order to compile under.
+-- Loops of `first_with_order`, which returns the first part whose graph gives an order to compile under; `None` exactly
+-- if there is none.
 use Rattle.cpg_hyper.specs.Refusals.{HoldsBefore, GivesNoOrder}
 use Rattle.cpg_hyper.proofs.fitting.first_with_order.Given as goal
 

@@ -1,4 +1,4 @@
--- Proof of `instances_are_copies`: the processes of an instance are the copies of its part's.
+-- Proof of `instances_are_copies`: the processes of an instance are the copies of its part's processes.
 use Rattle.cpg_hyper.proofs.Copies.{are_copies}
 use Rattle.cpg_hyper.proofs.laws.instances_are_copies.Goals as goal
 

@@ -1,4 +1,4 @@
--- Proof of `instances_have_edges`: the edges of an instance are the copies of its part's.
+-- Proof of `instances_have_edges`: the edges of an instance are the copies of its part's edges.
 use Rattle.cpg_hyper.proofs.CopiedEdges.{have_edges}
 use Rattle.cpg_hyper.proofs.laws.instances_have_edges.Goals as goal
 

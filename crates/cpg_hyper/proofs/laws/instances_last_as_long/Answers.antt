@@ -1,4 +1,5 @@
--- Proof of `instances_last_as_long`: the executions of an instance last as long as those of its part.
+-- Proof of `instances_last_as_long`: executions of an instance last as long as those of its part, in what the scenario
+-- is for the instance.
 use Rattle.cpg_hyper.proofs.Keeping.{last_as_long}
 use Rattle.cpg_hyper.proofs.laws.instances_last_as_long.Goals as goal
 

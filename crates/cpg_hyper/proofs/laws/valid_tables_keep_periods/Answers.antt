@@ -1,5 +1,5 @@
--- Proof of `valid_tables_keep_periods`: in valid tables the processes of an instance start when they are released in it
--- or later, and end when they are due in it or earlier.
+-- Proof of `valid_tables_keep_periods`: in valid tables each execution in an instance starts at its release or later
+-- and ends by its due, both counted from the beginning of the instance.
 use Rattle.cpg_hyper.proofs.Keeping.{keep_periods}
 use Rattle.cpg_hyper.proofs.laws.valid_tables_keep_periods.Goals as goal
 

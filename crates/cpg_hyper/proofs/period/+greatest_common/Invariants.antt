@@ -1,4 +1,4 @@
--- Loops of `greatest_common`: the greatest common divisor.
+-- Recursion of `greatest_common`, which returns the greatest common divisor of two numbers, by Euclid's algorithm.
 use Rattle.cpg_hyper.proofs.period.+greatest_common.Given as goal
 
 -- the next call has the remainder by `b`, which is smaller than `b`

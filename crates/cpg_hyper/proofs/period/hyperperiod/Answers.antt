@@ -1,4 +1,4 @@
--- Proof of `hyperperiod`: the least common multiple of the periods, if it isn't above the longest time.
+-- Proof of `hyperperiod`, which returns the hyperperiod of parts; `None` exactly if it is above the longest time.
 use Rattle.std.proofs.Common.{◌≤◌, length, arith, subst}
 use Rattle.std.proofs.lemmas.List.{take_all}
 use Rattle.cpg_hyper.proofs.Multiples.{IsSoFar, none_so_far, more_so_far, least_below}
@@ -16,7 +16,7 @@ returns-then-whole-gt-LONGEST-clause-long c whole h =
     c.least_common-whole.ensures.least in
     omega (arith, least_below c.args.parts.now _ whole c.least_common-whole.result next h, c.if-whole-gt-LONGEST.true)
 
--- the least common multiple with one more period is found
+-- the least common multiple of this and the next period is that of one period more
 pub loop-part-preserved : goal.loop-part-preserved
 loop-part-preserved c = record {
   some = c.least_common-whole.ensures.some;

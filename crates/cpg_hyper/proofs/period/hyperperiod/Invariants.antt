@@ -1,4 +1,4 @@
--- Loops of `hyperperiod`: the least common multiple of the periods, if it isn't above the longest time.
+-- Loops of `hyperperiod`, which returns the hyperperiod of parts; `None` exactly if it is above the longest time.
 use Rattle.std.proofs.Common.{◌≤◌, take}
 use Rattle.cpg_hyper.proofs.Multiples.{IsSoFar}
 use Rattle.cpg_hyper.proofs.period.hyperperiod.Given as goal

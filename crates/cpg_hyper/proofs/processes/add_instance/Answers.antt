@@ -1,4 +1,5 @@
--- Proof of `add_instance`: adds the processes of an instance, if their names are short enough.
+-- Proof of `add_instance`, which adds the processes of an instance, and returns true; false exactly if some name is too
+-- long, and then nothing is said of what was added.
 use Rattle.std.proofs.Common.{◌≡◌, ◌≤◌, ◌++◌, ◌∷◌, [], ◌∙◌, ap, length, rules}
 use Rattle.cpg_base.specs.declared.process.Process.{Process}
 use Rattle.cpg_hyper.specs.Unrolled.{copied_process, name_in}

@@ -1,11 +1,12 @@
--- Loops of `add_instance`: adds the processes of an instance, if their names are short enough.
+-- Loops of `add_instance`, which adds the processes of an instance, and returns true; false exactly if some name is too
+-- long, and then nothing is said of what was added.
 use Rattle.std.proofs.Common.{◌≡◌, ◌≤◌, ◌++◌, map, take, length}
 use Rattle.std.specs.Prelude.{All}
 use Rattle.cpg_hyper.specs.Unrolled.{copied_process, name_in}
 use Rattle.cpg_hyper.proofs.processes.add_instance.Given as goal
 
--- after each process, the list has the processes of before and a copy of each process so far, and each copy's name
--- has at most 32 bytes
+-- after each process, the list has the processes from before and a copy of each process so far, and the copies' names have
+-- at most 32 bytes
 abbrev pub invariant-loop-process : goal.invariant-loop-process
 invariant-loop-process l = record {
   added : l.out.items ≡ l.fn.out.items

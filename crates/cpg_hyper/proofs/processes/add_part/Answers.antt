@@ -1,4 +1,5 @@
--- Proof of `add_part`: adds the processes of all instances of a part, if their names are short enough.
+-- Proof of `add_part`, which adds the processes of all instances of a part, and returns true; false exactly if some
+-- name is too long, and then nothing is said of what was added.
 use Rattle.std.proofs.Common.{◌≡◌, length, ap, ◌∙◌, sym, rules}
 use Rattle.cpg_hyper.specs.Unrolled.{processes_in}
 use Rattle.cpg_hyper.specs.Refusals.{AreShort}

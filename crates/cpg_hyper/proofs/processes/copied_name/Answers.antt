@@ -1,4 +1,4 @@
--- Proof of `copied_name`: the name of a copy, or `None` exactly if it is too long.
+-- Proof of `copied_name`, which returns the name that a process gets in an instance; `None` exactly if it is too long.
 use Rattle.std.proofs.Common.{◌∙◌, arith}
 use Rattle.cpg_hyper.specs.Unrolled.{name_in}
 use Rattle.cpg_hyper.proofs.Texts.{long_name, long_if}

@@ -1,4 +1,4 @@
--- Proof of `unrolled_processes`: the processes of all instances of all parts, if their names are short enough.
+-- Proof of `unrolled_processes`, which returns the processes of all instances of all parts.
 use Rattle.cpg_hyper.specs.Unrolled.{processes_of}
 use Rattle.cpg_hyper.specs.Refusals.{HasShortNames}
 use Rattle.cpg_hyper.proofs.Added.{added_false, fails_at}

@@ -1,4 +1,4 @@
--- Loops of `unrolled_processes`: the processes of all instances of all parts, if their names are short enough.
+-- Loops of `unrolled_processes`, which returns the processes of all instances of all parts.
 use Rattle.std.proofs.Common.{◌≡◌, ◌++◌, drop}
 use Rattle.cpg_hyper.specs.Unrolled.{processes_from}
 use Rattle.cpg_hyper.specs.Refusals.{HoldsBefore, HasShortNames}

@@ -1,10 +1,10 @@
--- Proof of `built`: the graph of the processes and edges of all instances.
+-- Proof of `built`, which returns the graph of the processes and edges of all instances.
 use Rattle.std.proofs.Common.{◌≡◌, rules, get_or}
 use Rattle.cpg_hyper.proofs.Whole.{first_there}
 use Rattle.cpg_hyper.proofs.Outcome.{made_within}
 use Rattle.cpg_hyper.proofs.unrolling.built.Goals as goal
 
--- the graph of all instances is within the limits
+-- the parts given are those of the graph of all instances, which is within the limits of a graph file
 pub of-requires : goal.of-requires
 of-requires c =
     let first = (get_or c.args.parts.now 0 c.index-parts-0.result).problem in

@@ -1,5 +1,4 @@
--- Proof of `over`: the graph over a hyperperiod, if there are few enough of each, the made names are short and no part
--- gives an order.
+-- Proof of `over`, which returns the graph over a hyperperiod.
 use Rattle.std.proofs.Common.{◌≡◌, ◌≤◌, ◌∙◌, arith}
 use Rattle.cpg_base.specs.declared.limits.TheConstants.{MOST_PROCESSES, MOST_EDGES}
 use Rattle.cpg_base.specs.Graph.{condition_count, edge_count, process_count}
@@ -12,6 +11,7 @@ use Rattle.cpg_hyper.proofs.unrolling.over.Goals as goal
 pub returns-then-condition_total-gt-MOST_CONDITIONS : goal.returns-then-condition_total-gt-MOST_CONDITIONS
 returns-then-condition_total-gt-MOST_CONDITIONS c =
     let g = unrolled c.args.whole c.args.parts.now in
+    -- the conditions that are counted are those of the graph
     let count : c.condition_total.result ≡ condition_count g =
     count_is g c.as_slice.result.now c.process_total-process_count.result c.condition_total.result
     (c.as_slice.ensures.value ∙ c.in_ok-edges.ensures) c.process_total-process_count.ensures
@@ -25,10 +25,11 @@ returns-then-condition_total-gt-MOST_CONDITIONS c =
       (processes, edges, omega (arith, count, c.if-condition_total-gt-MOST_CONDITIONS.true)),
     )
 
--- the processes couldn't be made, though there are few enough of each
+-- the counts have passed, and the processes couldn't be made: the fault says why
 pub returns-in-Err : goal.returns-in-Err
 returns-in-Err c =
     let g = unrolled c.args.whole c.args.parts.now in
+    -- the conditions that are counted are those of the graph
     let count : c.condition_total.result ≡ condition_count g =
     count_is g c.as_slice.result.now c.process_total-process_count.result c.condition_total.result
     (c.as_slice.ensures.value ∙ c.in_ok-edges.ensures) c.process_total-process_count.ensures
@@ -40,10 +41,11 @@ returns-in-Err c =
     } in
     from_processes c.args.whole c.args.parts.now c.requires.over few c.in-Err.fault c.in-Err.ensures
 
--- this part is the first that gives an order, and all checks before have passed
+-- this part is the first that gives an order; the counts have passed, and all names are short enough
 pub returns-in-Some : goal.returns-in-Some
 returns-in-Some c =
     let g = unrolled c.args.whole c.args.parts.now in
+    -- the conditions that are counted are those of the graph
     let count : c.condition_total.result ≡ condition_count g =
     count_is g c.as_slice.result.now c.process_total-process_count.result c.condition_total.result
     (c.as_slice.ensures.value ∙ c.in_ok-edges.ensures) c.process_total-process_count.ensures
@@ -59,6 +61,7 @@ returns-in-Some c =
 pub built-requires-clause-counts : goal.built-requires-clause-counts
 built-requires-clause-counts c =
     let g = unrolled c.args.whole c.args.parts.now in
+    -- the conditions that are counted are those of the graph
     let count : c.condition_total.result ≡ condition_count g =
     count_is g c.as_slice.result.now c.process_total-process_count.result c.condition_total.result
     (c.as_slice.ensures.value ∙ c.in_ok-edges.ensures) c.process_total-process_count.ensures

@@ -1,4 +1,4 @@
--- Proof of `hyper_inputs`: what `hyper` reads.
+-- Proof of `hyper_inputs`, which reads the graphs of `hyper`.
 use Rattle.std.proofs.Common.{arith}
 use Rattle.cpg_inputs.proofs.PartsRead.{periods_length}
 use Rattle.cpg_inputs.proofs.reading.hyper_inputs.Goals as goal

@@ -1,4 +1,4 @@
--- Proof of `live_inputs`: what `live` reads before its stream.
+-- Proof of `live_inputs`, which reads the pack of `live`.
 use Rattle.std.proofs.Common.{List, [], ◌∷◌, None, refl}
 use Rattle.std.proofs.lemmas.Result.{err_from_is_err_and}
 use Rattle.cpg_history.specs.Fetch.{Fetch}

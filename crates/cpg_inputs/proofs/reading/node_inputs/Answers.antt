@@ -1,4 +1,4 @@
--- Proof of `node_inputs`: what `node` reads.
+-- Proof of `node_inputs`, which reads the pack of `node`.
 use Rattle.std.proofs.Common.{List, [], ◌∷◌, None, refl}
 use Rattle.std.proofs.lemmas.Result.{err_from_is_err_and}
 use Rattle.cpg_history.specs.Fetch.{Fetch}

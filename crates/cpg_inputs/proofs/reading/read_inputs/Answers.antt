@@ -1,4 +1,4 @@
--- Proof of `read_inputs`: reads the files of a command and what they say, in the order of the words.
+-- Proof of `read_inputs`, which reads the files of a command in the order of the words, and returns what they say.
 use Rattle.cpg_inputs.proofs.Keeping.{keeps_same}
 use Rattle.cpg_inputs.proofs.reading.read_inputs.Goals as goal
 

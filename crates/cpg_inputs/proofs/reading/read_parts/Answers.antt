@@ -1,4 +1,4 @@
--- Proof of `read_parts`: reads the graphs of parts.
+-- Proof of `read_parts`, which reads the graphs of parts, one after the other, and returns them with their periods.
 use Rattle.std.proofs.Common.{rules, List, subst, sym}
 use Rattle.std.proofs.lemmas.Result.{err_from_is_err_and}
 use Rattle.cpg_history.specs.Fetch.{Fetch}
@@ -50,7 +50,7 @@ loop-pair-preserved g c =
           c.add.new.parts.items before.periods c.in_ok-add.ensures.added;
     }
 
--- the file of the part was read, but memory ran out for the part
+-- the file of the part was read, but memory ran out as the part was added
 pub returns-in_err-add-clause-halt : goal.returns-in_err-add-clause-halt
 returns-in_err-add-clause-halt g c =
     let S = g.S.Shelf in
@@ -63,14 +63,14 @@ returns-in_err-add-clause-halt g c =
     c.in_ok-problem.problem c.in_err-add.field-0.0
     (rw c.as_str.ensures at c.in_ok-problem.ensures.graph) c.in_err-add.ensures.halt)
 
--- the loop kept the shelf, and so does the reading that fails
+-- the loop kept the shelf, and so did the reading that failed
 pub returns-in_err-problem-clause-keeps : goal.returns-in_err-problem-clause-keeps
 returns-in_err-problem-clause-keeps g c =
     let S = g.S.Shelf in
     keeps_on (S.state c.args.shelf.now) (S.state c.loop-pair.shelf)
     (S.state c.read_part.new.shelf) c.loop-pair.invariant.keeps c.in_err-problem.ensures.keeps
 
--- the loop kept the shelf, and so does the reading of this part
+-- the loop kept the shelf, and so did the reading of this part
 pub returns-in_err-add-clause-keeps : goal.returns-in_err-add-clause-keeps
 returns-in_err-add-clause-keeps g c =
     let S = g.S.Shelf in

@@ -1,4 +1,4 @@
--- Loops of `read_parts`: reads the graphs of parts.
+-- Loops of `read_parts`, which reads the graphs of parts, one after the other, and returns them with their periods.
 use Rattle.std.proofs.Common.{take, None}
 use Rattle.cpg_io.specs.Shelf.{KeepsShelf, SameAccess}
 use Rattle.cpg_inputs.specs.Files.{part_files}

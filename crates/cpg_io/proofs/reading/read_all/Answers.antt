@@ -5,12 +5,13 @@ use Rattle.cpg_io.proofs.Agreeing.{fetched_none, fetched_one}
 use Rattle.cpg_io.proofs.PiecesRead.{given_on, one_fetch, read_on}
 use Rattle.cpg_io.proofs.reading.read_all.Goals as goal
 
--- a fetch that failed gave nothing, so nothing was read
+-- a fetch that failed gave nothing, and nothing agrees with whatever stands under the name
 pub returns-in_err-fetch-clause-fetched : goal.returns-in_err-fetch-clause-fetched
 returns-in_err-fetch-clause-fetched g c = fetched_none (g.S.Shelf.state c.args.shelf.now)
     (g.S.Shelf.state c.fetch.new.self) c.args.name.now c.in_err-fetch.ensures.history
 
--- the name is one fetch more, which gave the first bytes of the name, though the last piece failed
+-- there is one fetch more, that of the name; since what is left is still the rest of what stands under it, the fetch gave a
+-- prefix of that, though the last read failed
 pub returns-in_err-read_piece-clause-fetched : goal.returns-in_err-read_piece-clause-fetched
 returns-in_err-read_piece-clause-fetched g c =
     let old = g.S.Shelf.state c.args.shelf.now in
@@ -21,7 +22,8 @@ returns-in_err-read_piece-clause-fetched g c =
     c.read_piece.new.bytes.items c.read_piece.result c.read_piece.ensures.history in
     fetched_one old new names one.0 one.1 (c.read_piece.ensures.rest before.rest)
 
--- the name is one fetch more, which gave the first bytes of the name
+-- there is one fetch more, that of the name; since what is left is the rest of what stands under it, the fetch gave a prefix
+-- of that
 pub returns-clause-fetched : goal.returns-clause-fetched
 returns-clause-fetched g c =
     let old = g.S.Shelf.state c.args.shelf.now in

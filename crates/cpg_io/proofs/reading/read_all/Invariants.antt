@@ -5,10 +5,10 @@ use Rattle.cpg_io.specs.Agreement.{LeavesRest}
 use Rattle.cpg_io.specs.Shelf.{SameNames, SameAccess}
 use Rattle.cpg_io.proofs.reading.read_all.Given as goal
 
--- After each piece. `names`, `access`: names and rights of the shelf have not changed. `rest`: what is left is the
--- rest of what stands under the name fetched last. `came`: the bytes so far and what is left are the whole that
--- stands there. `history`: the last fetch has given the bytes so far, has not ended and has not failed. `within`: no
--- more bytes than the limit. `later`: the shelf has forgotten no fault.
+-- `names`, `access`: what stands under names, and which may be fetched, is unchanged. `rest`: what is left is the rest of
+-- what stands under the name. `came`: the bytes so far and then what is left are what stands under the name. `history`:
+-- the one new fetch has given the bytes so far, and hasn't ended or failed. `within`: there are no more bytes than the
+-- limit. `later`: the count of faults didn't fall.
 abbrev pub invariant-loop-bytes : goal.invariant-loop-bytes
 invariant-loop-bytes g l = record {
   names : SameNames (g.S.Shelf.state l.fn.shelf) (g.S.Shelf.state l.shelf);

@@ -1,10 +1,10 @@
--- Loops of `write_all`: writes all of the bytes, in as many pieces as the sink takes them in.
+-- Loops of `write_all`: writes all of the bytes, in as many writes as the sink needs.
 use Rattle.std.proofs.Common.{length, ◌≡◌, ◌-◌, ◌≤◌, take}
 use Rattle.cpg_io.specs.Sink.{Took}
 use Rattle.cpg_io.proofs.writing.write_all.Given as goal
 
--- After each write: `at` lies within the bytes, the sink has taken the bytes before it and no others, and its faults
--- have not changed.
+-- `within`: `at` isn't past the end. `taken`: the sink has taken the bytes before `at`, and no others. `kept`: its count of
+-- faults is as at the start.
 abbrev pub invariant-loop-at : goal.invariant-loop-at
 invariant-loop-at g l = record {
   within : l.at ≤ length l.bytes;

@@ -4,7 +4,7 @@ use Rattle.cpg_base.specs.Graph.{process_at}
 use Rattle.cpg_label.proofs.Called.{condition_called}
 use Rattle.cpg_label.proofs.items.condition_name.Goals as goal
 
--- a condition is called by the name of its process
+-- the name of the condition's process is what the labels of the graph call the condition
 pub returns : goal.returns
 returns c =
     let g = c.args.problem.now in

@@ -7,7 +7,7 @@ use Rattle.cpg_base.proofs.Items.{process_of_below}
 use Rattle.cpg_label.proofs.Steps.{next_mapped}
 use Rattle.cpg_label.proofs.labels.condition_names.Goals as goal
 
--- the process of a condition is one of the graph's
+-- the process of a condition is one of the graph's, so it has a place among them
 pub bounds-processes-process : goal.bounds-processes-process
 bounds-processes-process c =
     omega (
@@ -18,7 +18,7 @@ bounds-processes-process c =
       ap length c.processes.ensures.processes,
     )
 
--- the name of the next condition's process is added
+-- the names of the conditions so far get that of this one: its process is the next one with a condition
 pub loop-condition-preserved : goal.loop-condition-preserved
 loop-condition-preserved c =
     let g = c.args.problem.now in

@@ -1,9 +1,9 @@
--- Proof of `literals_of`: the literals of a cube.
+-- Proof of `are_few`: literals whose variables rise are at most 256.
 use Rattle.std.proofs.Common.{◌+◌, ◌<◌, ◌≤◌, arith, length}
 use Rattle.cpg_label.proofs.Lines.{rising_short}
 use Rattle.cpg_label.proofs.line.are_few.Goals as goal
 
--- the variables rise, so there are no more literals than variables up to the last one
+-- the variables rise, so there are no more literals than variables up to the last, which is a byte
 pub returns-in-Some : goal.returns-in-Some
 returns-in-Some c =
     let ls = c.args.literals.now in

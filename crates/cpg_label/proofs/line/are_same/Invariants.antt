@@ -2,6 +2,6 @@
 use Rattle.std.proofs.Common.{◌≡◌, true, take}
 use Rattle.cpg_label.proofs.line.are_same.Given as goal
 
--- if no difference is found, the lists are the same up to here
+-- if `are` is still true, the two blocks are the same so far
 abbrev pub invariant-loop-at : goal.invariant-loop-at
 invariant-loop-at g l = l.are ≡ true → take l.at l.first ≡ take l.at l.second

@@ -4,7 +4,8 @@ use Rattle.std.proofs.lemmas.List.{drop-drop}
 use Rattle.cpg_label.proofs.Lines.{block_more}
 use Rattle.cpg_label.proofs.line.front_by_eights.Goals as goal
 
--- the next eight literals of both lists are the same
+-- `alike`: the next eight literals of both lists are the same, so they are alike eight further. `left`, `right`: the rests
+-- are cut there
 pub loop-block-preserved : goal.loop-block-preserved
 loop-block-preserved c =
     let was = c.loop-block.invariant in

@@ -1,9 +1,9 @@
--- Proof of `front_by_four`: a place up to which two lists are alike, four behind a place up to which they are if
+-- Proof of `front_by_four`: a place up to which two lists are alike, four after a place up to which they are if
 -- those are the same too.
 use Rattle.cpg_label.proofs.Lines.{block_more, rest_of}
 use Rattle.cpg_label.proofs.line.front_by_four.Goals as goal
 
--- the next four literals of both lists are the same
+-- the next four literals of both lists are the same, so they are alike four further
 pub returns-then-are_same : goal.returns-then-are_same
 returns-then-are_same c =
     let one = c.in-Some.ensures.cases in

@@ -24,7 +24,7 @@ place_decimal-end-requires t c = (
   omega (arith, c.requires, more_long c.args.number c.if-number-lt10.false (omega (arith, c.ranges.number.fits))),
 )
 
--- there is room for the last digit behind the others
+-- there is room for the last digit after the others
 pub place_byte-requires-2 : goal.place_byte-requires-2
 place_byte-requires-2 t c = omega (
   arith,
@@ -39,7 +39,7 @@ pub returns-clause-bytes : goal.returns-clause-bytes
 returns-clause-bytes t c = more_written c.args.number _ _ _ _ c.if-number-lt10.false
     (omega (arith, c.ranges.number.fits)) c.place_decimal-end.ensures.bytes c.place_byte-2.ensures.bytes (omega arith)
 
--- the end is behind the last digit
+-- the end is after the last digit
 pub returns-clause-end : goal.returns-clause-end
 returns-clause-end t c = omega (
   arith,

@@ -18,14 +18,14 @@ pub returns-then-number-lt10-clause-len : goal.returns-then-number-lt10-clause-l
 returns-then-number-lt10-clause-len t c =
     omega (arith, c.push_reserved.ensures.len, one_long c.args.number c.if-number-lt10.true)
 
--- the number without its last digit is less, and its text needs one byte less of the room
+-- the number without its last digit is less, and its text is one byte shorter, so there is room for it
 pub append_decimal-requires : goal.append_decimal-requires
 append_decimal-requires t c = (
   omega (arith, c.decreases, c.if-number-lt10.false),
   omega (arith, c.requires, more_long c.args.number c.if-number-lt10.false c.ranges.number.fits),
 )
 
--- there is room for the last digit behind the others
+-- there is room for the last digit after the others
 pub push_reserved-requires-2 : goal.push_reserved-requires-2
 push_reserved-requires-2 t c = omega (
   arith,

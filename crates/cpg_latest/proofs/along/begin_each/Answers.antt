@@ -10,7 +10,7 @@ use Rattle.cpg_latest.proofs.Halves.{half_more}
 use Rattle.cpg_latest.proofs.LaneSteps.{LaneHas, lanes_start, lanes_end}
 use Rattle.cpg_latest.proofs.along.begin_each.Goals as goal
 
--- before the first track the process can begin in each lane
+-- at first the process can begin in each lane, and has begun in none
 pub loop-i-init : goal.loop-i-init
 loop-i-init c =
     lanes_start c.args.setting.now.problem.now (CanBegin c.args.setting.now c.args.frozen.now c.args.process)
@@ -18,7 +18,7 @@ loop-i-init c =
     (outcomes_asked c.args.asked.now) (length c.args.asked.now)
     (length-map c.args.asked.now (λ (a : Asked). a.scenario.now.values)) c.args.lanes.now.items c.requires.lanes
 
--- what is asked of the i-th lane is one of those that are asked, all of which are right
+-- what is handed to the i-th lane is one of those that were asked, each of which is what an outcome says
 pub begin-requires-clause-asked : goal.begin-requires-clause-asked
 begin-requires-clause-asked c =
     subst (IsAsked c.args.setting.now.problem.now c.args.setting.now.guards.now c.args.process) (sym c.index-asked-i.is)
@@ -43,7 +43,7 @@ begin-requires-clause-lane c =
 pub index_mut-requires : goal.index_mut-requires
 index_mut-requires c = omega (arith, c.loop-i-test.true, c.loop-i.invariant.count_is)
 
--- the process has begun in the courses of one more track
+-- the process has begun in one lane more, and the other lanes stay
 pub loop-i-preserved : goal.loop-i-preserved
 loop-i-preserved c =
     let g = c.args.setting.now.problem.now in
@@ -58,7 +58,7 @@ loop-i-preserved c =
     (subst (λ (v : List Bool). IsLane g ((HasSentTo c.args.setting.now c.args.frozen.now c.args.process 0 0) v)
     c.begin.new.self) (sym values) c.begin.ensures) refl
 
--- the process has begun in all tracks
+-- after the loop the process has begun in the lanes of all tracks
 pub returns : goal.returns
 returns c = lanes_end c.args.setting.now.problem.now (CanBegin c.args.setting.now c.args.frozen.now c.args.process)
     (HasSentTo c.args.setting.now c.args.frozen.now c.args.process 0 0)

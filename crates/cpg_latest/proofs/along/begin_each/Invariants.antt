@@ -5,7 +5,7 @@ use Rattle.cpg_latest.specs.Lanes.{CanBegin, HasSentTo}
 use Rattle.cpg_latest.proofs.LaneSteps.{LaneHas}
 use Rattle.cpg_latest.proofs.along.begin_each.Given as goal
 
--- after i turns the first i lanes have begun the process and sent nothing; in the others it can begin
+-- in the first i lanes the process has begun and sent nothing, and in the others it can begin
 abbrev pub invariant-loop-i : goal.invariant-loop-i
 invariant-loop-i l =
     AreHalf (LaneHas l.setting.problem.now (CanBegin l.setting l.frozen l.process) (outcomes_asked l.asked))

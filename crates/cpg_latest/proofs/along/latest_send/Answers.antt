@@ -15,7 +15,7 @@ use Rattle.cpg_latest.proofs.AskedTracks.{outcome_asked}
 use Rattle.cpg_latest.proofs.OverAll.{over_more, over_none}
 use Rattle.cpg_latest.proofs.along.latest_send.Goals as goal
 
--- over no tracks there is no latest time
+-- over no tracks the latest time is None
 pub loop-i-init : goal.loop-i-init
 loop-i-init c = over_none (λ i.
     AreSent c.args.setting.now.problem.now (track_at (outcomes_asked c.args.asked.now) i) c.args.process c.args.item)
@@ -31,7 +31,7 @@ bounds-asked-i c = omega (
   length-map c.args.asked.now (λ (a : Asked). a.scenario.now.values),
 )
 
--- what was asked of the process is what the track at this place says
+-- what was asked at this place is one of the answers, each of which is what an outcome says
 pub send_time-time-requires-clause-asked : goal.send_time-time-requires-clause-asked
 send_time-time-requires-clause-asked c =
     subst (IsAsked c.args.setting.now.problem.now c.args.setting.now.guards.now c.args.process) (sym c.index-asked-i.is)
@@ -51,7 +51,7 @@ send_time-time-requires-clause-count c =
     (omega (arith, c.loop-i-test.true, c.requires.lanes.count))) in
     t.count
 
--- the last course of this lane has free slots for each node
+-- the last course of this lane says for each node when its slots are free
 pub send_time-time-requires-clause-free : goal.send_time-time-requires-clause-free
 send_time-time-requires-clause-free c =
     let t = subst (TellsSend c.args.setting.now.problem.now
@@ -60,7 +60,7 @@ send_time-time-requires-clause-free c =
     (omega (arith, c.loop-i-test.true, c.requires.lanes.count))) in
     t.free
 
--- if the process is active, its end in the last course is small
+-- if the process is active, its end in the last course of this lane is below 2 ^ 59, as the lanes tell
 pub send_time-time-requires-clause-early : goal.send_time-time-requires-clause-early
 send_time-time-requires-clause-early c on =
     let asked = c.args.asked.now in
@@ -75,7 +75,7 @@ send_time-time-requires-clause-early c on =
     (omega (arith, c.loop-i-test.true, c.requires.lanes.count))) in
     t.early (ap (λ v. active c.args.setting.now.problem.now v c.args.process) values ∙ on)
 
--- the latest time so far takes in that of one more track
+-- with this track the latest time is that over one track more: its time counts if the item is sent in it
 pub loop-i-preserved : goal.loop-i-preserved
 loop-i-preserved c =
     let g = c.args.setting.now.problem.now in

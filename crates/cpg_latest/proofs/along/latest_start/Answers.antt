@@ -14,7 +14,7 @@ use Rattle.cpg_latest.proofs.AskedTracks.{outcome_asked}
 use Rattle.cpg_latest.proofs.OverAll.{over_more, over_none}
 use Rattle.cpg_latest.proofs.along.latest_start.Goals as goal
 
--- over no tracks there is no latest time
+-- over no tracks the latest start is None
 pub loop-i-init : goal.loop-i-init
 loop-i-init c = over_none
     (λ i. active c.args.setting.now.problem.now (track_at (outcomes_asked c.args.asked.now) i) c.args.process ≡ true)
@@ -31,7 +31,7 @@ bounds-asked-i c = omega (
   length-map c.args.asked.now (λ (a : Asked). a.scenario.now.values),
 )
 
--- what was asked of the process is what the track at this place says
+-- what was asked at this place is one of the answers, each of which is what an outcome says
 pub start-requires-clause-asked : goal.start-requires-clause-asked
 start-requires-clause-asked c =
     subst (IsAsked c.args.setting.now.problem.now c.args.setting.now.guards.now c.args.process) (sym c.index-asked-i.is)
@@ -56,14 +56,14 @@ start-requires-clause-ready c = let t = subst (TellsStart c.args.setting.now.pro
     (omega (arith, c.loop-i-test.true, c.requires.lanes.count))) in
     t.ready
 
--- what the last course of this lane knows is small
+-- the times in the last course of this lane are below 2 ^ 59, as the lanes tell
 pub start-requires-clause-small : goal.start-requires-clause-small
 start-requires-clause-small c = let t = subst (TellsStart c.args.setting.now.problem.now) (sym c.index-lanes-i.is)
     (c.requires.lanes.each c.loop-i.i c.index-lanes-i.result
     (omega (arith, c.loop-i-test.true, c.requires.lanes.count))) in
     t.small
 
--- the latest start so far takes in that of one more track
+-- with this track the latest start is that over one track more: its start counts if the process is active in it
 pub loop-i-preserved : goal.loop-i-preserved
 loop-i-preserved c =
     let g = c.args.setting.now.problem.now in
@@ -84,6 +84,7 @@ loop-i-preserved c =
     (last_course g (lane_at c.args.lanes.now i)) time)
     c.loop-i.i c.loop-i.latest c.start.result c.later-latest.result c.loop-i.invariant c.later-latest.ensures
     (elim (cases_Bool a.acts) [
+      -- the process is active: its unfrozen start is the time of this track
       | inl on ↦
           let t = c.start.ensures.acts on in
           inl (

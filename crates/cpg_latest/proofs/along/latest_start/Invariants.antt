@@ -4,6 +4,6 @@ use Rattle.cpg_latest.specs.Course.{outcomes_asked}
 use Rattle.cpg_latest.specs.Over.{IsLatestStart}
 use Rattle.cpg_latest.proofs.along.latest_start.Given as goal
 
--- after i turns `latest` is the latest unfrozen start of the process over the first i lanes
+-- `latest` is the latest start over the first i tracks that the process could have if it were not frozen, or None
 abbrev pub invariant-loop-i : goal.invariant-loop-i
 invariant-loop-i l = IsLatestStart l.setting.problem.now (outcomes_asked l.asked) l.process l.lanes l.i l.latest

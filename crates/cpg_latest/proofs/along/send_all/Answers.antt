@@ -20,7 +20,7 @@ settle_send-requires-clause-sending c =
 pub send_each-requires-clause-frozen : goal.send_each-requires-clause-frozen
 send_each-requires-clause-frozen c = c.settle_send.ensures.settled.count
 
--- frozen times that are settled are early
+-- settled frozen times are no later than their items could be, so they are below 2 ^ 58
 pub send_each-requires-clause-early : goal.send_each-requires-clause-early
 send_each-requires-clause-early c =
     let g = c.args.setting.now.problem.now in

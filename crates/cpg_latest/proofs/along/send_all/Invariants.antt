@@ -3,6 +3,6 @@ use Rattle.cpg_latest.specs.Course.{outcomes_asked}
 use Rattle.cpg_latest.specs.Lanes.{AreSending}
 use Rattle.cpg_latest.proofs.along.send_all.Given as goal
 
--- before the turn `at`, all lanes have sent the first `at` items of the process, and their frozen times are set
+-- in all lanes the process has sent its first `at` items, and the frozen ones of them have their frozen times
 abbrev pub invariant-loop-at : goal.invariant-loop-at
 invariant-loop-at l = AreSending l.setting (outcomes_asked l.asked) l.process l.at l.frozen l.lanes.items

@@ -10,7 +10,7 @@ use Rattle.cpg_latest.proofs.Halves.{half_more}
 use Rattle.cpg_latest.proofs.LaneSteps.{LaneHas, lanes_start, lanes_end}
 use Rattle.cpg_latest.proofs.along.send_each.Goals as goal
 
--- before the first track the item is still to be sent in each lane
+-- at first the item is still to be sent in each lane
 pub loop-i-init : goal.loop-i-init
 loop-i-init c = lanes_start c.args.setting.now.problem.now
     (HasSentTo c.args.setting.now c.args.frozen.now c.args.process (c.args.at + 1) c.args.at)
@@ -18,7 +18,7 @@ loop-i-init c = lanes_start c.args.setting.now.problem.now
     (outcomes_asked c.args.asked.now) (length c.args.asked.now)
     (length-map c.args.asked.now (λ (a : Asked). a.scenario.now.values)) c.args.lanes.now.items c.requires.lanes
 
--- what is asked of the i-th lane is one of those that are asked, all of which are right
+-- what is handed to the i-th lane is one of those that were asked, each of which is what an outcome says
 pub send-requires-clause-asked : goal.send-requires-clause-asked
 send-requires-clause-asked c =
     subst (IsAsked c.args.setting.now.problem.now c.args.setting.now.guards.now c.args.process) (sym c.index-asked-i.is)
@@ -43,7 +43,7 @@ send-requires-clause-lane c =
 pub index_mut-requires : goal.index_mut-requires
 index_mut-requires c = omega (arith, c.loop-i-test.true, c.loop-i.invariant.count_is)
 
--- the item is sent in the courses of one more track
+-- the item is sent in one lane more, and the other lanes stay
 pub loop-i-preserved : goal.loop-i-preserved
 loop-i-preserved c =
     let g = c.args.setting.now.problem.now in
@@ -60,7 +60,7 @@ loop-i-preserved c =
     (subst (λ (v : List Bool). IsLane g ((HasSentTo c.args.setting.now c.args.frozen.now c.args.process (c.args.at + 1)
     (c.args.at + 1)) v) c.send.new.self) (sym values) c.send.ensures) refl
 
--- the item is sent in all tracks
+-- after the loop the item is sent in the lanes of all tracks
 pub returns : goal.returns
 returns c = lanes_end c.args.setting.now.problem.now
     (HasSentTo c.args.setting.now c.args.frozen.now c.args.process (c.args.at + 1) c.args.at)

@@ -5,7 +5,7 @@ use Rattle.cpg_latest.specs.Lanes.{HasSentTo}
 use Rattle.cpg_latest.proofs.LaneSteps.{LaneHas}
 use Rattle.cpg_latest.proofs.along.send_each.Given as goal
 
--- after i turns the first i lanes have sent the item at place `at`; the others have sent only those before it
+-- in the first i lanes the item at the place `at` is sent, and in the others only those before it
 abbrev pub invariant-loop-i : goal.invariant-loop-i
 invariant-loop-i l = AreHalf
     (LaneHas l.setting.problem.now (HasSentTo l.setting l.frozen l.process (l.at + 1) l.at) (outcomes_asked l.asked))

@@ -1,4 +1,5 @@
--- Proof of `settle_send`: sets the frozen time of the item at a place of what a process sends, if it is frozen.
+-- Proof of `settle_send`: sets the frozen time of the item at a place of what a process sends, if it is frozen and
+-- active in some track.
 use Rattle.std.proofs.Common.{◌≡◌, ◌∙◌, ◌+◌, ◌<◌, length, get_or, Contains, None, refl, sym, ap, subst, arith}
 use Rattle.std.proofs.lemmas.List.Elements.{Contains-get_or}
 use Rattle.cpg_base.specs.Graph.{is_frozen, item_count}
@@ -27,7 +28,7 @@ is_frozen-requires c =
     let here : get_or c.queue.result.now k 0 ≡ x = ap (λ xs. get_or xs k 0) c.queue.ensures in
     subst (λ y. y < item_count g) (sym here) (here_within g order top p c.requires.process k c.requires.at)
 
--- the item is not frozen, so the frozen times stay settled with it
+-- the item isn't frozen, so it has no frozen time, and the frozen times stay settled with it
 pub returns-then-not-is_frozen-clause-settled : goal.returns-then-not-is_frozen-clause-settled
 returns-then-not-is_frozen-clause-settled c =
     let g = c.args.setting.now.problem.now in
@@ -40,6 +41,7 @@ returns-then-not-is_frozen-clause-settled c =
     let x = queued g p k in
     let here : get_or c.queue.result.now k 0 ≡ x = ap (λ xs. get_or xs k 0) c.queue.ensures in
     settled_idle g order top limits (IsDone g order p k) (IsDone g order p (k + 1)) frozen c.requires.sending.settled x
+    -- the item is one of the graph and not done yet; what was done stays done, and only the item is done beside it
     (here_within g order top p c.requires.process k c.requires.at)
     (send_later g order top p c.requires.process k c.requires.at)
     (send_grows g order top p c.requires.process k c.requires.at)
@@ -65,7 +67,7 @@ latest_send-latest-requires-clause-item c =
     let here : get_or c.queue.result.now k 0 ≡ x = ap (λ xs. get_or xs k 0) c.queue.ensures in
     subst (Contains (queue_of g p)) (sym here) (Contains-get_or (queue_of g p) k 0 c.requires.at)
 
--- the last course of each lane says what a send needs
+-- the last course of each lane has what `latest_send` requires, as its times are known up to the item, and small
 pub latest_send-latest-requires-clause-lanes : goal.latest_send-latest-requires-clause-lanes
 latest_send-latest-requires-clause-lanes c =
     let g = c.args.setting.now.problem.now in
@@ -84,6 +86,7 @@ latest_send-latest-requires-clause-lanes c =
     p c.requires.process (on_graph g limits p c.requires.process) k c.requires.at limits
     (early_of g order top limits (IsDone g order p k) frozen c.requires.sending.settled)
     (not_yet g order top limits (IsDone g order p k) (IsDone g order p (k + 1)) frozen c.requires.sending.settled x
+    -- the item is one of the graph and not done yet; what was done stays done, and only the item is done beside it
     (here_within g order top p c.requires.process k c.requires.at)
     (send_later g order top p c.requires.process k c.requires.at)
     (send_grows g order top p c.requires.process k c.requires.at)
@@ -119,13 +122,14 @@ settle-requires-clause-unset c =
     let here : get_or c.queue.result.now k 0 ≡ x = ap (λ xs. get_or xs k 0) c.queue.ensures in
     subst (λ y. get_or frozen y None ≡ None) (sym here)
     (not_yet g order top limits (IsDone g order p k) (IsDone g order p (k + 1)) frozen c.requires.sending.settled x
+    -- the item is one of the graph and not done yet; what was done stays done, and only the item is done beside it
     (here_within g order top p c.requires.process k c.requires.at)
     (send_later g order top p c.requires.process k c.requires.at)
     (send_grows g order top p c.requires.process k c.requires.at)
     (send_one g order top p c.requires.process k c.requires.at)
     (send_only g order top p c.requires.process k c.requires.at))
 
--- the latest time over all tracks is the item's unfrozen time, so what is set is its frozen time
+-- the latest time over all tracks is the greatest that the item would have if it were not frozen, and so is its frozen time
 pub returns-clause-settled : goal.returns-clause-settled
 returns-clause-settled c =
     let g = c.args.setting.now.problem.now in
@@ -141,12 +145,14 @@ returns-clause-settled c =
     let by = subst (λ y. IsSettledBy y frozen c.settle.new.frozen) here c.settle.ensures.others in
     -- one more item is settled: it is frozen
     settled_more g order top limits (IsDone g order p k) (IsDone g order p (k + 1)) frozen c.requires.sending.settled x
+    -- the item is one of the graph and not done yet; what was done stays done, and only the item is done beside it
     (here_within g order top p c.requires.process k c.requires.at)
     (send_later g order top p c.requires.process k c.requires.at)
     (send_grows g order top p c.requires.process k c.requires.at)
     (send_one g order top p c.requires.process k c.requires.at)
     (send_only g order top p c.requires.process k c.requires.at)
     (ap (is_frozen g) (sym here) ∙ sym c.is_frozen.ensures ∙ c.if-not-is_frozen.false) c.settle.new.frozen
+    -- the new frozen time is the greatest that the item would have if it weren't frozen
     (subst (IsUnfrozenTime g order frozen x)
     (sym (ap (λ y. get_or c.settle.new.frozen y None) (sym here) ∙ c.settle.ensures.time))
     (send_over g c.requires.setting.admitted.0 order frozen (outcomes_asked c.args.asked.now)
@@ -154,6 +160,7 @@ returns-clause-settled c =
     p c.requires.process (on_graph g limits p c.requires.process) k c.requires.at limits
     (early_of g order top limits (IsDone g order p k) frozen c.requires.sending.settled)
     (not_yet g order top limits (IsDone g order p k) (IsDone g order p (k + 1)) frozen c.requires.sending.settled x
+    -- the item is one of the graph and not done yet; what was done stays done, and only the item is done beside it
     (here_within g order top p c.requires.process k c.requires.at)
     (send_later g order top p c.requires.process k c.requires.at)
     (send_grows g order top p c.requires.process k c.requires.at)
@@ -164,7 +171,7 @@ returns-clause-settled c =
     (length c.args.lanes.now) c.latest_send-latest.result) here c.latest_send-latest.ensures)))
     by.others by.count
 
--- only the frozen time of this item has changed
+-- `settle` changes the frozen time of the item alone, which is the one at this place of the queue
 pub returns-clause-others : goal.returns-clause-others
 returns-clause-others c =
     let g = c.args.setting.now.problem.now in

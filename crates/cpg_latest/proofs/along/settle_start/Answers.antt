@@ -1,4 +1,4 @@
--- Proof of `settle_start`: sets the frozen time of a process, if it is frozen.
+-- Proof of `settle_start`: sets the frozen time of a process's start, if it is frozen and active in some track.
 use Rattle.std.proofs.Common.{◌∙◌, refl, sym, subst, arith}
 use Rattle.cpg_base.specs.Order.{place}
 use Rattle.cpg_run.specs.Latest.{IsUnfrozenTime}
@@ -9,7 +9,7 @@ use Rattle.cpg_latest.proofs.Settling.{early_of, not_yet, settled_idle, settled_
 use Rattle.cpg_latest.proofs.Settling.{start_one, start_only}
 use Rattle.cpg_latest.proofs.along.settle_start.Goals as goal
 
--- the process is not frozen, so the frozen times stay settled with its start
+-- the start isn't frozen, so it has no frozen time, and the frozen times stay settled with it
 pub returns-then-not-is_frozen-clause-settled : goal.returns-then-not-is_frozen-clause-settled
 returns-then-not-is_frozen-clause-settled c =
     let g = c.args.setting.now.problem.now in
@@ -28,7 +28,7 @@ returns-then-not-is_frozen-clause-settled c =
 pub returns-then-not-is_frozen-clause-others : goal.returns-then-not-is_frozen-clause-others
 returns-then-not-is_frozen-clause-others c = record { others = λ y other. refl; count = refl }
 
--- the last course of each lane says what a start needs
+-- the last course of each lane has what `latest_start` requires, as its times are known up to the process, and small
 pub latest_start-latest-requires-clause-lanes : goal.latest_start-latest-requires-clause-lanes
 latest_start-latest-requires-clause-lanes c =
     let g = c.args.setting.now.problem.now in
@@ -41,6 +41,7 @@ latest_start-latest-requires-clause-lanes c =
     c.requires.setting.admitted.1.urgency c.requires.setting.admitted.1.topological top c.requires.tracks
     p c.requires.process (on_graph g limits p c.requires.process) limits
     (early_of g order top limits (IsEarlier g order (place order p)) frozen c.requires.known.settled)
+    -- the start of p isn't done yet, so it has no frozen time
     (not_yet g order top limits (IsEarlier g order (place order p))
     (IsDone g order p 0) frozen c.requires.known.settled p (omega (arith, c.requires.process))
     (start_later g order top p c.requires.process) (start_grows g order top p c.requires.process)
@@ -65,7 +66,8 @@ settle-requires-clause-unset c =
     (start_later g order top p c.requires.process) (start_grows g order top p c.requires.process)
     (start_one g order top p c.requires.process) (start_only g order top p c.requires.process)
 
--- the latest start over all tracks is the process's unfrozen time, so what is set is its frozen time
+-- the latest start over all tracks is the greatest that the process would have if it were not frozen, and so is its frozen
+-- time
 pub returns-clause-settled : goal.returns-clause-settled
 returns-clause-settled c =
     let g = c.args.setting.now.problem.now in
@@ -85,6 +87,7 @@ returns-clause-settled c =
     c.requires.setting.admitted.1.urgency c.requires.setting.admitted.1.topological top c.requires.tracks
     p c.requires.process (on_graph g limits p c.requires.process) limits
     (early_of g order top limits (IsEarlier g order (place order p)) frozen c.requires.known.settled)
+    -- the start of p isn't done yet, so it has no frozen time
     (not_yet g order top limits (IsEarlier g order (place order p))
     (IsDone g order p 0) frozen c.requires.known.settled p (omega (arith, c.requires.process))
     (start_later g order top p c.requires.process) (start_grows g order top p c.requires.process)
@@ -92,6 +95,6 @@ returns-clause-settled c =
     c.args.lanes.now c.requires.known.known c.latest_start-latest.result c.latest_start-latest.ensures))
     c.settle.ensures.others.others c.settle.ensures.others.count
 
--- no other place of the list is changed
+-- `settle` changes the frozen time of the start alone
 pub returns-clause-others : goal.returns-clause-others
 returns-clause-others c = c.settle.ensures.others

@@ -1,4 +1,4 @@
--- Proof of `step`: adds a process and all that it sends to each track.
+-- Proof of `step`: goes on by one process: finds its latest times and those of what it sends in each track.
 use Rattle.std.proofs.Common.{◌∙◌, length, sym, ap, subst}
 use Rattle.cpg_base.specs.Order.{place}
 use Rattle.cpg_bus.specs.Plan.{queue_of}
@@ -36,7 +36,7 @@ settle_start-requires-clause-known c =
 pub begin_each-requires-clause-frozen : goal.begin_each-requires-clause-frozen
 begin_each-requires-clause-frozen c = c.settle_start.ensures.settled.count
 
--- frozen times that are settled are early
+-- settled frozen times are no later than their items could be, so they are below 2 ^ 58
 pub begin_each-requires-clause-early : goal.begin_each-requires-clause-early
 begin_each-requires-clause-early c =
     let g = c.args.setting.now.problem.now in
@@ -81,7 +81,7 @@ send_all-requires-clause-sending c = record {
       (ap outcomes_asked (c.as_slice-3.ensures.value ∙ sym c.as_slice-4.ensures.value)) c.begin_each.ensures;
 }
 
--- all that the process sends is sent in each track, so all is known before the next place
+-- all that the process sends is sent in each track, so all is known before the next place (`next_known`)
 pub returns : goal.returns
 returns c =
     next_known c.args.setting.now c.requires.setting.topological c.args.process c.requires.process

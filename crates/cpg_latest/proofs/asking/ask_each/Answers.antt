@@ -4,7 +4,7 @@ use Rattle.cpg_base.specs.Scenario.{Scenario}
 use Rattle.cpg_latest.proofs.AskedTracks.{asked_more, outcomes_more}
 use Rattle.cpg_latest.proofs.asking.ask_each.Goals as goal
 
--- one more track is asked of the process
+-- what this track says is right, as `ask` promises, and has its outcome
 pub loop-track-preserved : goal.loop-track-preserved
 loop-track-preserved c = record {
   asked = asked_more c.args.setting.now.problem.now c.args.setting.now.guards.now c.args.process

@@ -3,7 +3,8 @@ use Rattle.std.proofs.Common.{◌≡◌, take}
 use Rattle.cpg_latest.specs.Course.{AreAsked, outcomes_asked, outcomes_of}
 use Rattle.cpg_latest.proofs.asking.ask_each.Given as goal
 
--- what is asked so far is right, and has the outcomes of the tracks so far in their order
+-- `asked`: each answer so far is what an outcome says of the process. `outcomes`: these are the outcomes of the tracks so far,
+-- in their order.
 abbrev pub invariant-loop-track : goal.invariant-loop-track
 invariant-loop-track l = record {
   asked : AreAsked l.setting.problem.now l.setting.guards.now l.process l.asked.items;

@@ -4,7 +4,7 @@ use Rattle.cpg_base.specs.Numbers.{greatest}
 use Rattle.cpg_latest.specs.Lanes.{excess_of_course, finish_of, last_course}
 use Rattle.cpg_latest.proofs.figures.greatest_figures.Given as goal
 
--- both figures are the greatest of the lanes so far, each in its course with all the faults
+-- `excess`, `worst`: each figure is the greatest of the lanes so far, of their courses with all the faults
 abbrev pub invariant-loop-lane : goal.invariant-loop-lane
 invariant-loop-lane l = record {
   excess : l.figures.excess

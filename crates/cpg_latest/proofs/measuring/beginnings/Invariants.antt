@@ -3,6 +3,6 @@ use Rattle.std.proofs.Common.{◌≡◌, replicate}
 use Rattle.cpg_latest.specs.Lanes.{no_lane}
 use Rattle.cpg_latest.proofs.measuring.beginnings.Given as goal
 
--- each turn adds one lane in which nothing is known
+-- there is one lane in which nothing is known for each turn so far
 abbrev pub invariant-loop : goal.invariant-loop
 invariant-loop l = l.lanes.items ≡ replicate l.counter (no_lane l.problem)

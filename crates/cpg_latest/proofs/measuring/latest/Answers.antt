@@ -18,7 +18,7 @@ use Rattle.cpg_latest.proofs.Found.{figures_found, lanes_first, settled_none}
 use Rattle.cpg_latest.proofs.OverAll.{long_track}
 use Rattle.cpg_latest.proofs.measuring.latest.Goals as goal
 
--- before the first place no frozen time is set and nothing is known
+-- before the first place no item is done, so no frozen time is set, and nothing is known in any course
 pub loop-place-init : goal.loop-place-init
 loop-place-init c =
     let g = c.of-setting.result.problem.now in
@@ -65,7 +65,7 @@ step-requires-clause-values c i d l =
     (omega (arith, l, length-map tracks (λ (s : Scenario). s.values)))
     ∙ ap condition_count (sym c.of-setting.ensures.problem)
 
--- behind the last place all is known, so the greatest of the last courses are the figures of the order
+-- after the last place all is known, so the greatest excess and finish of the last courses are those of the order
 pub returns : goal.returns
 returns c =
     let setting = c.of-setting.result in

@@ -4,6 +4,6 @@ use Rattle.cpg_latest.specs.Course.{outcomes_of}
 use Rattle.cpg_latest.specs.Lanes.{AreKnown}
 use Rattle.cpg_latest.proofs.measuring.latest.Given as goal
 
--- all frozen times and courses are known for the processes before this place of the order
+-- before this place the frozen items have their frozen times, and each track's courses their latest times
 abbrev pub invariant-loop-place : goal.invariant-loop-place
 invariant-loop-place l = AreKnown l.setting (outcomes_of l.tracks) l.place l.frozen l.lanes.items

@@ -10,7 +10,7 @@ use Rattle.cpg_latest.proofs.CourseSteps.{begins, begun, end_is_latest, last_sma
 use Rattle.cpg_latest.proofs.LatestExists.{the_latest, latest_exist}
 use Rattle.cpg_latest.proofs.stepping.begin.Goals as goal
 
--- what is known of small latest times is small
+-- the course knows latest times, which are below 2 ^ 59 under early frozen times
 pub ready-ready-requires-clause-small : goal.ready-ready-requires-clause-small
 ready-ready-requires-clause-small c =
     let g = c.args.setting.now.problem.now in
@@ -20,7 +20,7 @@ ready-ready-requires-clause-small c =
     c.requires.asked.long c.requires.early
     c.args.faults c.requires.faults (place order c.args.process) c.args.course.now c.requires.course
 
--- what is known of small latest times is small
+-- the course knows latest times, which are below 2 ^ 59 under early frozen times
 pub unfrozen_start-unfrozen-requires-clause-small : goal.unfrozen_start-unfrozen-requires-clause-small
 unfrozen_start-unfrozen-requires-clause-small c =
     let g = c.args.setting.now.problem.now in
@@ -69,7 +69,7 @@ latest_end-end-requires-clause-start c =
     c.args.faults c.requires.faults in
     omega (arith, is, small.times p)
 
--- the latest end with one fault less is small
+-- `last` is a latest end, or 0, and so below 2 ^ 60
 pub latest_end-end-requires-clause-last : goal.latest_end-end-requires-clause-last
 latest_end-end-requires-clause-last c =
     let g = c.args.setting.now.problem.now in
@@ -106,7 +106,7 @@ returns-clause-sends c =
     c.ready-ready.result c.ready-ready.ensures (inr (inl refl)) acts c.max-start.result is_start c.latest_end-end.result
     c.args.last c.latest_end-end.ensures (c.requires.last c.if-not-asked.false))
 
--- the end that is found is the latest one of the process
+-- the end follows from the latest start and from the latest end with one fault less as the latest end does
 pub returns-clause-end : goal.returns-clause-end
 returns-clause-end c on_asked =
     let g = c.args.setting.now.problem.now in

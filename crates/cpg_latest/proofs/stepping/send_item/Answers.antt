@@ -4,7 +4,7 @@ use Rattle.cpg_base.proofs.Bounds.{round-le}
 use Rattle.cpg_latest.specs.Lanes.{send_at}
 use Rattle.cpg_latest.proofs.stepping.send_item.Goals as goal
 
--- the time of the send is small, so a round more has room
+-- the time of the send is below 2 ^ 59 and a round is short, so the sum doesn't overflow
 pub overflow_add-free : goal.overflow_add-free
 overflow_add-free c =
     let g = c.args.setting.now.problem.now in

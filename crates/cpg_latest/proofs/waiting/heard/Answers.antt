@@ -20,7 +20,8 @@ latest_heard-requires-clause-conditions c d k =
     (conditions_along c.args.setting.now.problem.now a.0) d
     (subst (λ ds. Contains ds d) is k)).0).0
 
--- the latest of these conditions to be heard is the latest of all that decide the process
+-- the conditions asked for are just those that decide the process, so the latest hearing of them is the greatest of all that
+-- decide it
 pub returns : goal.returns
 returns c =
     let a = c.requires.setting.admitted in

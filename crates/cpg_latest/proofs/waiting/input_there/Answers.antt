@@ -5,7 +5,7 @@ use Rattle.cpg_bus.specs.Share.{HasSlot}
 use Rattle.cpg_run.proofs.Senders.{message_slot}
 use Rattle.cpg_latest.proofs.waiting.input_there.Goals as goal
 
--- the sender of the message has a slot
+-- the edge is a message, and each node that sends messages has a slot
 pub frame_there-requires-clause-slot : goal.frame_there-requires-clause-slot
 frame_there-requires-clause-slot c =
     let is : c.node_of.result ≡ node_of c.args.problem.now (source c.args.problem.now c.args.edge) =

@@ -1,10 +1,10 @@
--- Proof of `narrow_by_cube`: narrows a cube by another that is one of some literals.
+-- Proof of `narrow_by_cube`: narrows a cube by another one.
 use Rattle.std.proofs.Common.{◌∙◌, sym, ap, subst}
 use Rattle.cpg_list.specs.Narrowing.{met, IsNarrowed}
 use Rattle.cpg_list.proofs.CodeCubes.{cube_narrowed}
 use Rattle.cpg_list.proofs.cubes.narrow_by_cube.Goals as goal
 
--- to meet a cube of some literals narrows the cube by these
+-- the new cube is the old one met with the other, and that is narrowed by the literals that the other is of
 pub returns : goal.returns
 returns c k literals is = subst (IsNarrowed k literals c.args.cube.now)
     (sym (c.in_ok-narrow.ensures ∙ ap (met c.args.cube.now) c.literals.ensures.literals))

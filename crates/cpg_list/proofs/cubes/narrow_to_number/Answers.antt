@@ -9,7 +9,8 @@ use Rattle.cpg_run.proofs.CubesOf.{number_at_most}
 use Rattle.cpg_run.proofs.SameInRows.{only_one}
 use Rattle.cpg_list.proofs.cubes.narrow_to_number.Goals as goal
 
--- the cube is met with the literal of the variable's number, which doesn't go past the top
+-- the cube is met with the one literal of the number, whose high isn't past the greatest number of the variable, and so it
+-- is narrowed by that literal
 pub returns : goal.returns
 returns c =
     let g = c.args.problem.now in

@@ -12,6 +12,7 @@ push-requires c =
     let none : Literal = record { variable = 0; low = 0; high = 0 } in
     let i = c.loop-literal.literal-index in
     let ls = c.args.literals.now in
+    -- the old cube and all literals are the cube so far, this literal and the literals left
     let split : c.args.cube.now ++ ls ≡ c.loop-literal.cube ++ get_or ls i none ∷ drop (suc i) ls =
     ap (λ xs. c.args.cube.now ++ xs)
     (sym (take-append-drop i ls) ∙ ap (λ xs. take i ls ++ xs) (drop-cons ls i none c.loop-literal-test.true))

@@ -2,6 +2,6 @@
 use Rattle.std.proofs.Common.{◌≡◌, ◌++◌, take}
 use Rattle.cpg_list.proofs.cubes.push_all.Given as goal
 
--- the cube is the old one followed by the literals so far
+-- the cube has its old literals, and then those so far
 abbrev pub invariant-loop-literal : goal.invariant-loop-literal
 invariant-loop-literal l = l.cube ≡ l.fn.cube ++ take l.literal-index l.literals

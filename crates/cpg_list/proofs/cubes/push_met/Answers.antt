@@ -21,7 +21,7 @@ push-requires c = record {
       c.in-Some-split_first.ensures.cases.0 c.if-one-other.true;
 }
 
--- it is added, and the rest of both cubes is still to be met
+-- the first cube's literal is added, and the rest of both cubes is still to be met
 pub loop-one-preserved-then-one-other : goal.loop-one-preserved-then-one-other
 loop-one-preserved-then-one-other c = record {
   first = rising_left c.loop-one.ones.now c.in-Some.one.now c.in-Some.ones_left.now c.loop-one.invariant.first
@@ -45,7 +45,7 @@ push-requires-then-other-one c = record {
       c.in-Some-split_first.ensures.cases.0 c.if-other-one.true;
 }
 
--- it is added, and the rest of both cubes is still to be met
+-- the second cube's literal is added, and the rest of both cubes is still to be met
 pub loop-one-preserved-then-other-one : goal.loop-one-preserved-then-other-one
 loop-one-preserved-then-other-one c = record {
   first = c.loop-one.invariant.first;
@@ -62,6 +62,7 @@ loop-one-preserved-then-other-one c = record {
 -- both literals are on one variable, which is above all that were added
 pub push-requires-else-other-one : goal.push-requires-else-other-one
 push-requires-else-other-one c =
+    -- neither variable is below the other, so they are one
     let e : c.in-Some.one.now.variable ≡ c.in-Some-split_first.other.now.variable =
     omega (arith, c.if-one-other.false, c.if-other-one.false) in
     let v : c.both.result.variable ≡ c.in-Some.one.now.variable = ap (λ (x : Literal). x.variable) c.both.ensures in
@@ -81,6 +82,7 @@ push-requires-else-other-one c =
 -- both are met and added, and the rest of both cubes is still to be met
 pub loop-one-preserved : goal.loop-one-preserved
 loop-one-preserved c =
+    -- neither variable is below the other, so they are one
     let e : c.in-Some.one.now.variable ≡ c.in-Some-split_first.other.now.variable =
     omega (arith, c.if-one-other.false, c.if-other-one.false) in
     record {
@@ -106,7 +108,7 @@ push_all-requires c =
     (nothing_left c.loop-one.others.now c.loop-one.invariant.second c.loop-one.ones.now none) in
     subst IsRising e c.requires.both
 
--- no literal of the first cube is left, so the rest of the second is what the two rests met are
+-- no literal of the first cube is left, so what is left of the two, met, is just the rest of the second
 pub returns-in_default : goal.returns-in_default
 returns-in_default c =
     let none = nothing c.loop-one.ones.now (omega (arith, c.in_default.ensures.cases)) in

@@ -4,8 +4,8 @@ use Rattle.cpg_cube.specs.Cube.{IsRising}
 use Rattle.cpg_list.specs.Narrowing.{met}
 use Rattle.cpg_list.proofs.cubes.push_met.Given as goal
 
--- `first`, `second`: what is left of each cube rises. `all`: the cube so far, followed by what is left of the two
--- met, is the old cube followed by the two met as a whole.
+-- `first`, `second`: the variables of what is left of each cube rise. `all`: the cube so far and then what is left of the
+-- two, met, are the old cube and then the two whole cubes, met.
 abbrev pub invariant-loop-one : goal.invariant-loop-one
 invariant-loop-one l = record {
   first : IsRising l.ones;

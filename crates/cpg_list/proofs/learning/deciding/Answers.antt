@@ -11,7 +11,8 @@ use Rattle.cpg_rules.specs.Guards.{AreGuardsOf}
 use Rattle.cpg_list.specs.Learning.{AreDeciding}
 use Rattle.cpg_list.proofs.learning.deciding.Goals as goal
 
--- the conditions that pass the test along the order are those that decide the process
+-- the guards list the conditions that decide the process in the urgency order; these are the same as in the order of their
+-- numbers
 pub returns : goal.returns
 returns c =
     let a = c.args.admitted.now in

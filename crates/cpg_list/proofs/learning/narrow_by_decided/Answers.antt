@@ -17,7 +17,7 @@ narrow_by_values-requires-clause-conditions c d j =
     numbers-Contains (condition_count g) d (Contains-filter_parts (decides g c.args.scenario.now.values c.args.process)
     (numbers_below (condition_count g)) d (c.requires.conditions.each d j)).0
 
--- the given conditions are those that decide the process, in any order
+-- the given conditions are those that decide the process in another order, and to a cube the order of literals is the same
 pub returns : goal.returns
 returns c =
     let g = c.args.problem.now in

@@ -7,7 +7,8 @@ use Rattle.cpg_list.proofs.CodeCubes.{met_narrowed}
 use Rattle.cpg_list.proofs.CodeTold.{told_highs}
 use Rattle.cpg_list.proofs.learning.narrow_by_frame.Goals as goal
 
--- the frame of the item carries the literals of the column that matches
+-- the cube is met with the literals of the column that matches, which are those that the frame carries; none of their highs is
+-- past the greatest number of its variable, so it is narrowed by them
 pub returns : goal.returns
 returns c =
     let k = c.args.frames.now.problem.now.faults in

@@ -24,7 +24,7 @@ narrow_by_conditions-requires-clause-conditions c d j =
 pub narrow_by_conditions-requires-clause-told : goal.narrow_by_conditions-requires-clause-told
 narrow_by_conditions-requires-clause-told c d j = c.requires.told d (c.requires.conditions.each d j)
 
--- the given conditions are those that decide the process, and each broadcast was heard
+-- the given conditions are those that decide the process in another order, and to a cube the order of literals is the same
 pub returns : goal.returns
 returns c =
     let g = c.args.frames.now.problem.now in

@@ -1,4 +1,4 @@
--- Recursion of `from_variable`: the literals on a variable and on those above.
+-- Recursion of `from_variable`: the literals from the first on whose variable is a given one or above.
 use Rattle.std.proofs.Common.{length}
 use Rattle.cpg_list.proofs.least.+from_variable.Given as goal
 

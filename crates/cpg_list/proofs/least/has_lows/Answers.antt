@@ -8,7 +8,7 @@ use Rattle.cpg_list.specs.Narrowing.{as_number}
 use Rattle.cpg_list.proofs.CodeLeast.{from-rising, from-low, from-front}
 use Rattle.cpg_list.proofs.least.has_lows.Goals as goal
 
--- this variable isn't at its low, so not all are
+-- the scenario's number of this variable isn't the least that the literals allow, so not all are
 pub returns-then-number-as_number : goal.returns-then-number-as_number
 returns-then-number-as_number c =
     let v = c.loop-variable.variable in
@@ -21,7 +21,7 @@ returns-then-number-as_number c =
           ∙ h v c.loop-variable.auto.variable c.loop-variable-test.true ∙ sym front ∙ sym c.as_number.ensures)),
     )
 
--- this variable is at its low, so all up to the next one are
+-- the scenario's number of this variable is the least that the literals allow, and so are those up to the next variable
 pub loop-variable-preserved : goal.loop-variable-preserved
 loop-variable-preserved c =
     let v = c.loop-variable.variable in

@@ -7,7 +7,7 @@ use Rattle.cpg_list.specs.Narrowing.{as_number}
 use Rattle.cpg_list.proofs.CodeLeast.{lows_are, counts_are, values_are}
 use Rattle.cpg_list.proofs.least.is_least.Goals as goal
 
--- some count isn't at its low, so the scenario isn't the least
+-- some fault count isn't the least that the cube allows, but those of the least scenario are
 pub returns-then-not-has_lows : goal.returns-then-not-has_lows
 returns-then-not-has_lows c =
     let g = c.args.problem.now in (
@@ -19,7 +19,7 @@ returns-then-not-has_lows c =
           ∙ ap (λ ls. as_number v (low_in ls v)) (sym c.literals-literals.ensures.literals)))),
     )
 
--- all counts and values are at their lows exactly if the scenario is the least
+-- the fault counts are the least that the cube allows; so the scenario is the least exactly if the values are, too
 pub returns : goal.returns
 returns c =
     let g = c.args.problem.now in

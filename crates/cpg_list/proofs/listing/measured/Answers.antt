@@ -3,7 +3,8 @@ use Rattle.cpg_run.proofs.BuiltTables.{found_tables_are_built}
 use Rattle.cpg_list.proofs.CodeMade.{timed_of}
 use Rattle.cpg_list.proofs.listing.measured.Goals as goal
 
--- the tables have the rows that a builder has to find, and the measures are those of all runs
+-- the tables are written of found rows, and the finish and the excess are the greatest of all runs; by
+-- `found_tables_are_built` that is all that a builder promises
 pub returns : goal.returns
 returns c =
     let g = c.args.admitted.now.graph in
@@ -21,9 +22,11 @@ returns c =
       excess_in = c.in_ok-excess.excess.scenario;
       excess_by = c.in_ok-excess.excess.process;
     })
+    -- the graph is within its limits, and admitted
     c.problem-problem.ensures.admitted.limits
     (timed_of g urgency order c.args.admitted.now.guards c.args.frozen c.problem-problem.ensures.admitted
     c.requires.topological c.requires.tables.found.frozen_times).admitted
+    -- what was found of it: the tables are written of rows, and both figures are the greatest of the runs
     (record {
       found = c.requires.tables.found;
       written = c.requires.tables.written;

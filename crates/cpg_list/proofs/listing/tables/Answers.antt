@@ -11,7 +11,7 @@ use Rattle.cpg_list.proofs.CodeMade.{timed_of}
 use Rattle.cpg_list.proofs.FoundRows.{found_rows}
 use Rattle.cpg_list.proofs.listing.tables.Goals as goal
 
--- the rows are those of the graph's items
+-- the rows are found, so they fit, as no item is too wide, and can be written
 pub tables_of-requires-clause-rows : goal.tables_of-requires-clause-rows
 tables_of-requires-clause-rows c =
     let g = c.args.admitted.now.graph in
@@ -28,7 +28,7 @@ tables_of-requires-clause-rows c =
     (found_rows_fit g urgency order frozen rows c.problem-problem.ensures.admitted.limits timed.admitted found
     (none_too_wide g order c.requires.narrow)))
 
--- the rows of all scenarios are the rows that a builder has to find
+-- the rows of merged entries are found rows, and the tables are written of them
 pub returns : goal.returns
 returns c =
     let g = c.args.admitted.now.graph in

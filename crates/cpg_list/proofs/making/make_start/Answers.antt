@@ -65,13 +65,14 @@ returns-clause-same c =
     let found = subst
     (λ (rs : List Row). AreEntriesOf a.graph order frozen (columns_of_rows rs) p c.in_ok-entries.entries.items)
     c.as_slice.ensures.value c.in_ok-entries.ensures.entries in
+    -- the row that is set is that of p, which is no earlier process
     same_before a.graph a.order order frozen timed (IsBefore a.graph order (place order p)) c.args.rows.now.items
     c.requires.made p (omega (arith, c.requires.process))
     (λ y h. omega (arith, h, by)) c.in_ok-entries.entries.items found
     (λ h. omega (arith, h, by)) (λ y h. omega (arith, h, by)) c.set_row.new.rows.items c.in_ok-set_row.ensures
     (place order p) (omega (arith, by))
 
--- the start is made, too
+-- the row of the start is set to its entries, merged, and all other rows stay, so the start has its row too
 pub returns-clause-made : goal.returns-clause-made
 returns-clause-made c =
     let a = c.args.listed.now.admitted.now in
@@ -89,7 +90,8 @@ returns-clause-made c =
     (λ y h. omega (arith, h, by)) c.in_ok-entries.entries.items found
     (λ h. omega (arith, h, by)) (λ y h. omega (arith, h, by)) c.set_row.new.rows.items c.in_ok-set_row.ensures
 
--- what the node passes on depends only on earlier rows, so its cubes stay right
+-- what the node carries on from its processes up to this one depends only on earlier rows, which stay, so its cubes stay
+-- right
 pub returns-clause-known : goal.returns-clause-known
 returns-clause-known c =
     let a = c.args.listed.now.admitted.now in

@@ -10,7 +10,7 @@ use Rattle.cpg_list.proofs.sends.deciding_value.Goals as goal
 pub item-requires : goal.item-requires
 item-requires c = queue_within c.args.problem.now c.args.process c.args.item c.requires.item
 
--- the item is a message for one value only, so the condition of its source decides whether it is sent
+-- the item is the message of an edge with a `when`, so the condition of its source decides whether it is sent
 pub returns : goal.returns
 returns c =
     let g = c.args.problem.now in

@@ -7,7 +7,8 @@ use Rattle.cpg_list.proofs.CodeCubes.{narrowed_then}
 use Rattle.cpg_list.proofs.CodeStarts.{from_whole}
 use Rattle.cpg_list.proofs.sends.frozen_end.Goals as goal
 
--- the whole cube is narrowed by what decides the process, and then by its count
+-- a cube that matches every scenario is narrowed by what decides the process, and then by its count, so it is the cube of
+-- both
 pub returns : goal.returns
 returns c =
     let g = c.args.admitted.now.graph in

@@ -5,7 +5,7 @@ use Rattle.cpg_run.specs.Carried.{decided, number_known}
 use Rattle.cpg_run.specs.Rows.{IsCubeOf}
 use Rattle.cpg_list.proofs.sends.frozen_ends.Given as goal
 
--- for each scenario so far the cube of the values that decide the process, and of the process's own number
+-- there is a cube for each scenario so far: that of what decides the process, and of its fault count
 abbrev pub invariant-loop-at : goal.invariant-loop-at
 invariant-loop-at l = record {
   count : length l.cubes.items ≡ l.at;

@@ -8,7 +8,7 @@ use Rattle.cpg_list.specs.Narrowing.{IsNarrowed}
 use Rattle.cpg_list.proofs.CodeCubes.{narrowed_then}
 use Rattle.cpg_list.proofs.sends.narrow_by_sending.Goals as goal
 
--- the item is one that the process sends; the problem is the same graph
+-- the item is in the queue of the process, and the problem is the admitted graph
 pub narrow_by_sent_value-requires-clause-item : goal.narrow_by_sent_value-requires-clause-item
 narrow_by_sent_value-requires-clause-item c = subst (λ (h : Graph). Contains (queue_of h c.args.process) c.args.item)
     (sym c.problem-problem.ensures.problem) c.requires.item

@@ -35,11 +35,13 @@ returns-in_default-clause-carried c =
     let p = c.args.process in
     let rows = columns_of_rows c.args.frames.now.rows.now in
     let e = c.requires.graph in
+    -- the cube is narrowed by what decides the process, and then by what its node hears
     let first = subst (λ (h : Graph). IsNarrowed h.faults (decided h s p) c.args.cube.now c.narrow_by_decided.new.cube)
     e c.in_ok-narrow_by_decided.ensures in
     let second = subst
     (λ (h : Graph). IsNarrowed h.faults (heard h rows s p) c.narrow_by_decided.new.cube c.narrow_by_heard.new.cube)
     e c.in_ok-narrow_by_heard.ensures in
+    -- the run has no time for the process, so it is inactive
     let off : active g s.values p ≡ false =
     sym (process_active g rows s p c.requires.process c.args.frames.now.times.now c.requires.active)
     ∙ ap is_some (sym c.time.ensures ∙ c.in_default.is) in
@@ -55,11 +57,13 @@ returns-clause-entry c earlier is =
     let p = c.args.process in
     let rows = columns_of_rows c.args.frames.now.rows.now in
     let e = c.requires.graph in
+    -- the cube is narrowed by what decides the process, and then by what its node hears
     let first = subst (λ (h : Graph). IsNarrowed h.faults (decided h s p) c.args.cube.now c.narrow_by_decided.new.cube)
     e c.in_ok-narrow_by_decided.ensures in
     let second = subst
     (λ (h : Graph). IsNarrowed h.faults (heard h rows s p) c.narrow_by_decided.new.cube c.narrow_by_heard.new.cube)
     e c.in_ok-narrow_by_heard.ensures in
+    -- so it is the cube of what was passed on before, what decides the process and what is heard
     let before = second.by (earlier ++ decided g s p) (first.by earlier is) in
     let found = subst
     (λ (h : Graph). IsCubeOf h.faults (earlier ++ decided h s p ++ heard h rows s p) c.narrow_by_heard.new.cube →
@@ -77,6 +81,7 @@ returns-clause-carried c =
     let rows = columns_of_rows c.args.frames.now.rows.now in
     let e = c.requires.graph in
     -- the cube is narrowed by what decides the process, by what is heard, by what is received, and by its count
+    -- the cube was narrowed by what decides p, and then by what the broadcasts told of that
     let first = subst (λ (h : Graph). IsNarrowed h.faults (decided h s p) c.args.cube.now c.narrow_by_decided.new.cube)
     e c.in_ok-narrow_by_decided.ensures in
     let second = subst

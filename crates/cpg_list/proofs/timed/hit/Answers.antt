@@ -1,4 +1,4 @@
--- Proof of `hit`: the place of a column of a time that matches.
+-- Proof of `hit`: the place of a column that has a given time and matches in a scenario.
 use Rattle.std.proofs.Common.{◌∙◌, ◌<◌, length, get_or, sym, ap, rules, []}
 use Rattle.std.proofs.lemmas.List.{get_or_default}
 use Rattle.cpg_cube.specs.Cube.{matches}

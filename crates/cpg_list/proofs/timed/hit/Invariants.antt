@@ -1,4 +1,4 @@
--- Loops of `hit`: the place of a column of a time that matches.
+-- Loops of `hit`: the place of a column that has a given time and matches in a scenario.
 use Rattle.cpg_list.proofs.CodeTimes.{ArePassed}
 use Rattle.cpg_list.proofs.timed.hit.Given as goal
 

@@ -2,6 +2,6 @@
 use Rattle.cpg_list.proofs.CodeTimes.{AreTimes}
 use Rattle.cpg_list.proofs.timed.ordered_by_time.Given as goal
 
--- each column so far stands with its time and its place
+-- each column so far is there with its time and its place
 abbrev pub invariant-loop-place : goal.invariant-loop-place
 invariant-loop-place l = AreTimes l.columns l.place l.by_time.items

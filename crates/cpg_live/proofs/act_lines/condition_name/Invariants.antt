@@ -4,7 +4,8 @@ use Rattle.cpg_head.specs.declared.head_parts.HeadProcess.{HeadProcess}
 use Rattle.cpg_label.specs.Labels.{condition_name, head_labels}
 use Rattle.cpg_live.proofs.act_lines.condition_name.Given as goal
 
--- the name of the condition is that of the process at place `before` among the processes left that have a condition
+-- the name of the condition is that of the process at place `before` among those left that have a condition; empty if
+-- there are fewer
 abbrev pub invariant-loop-process : goal.invariant-loop-process
 invariant-loop-process l =
     get_or (map (λ (p : HeadProcess). p.name)

@@ -1,4 +1,4 @@
--- Proof of `number`: the number below 2^60 that some digits write, if they are those of a time.
+-- Proof of `number`: the number below 2^60 of some digits, if they are those of a time.
 use Rattle.std.proofs.Common.{ℕ, ◌≡◌, ◌<◌, ◌^◌, List, Some, Result, Ok, Err, arith, sym, ap, ◌∙◌, subst}
 use Rattle.std.specs.Fmt.{decimal}
 use Rattle.std.specs.Str.{IsUtf8}
@@ -15,23 +15,23 @@ abbrev given : {E : Type 0} → Result ℕ E → ℕ
 given (Ok x) = x
 given (Err e) = 0
 
--- bytes that aren't UTF-8 are the digits of no number
+-- bytes that aren't UTF-8 are the digits of no number, since digits are
 pub returns-in_default-clause-is : goal.returns-in_default-clause-is
 returns-in_default-clause-is c = λ n l e. absurd (c.in_default.ensures.cases.0 (utf8 c.args.digits.now n l e))
 
--- the text of a number below the bound would be parsed, so this is no such text
+-- the digits of a number below 2^60 would be parsed, and these weren't
 pub returns-in_default-parse-clause-is : goal.returns-in_default-parse-clause-is
 returns-in_default-parse-clause-is c = λ n l e. absurd
     (c.in_default-parse.not-Ok n (parse-decimal 64 n c.in-Ok.text.now c.parse.result (omega arith) (omega arith)
     (c.in-Ok.ensures.cases.0 ∙ e) c.parse.ensures.value.0))
 
--- the text is that of the number that was parsed
+-- the digits of n are parsed as n, so n is the number that was parsed
 pub returns-then-number-lt-TOO_LATE-clause-is : goal.returns-then-number-lt-TOO_LATE-clause-is
 returns-then-number-lt-TOO_LATE-clause-is c =
     λ n l e. ap Some (ap given (sym c.in-Ok-parse.is ∙ parse-decimal 64 n c.in-Ok.text.now c.parse.result (omega arith)
     (omega arith) (c.in-Ok.ensures.cases.0 ∙ e) c.parse.ensures.value.0))
 
--- the digits write a number that is too late, so they write no number below 2^60
+-- the digits of n are parsed as n, and what was parsed isn't below 2^60, so n isn't either
 pub returns-else-number-lt-TOO_LATE-clause-is : goal.returns-else-number-lt-TOO_LATE-clause-is
 returns-else-number-lt-TOO_LATE-clause-is c = λ n l e. absurd (omega (
   arith,

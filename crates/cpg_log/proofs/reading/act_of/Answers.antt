@@ -5,7 +5,7 @@ use Rattle.cpg_log.specs.Log.{Log}
 use Rattle.cpg_log.proofs.ReadingLaws.{act_parts}
 use Rattle.cpg_log.proofs.reading.act_of.Goals as goal
 
--- the digits of the line write no time, so the line is of no act
+-- the line of an act would have the digits of its time before the first blank, and these are those of no time
 pub returns-in_default-2-clause-none : goal.returns-in_default-2-clause-none
 returns-in_default-2-clause-none c = λ act may e.
     let early : act.time < 2 ^ 60 = omega (arith, may.act.time, c.requires.until) in
@@ -14,7 +14,7 @@ returns-in_default-2-clause-none c = λ act may e.
     let none = rw c.in_default-2.is at c.in_ok-time.ensures.none in
     none act.time early parts.0
 
--- the time of the line is past that of the log, so the line is of no act of the log
+-- the line of an act would have the act's time, and the time of this line is past that of the log
 pub returns-then-log-time-clause-none : goal.returns-then-log-time-clause-none
 returns-then-log-time-clause-none c = λ act may e.
     let early : act.time < 2 ^ 60 = omega (arith, may.act.time, c.requires.until) in
@@ -25,7 +25,7 @@ returns-then-log-time-clause-none c = λ act may e.
     (sym read.0 ∙ parts.0) in
     omega (arith, c.if-log-time.true, ap (λ (l : Log). l.until) c.log.view_is, may.act.time, same)
 
--- the text names no item that may still be logged, so the line is that of no act
+-- the line of an act would have the text of its item, and this is the text of no item that the log may go on with
 pub returns-in_default-item_named-clause-none : goal.returns-in_default-item_named-clause-none
 returns-in_default-item_named-clause-none c = λ act may e.
     let early : act.time < 2 ^ 60 = omega (arith, may.act.time, c.requires.until) in

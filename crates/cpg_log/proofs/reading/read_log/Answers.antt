@@ -6,7 +6,7 @@ use Rattle.cpg_log.specs.declared.fault.LogFault.TheVariants.{Bad}
 use Rattle.cpg_log.proofs.ReadingLaws.{lack_bad, line_read, line_strange}
 use Rattle.cpg_log.proofs.reading.read_log.Goals as goal
 
--- the log can't be opened: its first line is bad, or it has none
+-- the first line opens no log, or there is none, so line 0 is the first bad one
 pub returns-in_err-log-clause-bad : goal.returns-in_err-log-clause-bad
 returns-in_err-log-clause-bad c = λ place e.
     let told : c.opened.result ≡ Err (Bad place) = search rules in
@@ -14,7 +14,7 @@ returns-in_err-log-clause-bad c = λ place e.
     subst (IsBadLine c.args.problem.now (lines c.args.bytes.now)) (sym lack.0)
     (lack_bad c.args.problem.now (lines c.args.bytes.now) lack.1)
 
--- the log can't go on with the line, so that is the first bad line
+-- the lines so far are those of a log, which can't go on with this one, so this is the first bad line
 pub returns-in_err-rest-clause-bad : goal.returns-in_err-rest-clause-bad
 returns-in_err-rest-clause-bad c = λ place e.
     let told : c.read_line.result ≡ Err (Bad place) = search rules in
@@ -23,7 +23,7 @@ returns-in_err-rest-clause-bad c = λ place e.
     c.loop-rest.invariant.spelled
     place (c.read_line.ensures.bad place told)
 
--- the line of this turn is read, so the log with its act is lawful, and the lines are spelled by the log and the rest
+-- the log with the act of this line is lawful, and the lines are its lines and those of the rest
 pub loop-rest-preserved : goal.loop-rest-preserved
 loop-rest-preserved c =
     let read = line_read c.args.problem.now (lines c.args.bytes.now) c.loop-rest.log c.loop-rest.rest.now

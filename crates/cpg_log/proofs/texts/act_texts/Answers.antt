@@ -1,4 +1,4 @@
--- Proof of `act_texts`: these texts of all items, by number.
+-- Proof of `act_texts`: the texts of all items, by number.
 use Rattle.std.proofs.Common.{ap, ◌∙◌, map, string_bytes}
 use Rattle.std.proofs.lemmas.List.{map_push}
 use Rattle.cpg_base.proofs.Lists.{map_below_push}

@@ -1,4 +1,4 @@
--- Loops of `act_texts`: these texts of all items, by number.
+-- Loops of `act_texts`: the texts of all items, by number.
 use Rattle.std.proofs.Common.{◌≡◌, map, string_bytes}
 use Rattle.cpg_base.specs.Numbers.{numbers_below}
 use Rattle.cpg_log.specs.Log.{act_text}

@@ -1,5 +1,4 @@
--- Loops of `item_named`: the item that a text names, of those that a node starts or sends and a log doesn't name yet;
--- `None` exactly if there is none.
+-- Loops of `item_named`: the item of a text, of those that a node starts or sends and that the log doesn't name yet.
 use Rattle.std.proofs.Common.{◌<◌, ℕ}
 use Rattle.cpg_log.specs.Reading.{IsNew}
 use Rattle.cpg_log.proofs.texts.item_named.Given as goal

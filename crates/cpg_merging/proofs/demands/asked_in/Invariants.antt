@@ -1,4 +1,4 @@
--- Loops of `asked_in`: the sum of the lows, in a byte.
+-- Loops of `asked_in`, which returns how much these literals ask: the sum of their lows, as a byte.
 use Rattle.std.proofs.Common.{◌≡◌, ◌%◌, take, sum_by}
 use Rattle.cpg_merging.specs.Demands.{low_of}
 use Rattle.cpg_merging.proofs.demands.asked_in.Given as goal

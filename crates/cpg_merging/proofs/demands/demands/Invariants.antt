@@ -1,4 +1,4 @@
--- Loops of `demands`: the demands of columns.
+-- Loops of `demands`, which returns the demands of the columns.
 use Rattle.std.proofs.Common.{◌≡◌, map, take}
 use Rattle.cpg_merging.specs.Demands.{demand_of}
 use Rattle.cpg_merging.proofs.demands.demands.Given as goal

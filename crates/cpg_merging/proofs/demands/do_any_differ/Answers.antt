@@ -1,4 +1,4 @@
--- Proof of `do_any_differ`: whether any two demands of one time differ.
+-- Proof of `do_any_differ`, which says whether any two of these demands, which are sorted, have one time and differ.
 use Rattle.std.proofs.Common.{arith}
 use Rattle.cpg_merging.proofs.MergingDemands.{all_agree}
 use Rattle.cpg_merging.proofs.demands.do_any_differ.Goals as goal

@@ -1,4 +1,4 @@
--- Loops of `do_any_differ`: whether any two demands of one time differ.
+-- Loops of `do_any_differ`, which says whether any two of these demands, which are sorted, have one time and differ.
 use Rattle.cpg_merging.proofs.MergingDemands.{NeighboursAgree}
 use Rattle.cpg_merging.proofs.demands.do_any_differ.Given as goal
 

@@ -1,4 +1,4 @@
--- Proof of `do_demands_differ`: whether any two demands of one time differ.
+-- Proof of `do_demands_differ`, which says whether any two of these demands have one time and differ.
 use Rattle.std.proofs.Common.{ℕ, IsPermutation, sym, subst}
 use Rattle.std.proofs.lemmas.List.Sorted.{IsNonDecreasingBy-from_sort}
 use Rattle.cpg_merging.specs.Totals.{DoNotFall}

@@ -1,4 +1,4 @@
--- Recursion of `compare_others`: compares the literals on other variables.
+-- Recursion of `compare_others`, which compares two lists of literals, leaving out those on the variable.
 use Rattle.std.proofs.Common.{◌+◌, length}
 use Rattle.cpg_merging.proofs.joins.+compare_others.Given as goal
 

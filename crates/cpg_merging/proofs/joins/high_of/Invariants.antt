@@ -1,4 +1,5 @@
--- Loops of `high_of`: the greatest number of a variable that literals allow.
+-- Loops of `high_of`, which returns the greatest number that the literals allow a variable; the top of its whole range
+-- if none is on it.
 use Rattle.std.proofs.Common.{◌≡◌, drop}
 use Rattle.cpg_cube.specs.Cube.{high_in}
 use Rattle.cpg_merging.proofs.joins.high_of.Given as goal

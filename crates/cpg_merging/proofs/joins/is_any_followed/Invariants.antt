@@ -1,4 +1,5 @@
--- Loops of `is_any_followed`: whether some column follows the one before it.
+-- Loops of `is_any_followed`, which says whether some column follows the one before it at the variable; false if there
+-- are fewer than two.
 use Rattle.std.proofs.Common.{◌≡◌, drop}
 use Rattle.cpg_merging.specs.Merging.{is_any_followed, is_any_followed_from}
 use Rattle.cpg_merging.proofs.joins.is_any_followed.Given as goal

@@ -1,4 +1,4 @@
--- Loops of `join_neighbours`: makes neighbours one if the second follows the first.
+-- Loops of `join_neighbours`, which returns the columns with neighbours made one where the second follows the first.
 use Rattle.std.proofs.Common.{◌≡◌, ◌++◌}
 use Rattle.std.specs.Vec.Iter.{into_iter_items}
 use Rattle.cpg_merging.specs.Merging.{walked, walked_over}

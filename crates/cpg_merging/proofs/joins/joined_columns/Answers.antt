@@ -1,5 +1,4 @@
--- Proof of `joined_columns`: joins neighbours if the second follows the first, and leaves the columns as they are if
--- none does.
+-- Proof of `joined_columns`, which returns the columns with neighbours made one where the second follows the first.
 use Rattle.std.proofs.Common.{◌≡◌, false, sym, rules}
 use Rattle.cpg_merging.specs.Merging.{is_any_followed}
 use Rattle.cpg_merging.proofs.MergingSteps.{not_walked_over}

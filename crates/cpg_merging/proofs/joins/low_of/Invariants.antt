@@ -1,4 +1,4 @@
--- Loops of `low_of`: the least number of a variable that literals allow.
+-- Loops of `low_of`, which returns the least number that the literals allow a variable; 0 if none is on it.
 use Rattle.std.proofs.Common.{◌≡◌, drop}
 use Rattle.cpg_cube.specs.Cube.{low_in}
 use Rattle.cpg_merging.proofs.joins.low_of.Given as goal

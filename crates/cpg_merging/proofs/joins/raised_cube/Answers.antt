@@ -1,4 +1,4 @@
--- Proof of `raised_cube`: the cube with another high of a variable's range.
+-- Proof of `raised_cube`, which returns a copy of the cube with `high` as the end of the variable's range.
 use Rattle.std.proofs.Common.{arith, sym, subst}
 use Rattle.cpg_cube.specs.Cube.{IsRising}
 use Rattle.cpg_merging.proofs.MergingCubes.{raised_before}

@@ -1,4 +1,4 @@
--- Loops of `raised_cube`: the cube with another high of a variable's range.
+-- Loops of `raised_cube`, which returns a copy of the cube with `high` as the end of the variable's range.
 use Rattle.std.proofs.Common.{◌≡◌, take}
 use Rattle.cpg_merging.specs.Merging.{raised}
 use Rattle.cpg_merging.proofs.joins.raised_cube.Given as goal

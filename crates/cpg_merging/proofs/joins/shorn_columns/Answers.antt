@@ -1,4 +1,5 @@
--- Proof of `shorn_columns`: columns without the literals of the whole range.
+-- Proof of `shorn_columns`, which returns the columns without the literals that have the whole range of their
+-- variable.
 use Rattle.std.proofs.Common.{◌≡◌, false, sym, rules}
 use Rattle.std.specs.List.{list_any}
 use Rattle.cpg_cube.specs.Cube.{is_whole}

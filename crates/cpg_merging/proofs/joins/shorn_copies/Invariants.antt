@@ -1,4 +1,5 @@
--- Loops of `shorn_copies`: copies of columns without the literals of the whole range.
+-- Loops of `shorn_copies`, which returns copies of the columns without the literals that have the whole range of their
+-- variable.
 use Rattle.std.proofs.Common.{◌≡◌, take}
 use Rattle.cpg_merging.specs.Merging.{all_shorn}
 use Rattle.cpg_merging.proofs.joins.shorn_copies.Given as goal

@@ -1,4 +1,5 @@
--- Proof of `shorn_cube`: the cube without the literals of the whole range.
+-- Proof of `shorn_cube`, which returns a copy of the cube without the literals that have the whole range of their
+-- variable.
 use Rattle.std.proofs.Common.{arith, sym, subst}
 use Rattle.cpg_cube.specs.Cube.{IsRising}
 use Rattle.cpg_merging.proofs.MergingCubes.{shorn_before}

@@ -1,4 +1,5 @@
--- Loops of `shorn_cube`: the cube without the literals of the whole range.
+-- Loops of `shorn_cube`, which returns a copy of the cube without the literals that have the whole range of their
+-- variable.
 use Rattle.std.proofs.Common.{◌≡◌, take}
 use Rattle.cpg_merging.specs.Merging.{shorn}
 use Rattle.cpg_merging.proofs.joins.shorn_cube.Given as goal

@@ -1,4 +1,4 @@
--- Proof of `candidates`: columns that include all those that touch another column.
+-- Proof of `candidates`, which returns the columns whose place has columns that ask differently.
 use Rattle.std.proofs.Common.{◌≡◌, ◌∙◌, Bool, Bor, List, ap, filter, map, subst, sym}
 use Rattle.cpg_cube.specs.declared.column.Column.{Column}
 use Rattle.cpg_merging.specs.Kinds.{AreTold, HoldCandidates, is_candidate}

@@ -1,4 +1,4 @@
--- Loops of `chosen`: the columns of these places.
+-- Loops of `chosen`, which returns the columns whose place has a difference.
 use Rattle.std.proofs.Common.{◌≡◌, filter, map, take}
 use Rattle.cpg_merging.specs.Kinds.{is_candidate}
 use Rattle.cpg_merging.proofs.kinds.chosen.Given as goal

@@ -1,4 +1,5 @@
--- Loops of `differing`: the places where some column asks for something else than another column of the place.
+-- Loops of `differing`, which returns at which places some column doesn't ask what the last one of the place does,
+-- which `told` has.
 use Rattle.std.proofs.Common.{◌≡◌, length, take}
 use Rattle.cpg_merging.specs.Kinds.{AreTold}
 use Rattle.cpg_merging.proofs.kinds.differing.Given as goal

@@ -1,4 +1,4 @@
--- Loops of `kind_by`: the kind of a column with this time and these literals.
+-- Loops of `kind_by`, which returns the kind of a column with this time and these literals.
 use Rattle.std.proofs.Common.{◌≡◌, ◌%◌, take, sum_by}
 use Rattle.cpg_merging.specs.Demands.{low_of}
 use Rattle.cpg_merging.specs.Kinds.{variable_of}

@@ -1,4 +1,4 @@
--- Loops of `kinds`: the kinds of columns.
+-- Loops of `kinds`, which returns the kinds of the columns.
 use Rattle.std.proofs.Common.{◌≡◌, map, take}
 use Rattle.cpg_merging.specs.Kinds.{kind_of}
 use Rattle.cpg_merging.proofs.kinds.kinds.Given as goal

@@ -1,4 +1,5 @@
--- Loops of `last_asked`: how much the last column of each place asks.
+-- Loops of `last_asked`: returns, for each of `count` places, how much the last column of the place asks; 0 if it has
+-- none.
 use Rattle.std.proofs.Common.{◌≡◌, length}
 use Rattle.cpg_merging.proofs.kinds.last_asked.Given as goal
 

@@ -1,11 +1,12 @@
--- Proof of `mark`: marks as `mark_each` does, for any number of literals.
+-- Proof of `mark`, which does what `mark_each` does, block by block.
 use Rattle.std.proofs.Common.{rules, ◌≡◌, ◌++◌, inl, inr}
 use Rattle.cpg_cube.specs.declared.literal.Literal.{Literal}
 use Rattle.cpg_merging.specs.Totals.{HasNoPartner, IsMarked}
 use Rattle.cpg_merging.proofs.MergingBlocks.{all_marked, marked_on}
 use Rattle.cpg_merging.proofs.marks.mark.Goals as goal
 
--- this block of literals is marked, and the others are still to be marked
+-- this block's literals are marked where they may be followed; marks stay, and the literals behind the block are still
+-- left
 pub loop-block-preserved : goal.loop-block-preserved
 loop-block-preserved c =
     let old = c.loop-block.invariant in

@@ -1,4 +1,4 @@
--- Loops of `mark`: marks as `mark_each` does, for any number of literals.
+-- Loops of `mark`, which does what `mark_each` does, block by block.
 use Rattle.std.proofs.Common.{ℕ, ◌⊎◌, Contains, length}
 use Rattle.cpg_cube.specs.declared.literal.Literal.{Literal}
 use Rattle.cpg_merging.specs.Totals.{HasNoPartner, IsMarked}

@@ -1,4 +1,5 @@
--- Proof of `mark_at`: marks the variable of a literal if a column with this sum may follow another column there.
+-- Proof of `mark_at`, which marks the variable of a literal if a column with this total may follow another one at the
+-- literal.
 use Rattle.std.proofs.Common.{rules}
 use Rattle.cpg_merging.proofs.MergingTotals.{mark_kept, mark_off, from_off}
 use Rattle.cpg_merging.proofs.marks.mark_at.Goals as goal

@@ -1,4 +1,5 @@
--- Loops of `mark_each`: marks the variables of literals at which a column with this sum may follow another.
+-- Loops of `mark_each`, which marks the variable of each of these literals at which a column with this total may
+-- follow another one.
 use Rattle.std.proofs.Common.{ℕ, Contains, take}
 use Rattle.cpg_cube.specs.declared.literal.Literal.{Literal}
 use Rattle.cpg_merging.specs.Totals.{HasNoPartner, IsMarked}

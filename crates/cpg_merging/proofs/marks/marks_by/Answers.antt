@@ -1,4 +1,5 @@
--- Proof of `marks_by`: the variables at which some column may follow one with a sum among these, marked by number.
+-- Proof of `marks_by`, which returns at which variables some column may follow one whose total is among the sums, by
+-- number.
 use Rattle.std.proofs.Common.{Bor, List, Contains, get_or, arith, subst}
 use Rattle.cpg_cube.specs.declared.column.Column.{Column}
 use Rattle.cpg_cube.specs.declared.literal.Literal.{Literal}

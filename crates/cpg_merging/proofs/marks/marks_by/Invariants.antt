@@ -1,4 +1,5 @@
--- Loops of `marks_by`: the variables at which some column may follow one with a sum among these, marked by number.
+-- Loops of `marks_by`, which returns at which variables some column may follow one whose total is among the sums, by
+-- number.
 use Rattle.std.proofs.Common.{map, take}
 use Rattle.cpg_merging.specs.Totals.{AreMarkedBy}
 use Rattle.cpg_merging.proofs.marks.marks_by.Given as goal

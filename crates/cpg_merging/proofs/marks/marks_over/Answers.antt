@@ -1,4 +1,5 @@
--- Proof of `marks_over`: the variables at which some column may follow another by the sums, marked by number.
+-- Proof of `marks_over`, which returns at which variables some column may follow another one, judged by their totals,
+-- by number.
 use Rattle.std.proofs.Common.{ℕ, List, map, IsPermutation, sym, subst, rules}
 use Rattle.std.proofs.lemmas.List.Sorted.{IsNonDecreasingBy-from_sort}
 use Rattle.cpg_merging.specs.Totals.{total_of, DoNotFall}

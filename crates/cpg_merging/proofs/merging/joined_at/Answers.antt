@@ -1,4 +1,4 @@
--- Proof of `joined_at`: joins columns that touch at a variable, if it is marked.
+-- Proof of `joined_at`, which joins columns that touch at the variable.
 use Rattle.std.proofs.Common.{ℕ, ◌≡◌, ◌∙◌, length, sym, subst, arith, rules, true≢false}
 use Rattle.std.specs.Vec.{vec_len}
 use Rattle.cpg_cube.specs.declared.listing.Listing.{Listing}

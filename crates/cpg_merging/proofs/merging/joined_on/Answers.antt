@@ -1,4 +1,4 @@
--- Proof of `joined_on`: joins columns that touch at a variable.
+-- Proof of `joined_on`, which returns the columns with those joined that touch at the variable.
 use Rattle.std.proofs.Common.{◌≡◌, sym, subst, rules}
 use Rattle.std.specs.Ordering.{is_lt}
 use Rattle.std.specs.List.Sorted.{IsSortedBy}
@@ -11,7 +11,8 @@ use Rattle.cpg_merging.proofs.MergingOrder.{column_total}
 use Rattle.cpg_merging.proofs.MergingSteps.{passed_on}
 use Rattle.cpg_merging.proofs.merging.joined_on.Goals as goal
 
--- the columns are sorted and walked over, which is a step at the variable
+-- a walk over good columns that are sorted for the variable leaves none of them to be joined there, or fewer
+-- (`passed_on`)
 pub returns : goal.returns
 returns c =
     let g = c.args.problem.now in

@@ -1,4 +1,4 @@
--- Proof of `joined_once`: joins columns that touch at any variable.
+-- Proof of `joined_once`, which joins columns that touch, going over all variables once.
 use Rattle.std.proofs.Common.{◌+◌, ◌<◌, ◌≤◌, length, ⊎_elim, inl, inr, ap, arith, refl, rules, sym, ◌∙◌}
 use Rattle.std.proofs.lemmas.Result.{IfOk-weaker}
 use Rattle.cpg_base.specs.Graph.{IsVariable, process_count, condition_count, value_variable}
@@ -9,7 +9,8 @@ use Rattle.cpg_merging.proofs.MergingTotals.{none_on}
 use Rattle.cpg_merging.proofs.MergingSteps.{passed_through, sorted_through}
 use Rattle.cpg_merging.proofs.merging.joined_once.Goals as goal
 
--- going over the counts and then over the values is going over all variables
+-- a variable of the graph is a process below the count of processes, or a value from 128 on, so both rounds go over
+-- all
 pub returns-clause-passed : goal.returns-clause-passed
 returns-clause-passed c =
     let g = c.args.problem.now in

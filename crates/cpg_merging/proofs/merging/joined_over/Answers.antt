@@ -1,5 +1,5 @@
--- Proof of `joined_over`: joins columns that touch at one of the variables from `first` up to, but not including,
--- `end`.
+-- Proof of `joined_over`, which joins columns that touch at any of the variables from `first` on and below `end`, one
+-- variable after another.
 use Rattle.std.proofs.Common.{◌≡◌, ◌+◌, ◌<◌, ◌≤◌, ⊎_elim, inl, inr, arith, refl}
 use Rattle.std.proofs.lemmas.Bool.{cases_lt}
 use Rattle.cpg_merging.specs.Merging.{IsBetween}
@@ -14,7 +14,7 @@ joined_at-requires c = record {
   known = c.requires.known c.loop-variable.variable (omega arith) (omega arith);
 }
 
--- before the first variable nothing has been gone over
+-- before the first variable nothing has been gone over, and the columns are those given
 pub loop-variable-init : goal.loop-variable-init
 loop-variable-init c = record {
   passed = passed_none c.args.problem.now (IsBetween c.args.first c.args.first)
@@ -23,7 +23,7 @@ loop-variable-init c = record {
   sorted = λ t. (t, refl);
 }
 
--- with this variable one more has been gone over
+-- the variables below the next one are those gone over so far and this one
 pub loop-variable-preserved : goal.loop-variable-preserved
 loop-variable-preserved c =
     let v = c.loop-variable.variable in
@@ -39,7 +39,7 @@ loop-variable-preserved c =
           c.loop-variable.invariant.sorted c.in_ok-marked.ensures.sorted;
     }
 
--- all variables from the first up to the end have been gone over
+-- the loop has come to the end, so all variables from the first up to it have been gone over
 pub returns : goal.returns
 returns c = record {
   passed = passed_wider c.args.problem.now (IsBetween c.args.first c.loop-variable.variable)

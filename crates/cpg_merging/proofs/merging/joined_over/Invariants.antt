@@ -1,5 +1,5 @@
--- Loops of `joined_over`: joins columns that touch at one of the variables from `first` up to, but not including,
--- `end`.
+-- Loops of `joined_over`, which joins columns that touch at any of the variables from `first` on and below `end`, one
+-- variable after another.
 use Rattle.cpg_merging.specs.Merging.{IsPassed, IsBetween, IsSortedAs}
 use Rattle.cpg_merging.specs.Totals.{AreMarked}
 use Rattle.cpg_merging.proofs.merging.joined_over.Given as goal

@@ -1,5 +1,6 @@
--- Proof of `merged`: the columns of a row that have the times of the given ones in every scenario of at most as many
--- faults as the problem has, and are as few as can be.
+-- Proof of `merged`, which returns the columns of a row, merged: they have the times of the given ones in every
+-- scenario of at most as many faults as the problem has, and no two have one time, equal ranges of all variables but
+-- one, and ranges of that one which touch.
 use Rattle.std.proofs.Common.{IsPermutation, sym, ap, ◌∙◌, subst, true≢false}
 use Rattle.std.proofs.lemmas.Bool.{OnTrue_from}
 use Rattle.cpg_cube.specs.declared.listing.Listing.{Listing}

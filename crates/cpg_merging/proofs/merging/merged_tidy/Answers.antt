@@ -1,4 +1,5 @@
--- Proof of `merged_tidy`: what `merged` returns for entries of which no literal has the whole range of its variable.
+-- Proof of `merged_tidy`, which returns what `merged` returns, for columns of which no literal has the whole range of
+-- its variable.
 use Rattle.std.proofs.Common.{IsPermutation, sym, subst}
 use Rattle.std.proofs.lemmas.Bool.{OnTrue_at, OnTrue_from}
 use Rattle.cpg_cube.specs.Keys.{AreByLows}

@@ -1,4 +1,4 @@
--- Proof of `settled`: joins columns until no two of one time touch at any variable.
+-- Proof of `settled`, which joins columns until no two of one time touch at any variable.
 use Rattle.std.proofs.Common.{◌≡◌, ◌<◌, ◌∙◌, length, sym, ap, arith, rules}
 use Rattle.std.specs.Vec.{vec_len}
 use Rattle.cpg_base.specs.Graph.{IsVariable}
@@ -46,7 +46,8 @@ loop-marked-smaller c =
     (IsVariable g) old.items new.items c.in_ok-marked-2.ensures.passed (λ e. c.if-len-before.false (omega arith)) in
     omega arith
 
--- the columns of this round are a join of those given, and their marks still hold
+-- the columns of this round are a join of those before it, so also of those given, and the round left marks that still
+-- hold
 pub loop-marked-preserved : goal.loop-marked-preserved
 loop-marked-preserved c = record {
   good = c.in_ok-marked-2.ensures.passed.good;

@@ -1,4 +1,4 @@
--- Loops of `settled`: joins columns until no two of one time touch at any variable.
+-- Loops of `settled`, which joins columns until no two of one time touch at any variable.
 use Rattle.std.proofs.Common.{vec_len}
 use Rattle.cpg_merging.specs.Merging.{IsShorn, IsJoinOf, IsSortedAs}
 use Rattle.cpg_merging.specs.Totals.{AreMarked}

@@ -1,4 +1,5 @@
--- Proof of `has_partner`: whether a column with this sum may follow another at a literal.
+-- Proof of `has_partner`, which says whether a column with this total may follow another one at a literal: with a
+-- literal instead that ends right before, it would have a total that is among these.
 use Rattle.std.proofs.Common.{ℕ, ◌+◌, ◌%◌, ◌^◌, ◌∙◌, Contains, arith, sym, ap, subst, inl, inr}
 use Rattle.std.proofs.lemmas.Bool.{cases_eq}
 use Rattle.cpg_merging.specs.Totals.{hash_of, ended}
@@ -14,7 +15,7 @@ loop-low-preserved c low less there = elim (cases_eq low c.loop-low.low) [
       (ap (λ (w : ℕ). hash_of (ended c.args.literal w)) e ∙ sym c.hash_of-in-loop-low.ensures) there)
 ]
 
--- no low under the literal's own gives a partner
+-- the loop has gone over all lows under the literal's own, and none gave a partner
 pub returns : goal.returns
 returns c low rest less is there = c.loop-low.invariant low (omega arith)
     (subst (λ (m : ℕ). Contains c.args.sums.sorted.now m)

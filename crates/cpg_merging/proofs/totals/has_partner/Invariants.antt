@@ -1,4 +1,5 @@
--- Loops of `has_partner`: whether a column with this sum may follow another at a literal.
+-- Loops of `has_partner`, which says whether a column with this total may follow another one at a literal: with a
+-- literal instead that ends right before, it would have a total that is among these.
 use Rattle.std.proofs.Common.{ℕ, ◌<◌, ◌+◌, ◌%◌, ◌^◌, Contains}
 use Rattle.cpg_merging.specs.Totals.{hash_of, ended}
 use Rattle.cpg_merging.proofs.totals.has_partner.Given as goal

@@ -1,10 +1,10 @@
--- Proof of `is_there`: whether a number is among the sums.
+-- Proof of `is_there`, which says whether a number is among the totals.
 use Rattle.std.proofs.Common.{Bool, Contains, subst, sym}
 use Rattle.std.specs.Bool.{OnFalse}
 use Rattle.cpg_merging.proofs.MergingTotals.{not_there}
 use Rattle.cpg_merging.proofs.totals.is_there.Goals as goal
 
--- a number that the search does not find is not among the sorted sums
+-- the sums are sorted, so a number that the binary search doesn't find isn't among them
 pub returns : goal.returns
 returns c =
     subst (λ (b : Bool). OnFalse b (Contains c.args.sums.sorted.now c.args.number → ⊥)) (sym c.is_ok.ensures.value)

@@ -1,10 +1,10 @@
--- Proof of `put_each`: marks the place of each number.
+-- Proof of `put_each`, which marks the place of each number in the sieve.
 use Rattle.std.proofs.Common.{ℕ, length, arith, rules, subst, sym}
 use Rattle.cpg_merging.specs.Totals.{IsMarked, place_in}
 use Rattle.cpg_merging.proofs.MergingTotals.{all_of, sieve_more}
 use Rattle.cpg_merging.proofs.totals.put_each.Goals as goal
 
--- the place of one more number is marked
+-- the place of this number is marked, and the places marked before stay so
 pub loop-number-preserved : goal.loop-number-preserved
 loop-number-preserved c = record {
   long = search rules;
@@ -14,7 +14,7 @@ loop-number-preserved c = record {
       c.loop-number.invariant.marked;
 }
 
--- the place of each number is marked
+-- the loop has gone over all numbers, so the place of each is marked
 pub returns-clause-sieve : goal.returns-clause-sieve
 returns-clause-sieve c = all_of (λ (n : ℕ). IsMarked c.loop-number.sieve (place_in (length c.loop-number.sieve) n))
     c.args.numbers.now c.loop-number.number-index (omega arith)

@@ -1,4 +1,4 @@
--- Loops of `put_each`: marks the place of each number.
+-- Loops of `put_each`, which marks the place of each number in the sieve.
 use Rattle.std.proofs.Common.{ℕ, ◌≡◌, Contains, length, take}
 use Rattle.cpg_merging.specs.Totals.{IsMarked, place_in}
 use Rattle.cpg_merging.proofs.totals.put_each.Given as goal

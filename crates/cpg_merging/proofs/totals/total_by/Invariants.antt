@@ -1,4 +1,4 @@
--- Loops of `total_by`: the sum of a time and literals.
+-- Loops of `total_by`, which returns the total of a time and literals: their hashes, added up.
 use Rattle.std.proofs.Common.{◌≡◌, ◌+◌, ◌%◌, ◌^◌, take, sum_by}
 use Rattle.cpg_merging.specs.Totals.{hash_of, mixed}
 use Rattle.cpg_merging.proofs.totals.total_by.Given as goal

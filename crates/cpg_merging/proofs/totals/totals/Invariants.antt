@@ -1,4 +1,4 @@
--- Loops of `totals`: the sums of columns.
+-- Loops of `totals`, which returns the totals of the columns.
 use Rattle.std.proofs.Common.{◌≡◌, map, take}
 use Rattle.cpg_merging.specs.Totals.{total_of}
 use Rattle.cpg_merging.proofs.totals.totals.Given as goal

@@ -5,7 +5,7 @@ use Rattle.cpg_node.specs.State.{earlier}
 use Rattle.cpg_node.proofs.Least.{least_zip}
 use Rattle.cpg_node.proofs.executions.earliest_end.Goals as goal
 
--- the first end of one more process is taken into account
+-- `first` gets the first end of this process if that is earlier, so it stands for one place more
 pub loop-place-preserved : goal.loop-place-preserved
 loop-place-preserved c = least_zip (is_after (Some c.args.last)) possible_ends c.loop-place.place c.args.own.now
     c.args.running.now c.index-own-place.result _ c.loop-place.first

@@ -4,7 +4,7 @@ use Rattle.cpg_node.specs.Dispatcher.{is_after}
 use Rattle.cpg_node.proofs.Least.{least_map}
 use Rattle.cpg_node.proofs.executions.first_end.Goals as goal
 
--- one more possible end is taken into account
+-- `first` gets the end with this duration if that is earlier, so it stands for one duration more
 pub loop-duration-preserved : goal.loop-duration-preserved
 loop-duration-preserved c = least_map (is_after (Some c.args.last)) (λ d. c.args.start + d)
     c.loop-duration.duration-index c.args.times.now _ c.loop-duration.first c.earlier-first.result

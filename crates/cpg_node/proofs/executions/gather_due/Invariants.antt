@@ -5,8 +5,8 @@ use Rattle.std.specs.Vec.{vec_len, vec_capacity}
 use Rattle.cpg_node.specs.Dispatcher.{zip_with, due_reports_of}
 use Rattle.cpg_node.proofs.executions.gather_due.Given as goal
 
--- After each place: the reports so far and those due at the places left are together all that are due. There is at
--- most one report for each place, so no report needs more room than there was.
+-- `reports`: those so far and those due at the places left are together all that are due. `few`: at most one for each
+-- place so far, so there is room for the next. `room`: the capacity is as before.
 abbrev pub invariant-loop-place : goal.invariant-loop-place
 invariant-loop-place l = record {
   reports : l.due.items ++ flat_map (λ es. es)

@@ -1,4 +1,4 @@
--- Loops of `running_in`: the execution of a process, if it runs here.
+-- Loops of `running_in`: the execution of a process, or `None` if it doesn't run on this node.
 use Rattle.std.proofs.Common.{◌≡◌, drop}
 use Rattle.cpg_node.specs.State.{running_in}
 use Rattle.cpg_node.proofs.executions.running_in.Given as goal

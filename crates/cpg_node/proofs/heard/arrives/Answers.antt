@@ -5,7 +5,7 @@ use Rattle.std.proofs.lemmas.Option.{slice_get-get_or, slice_get_past}
 use Rattle.cpg_node.proofs.Arriving.{arrives_at, arrives_nowhere}
 use Rattle.cpg_node.proofs.heard.arrives.Goals as goal
 
--- the column that the frame names is there, and it has the time or not
+-- the hear row of the frame's item has its column, so it arrives exactly if that has this time
 pub returns-in-Some : goal.returns-in-Some
 returns-in-Some c =
     let columns = c.heard_columns.result.now in
@@ -16,7 +16,7 @@ returns-in-Some c =
     arrives_at c.args.table.now c.args.arrival c.args.frame.now c.in-Some.entry.now
     (ap (λ cs. slice_get cs i) (sym c.heard_columns.ensures) ∙ found)
 
--- the column that the frame names is not there, so the frame does not arrive
+-- there is no such hear row, or it has no such column, so the frame doesn't arrive
 pub returns-in-None : goal.returns-in-None
 returns-in-None c =
     let columns = c.heard_columns.result.now in

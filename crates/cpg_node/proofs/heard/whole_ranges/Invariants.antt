@@ -5,6 +5,6 @@ use Rattle.cpg_base.specs.Numbers.{numbers_below}
 use Rattle.cpg_node.specs.Dispatcher.{whole_range}
 use Rattle.cpg_node.proofs.heard.whole_ranges.Given as goal
 
--- after each variable, `heard` has the whole range of each variable so far
+-- `heard` has the whole range of each variable so far
 abbrev pub invariant-loop-variable : goal.invariant-loop-variable
 invariant-loop-variable l = l.heard.items ≡ map (whole_range l.faults) (numbers_below l.variable)

@@ -3,7 +3,7 @@ use Rattle.std.proofs.Common.{◌≡◌, [], ◌==◌, None, filter, drop, get_o
 use Rattle.cpg_table.specs.declared.own.Own.{Own}
 use Rattle.cpg_node.proofs.own.own_of.Given as goal
 
--- no process so far is the one that is looked for, so it is found among those left (an empty record if there is none)
+-- no process so far is the one that is looked for, so it is found among those left, or the default is
 abbrev pub invariant-loop-own : goal.invariant-loop-own
 invariant-loop-own l = get_or (filter (λ (o : Own). o.process == l.process) l.table.own) 0
     (record { process = 0; condition = None; times = [] }) ≡ get_or

@@ -4,7 +4,7 @@ use Rattle.cpg_node.specs.Plan.{takes}
 use Rattle.cpg_node.proofs.Planning.{acts_next}
 use Rattle.cpg_node.proofs.plan.gather_acts.Goals as goal
 
--- one more entry gives its act, if its literals have been heard
+-- this entry gives its act if its literals follow from what has been heard, and no act if not
 pub loop-planned-preserved : goal.loop-planned-preserved
 loop-planned-preserved c = record {
   acts = acts_next (takes (c.args.table.now.sends ++ c.args.table.now.starts) c.args.heard.now) c.args.plan.now

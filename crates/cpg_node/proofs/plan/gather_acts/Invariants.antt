@@ -4,8 +4,8 @@ use Rattle.std.specs.Vec.{vec_len, vec_capacity}
 use Rattle.cpg_node.specs.Plan.{act_of, takes}
 use Rattle.cpg_node.proofs.plan.gather_acts.Given as goal
 
--- After each entry of the plan: the acts so far and those that the entries left give are together all acts.
--- There is at most one act for each entry, so no act needs more room than there was.
+-- `acts`: those so far and those that the entries left give are together all acts. `few`: at most one for each entry so
+-- far, so there is room for the next. `room`: the capacity is as before.
 abbrev pub invariant-loop-planned : goal.invariant-loop-planned
 invariant-loop-planned l = record {
   acts : l.acts.items ++ map act_of

@@ -1,4 +1,4 @@
--- Loops of `past_entries`: the place of the first entry that is later than this.
+-- Loops of `past_entries`: the place of the first entry that is after `time`.
 use Rattle.std.proofs.Common.{◌≤◌, ◌<◌, ◌-◌, ℕ, length, get_or}
 use Rattle.cpg_node.specs.Plan.{Planned}
 use Rattle.cpg_node.proofs.plan.past_entries.Given as goal

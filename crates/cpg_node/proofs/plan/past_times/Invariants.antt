@@ -1,4 +1,4 @@
--- Loops of `past_times`: the place of the first time that is later than this.
+-- Loops of `past_times`: the place of the first time that is after `time`.
 use Rattle.std.proofs.Common.{◌≤◌, ◌<◌, ◌-◌, ℕ, length, get_or}
 use Rattle.cpg_node.proofs.plan.past_times.Given as goal
 

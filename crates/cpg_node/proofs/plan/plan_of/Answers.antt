@@ -10,17 +10,17 @@ use Rattle.cpg_node.proofs.Planning.{planned_is, same_from_stable}
 use Rattle.cpg_node.proofs.TableBounds.{sends_few, starts_few}
 use Rattle.cpg_node.proofs.plan.plan_of.Goals as goal
 
--- the rows that a node sends have few enough columns
+-- the rows of what a node sends are lawful, so they have at most 16,384 columns each
 pub plan_rows-requires-clause-few : goal.plan_rows-requires-clause-few
 plan_rows-requires-clause-few c = subst (All (λ (row : Row). length row.columns ≤ MOST_COLUMNS))
     (sym c.sends.ensures.sends) (sends_few c.args.table.now c.sends.ensures.made)
 
--- the rows that a node starts have few enough columns
+-- the rows of what a node starts are lawful, so they have at most 16,384 columns each
 pub plan_rows-requires-2-clause-few : goal.plan_rows-requires-2-clause-few
 plan_rows-requires-2-clause-few c = subst (All (λ (row : Row). length row.columns ≤ MOST_COLUMNS))
     (sym c.starts.ensures.starts) (starts_few c.args.table.now c.sends.ensures.made)
 
--- a stable sort by time keeps the order of the entries of one time
+-- before the sort the plan is that of the table, and a stable sort by time keeps the order of entries of one time
 pub returns-clause-same : goal.returns-clause-same
 returns-clause-same c = subst (SameAtEachTime c.sort_by_key.new.self.items)
     (planned_is c.args.table.now c.new-plan.result.items c.plan_rows.new.plan.items c.plan_rows-2.new.plan.items
@@ -30,7 +30,7 @@ returns-clause-same c = subst (SameAtEachTime c.sort_by_key.new.self.items)
     (same_from_stable c.plan_rows-2.new.plan.items c.sort_by_key.new.self.items (c.in_ok-sort_by_key.ensures.stable
     (λ (p : Planned). p.time) (always_returns_same _ _ _ (λ a r f k. search rules))))
 
--- a sort by time is in order of time
+-- a sort by time leaves an order of time
 pub returns-clause-rises : goal.returns-clause-rises
 returns-clause-rises c = IsNonDecreasingBy-from_sort_by_key (λ (p : Planned). p.time) _
     c.in_ok-sort_by_key.ensures.sorted (λ a r f' k. search rules)

@@ -1,4 +1,4 @@
--- Loops of `waiting_process`: some process that waits for an input.
+-- Loops of `waiting_process`: returns the least process that waits for an input.
 use Rattle.std.proofs.Common.{ℕ, ◌<◌, ◌≡◌, get_or}
 use Rattle.cpg_order.proofs.cycle.waiting_process.Given as goal
 

@@ -1,4 +1,5 @@
--- Proof of `waiting_source`: a waiting process with an edge to this waiting process.
+-- Proof of `waiting_source`: returns the source of the first input of a waiting process that comes from a waiting
+-- process.
 use Rattle.std.proofs.Common.{◌<◌, ◌≡◌, ◌∙◌, sym, ap, subst, get_or, length, Contains, true, arith}
 use Rattle.std.proofs.lemmas.List.{get_or_default}
 use Rattle.std.proofs.lemmas.List.Elements.{Contains-get_or}
@@ -29,12 +30,14 @@ returns-then-waiting-source-gt0-clause-edge c =
 -- a stuck process has an input from a process that waits, so the loop has found one
 pub unreachable-requires : goal.unreachable-requires
 unreachable-requires c =
+    -- an input whose source waits, and its place among the inputs
     let r = c.requires.stuck.each c.args.process c.requires.within c.requires.waits in
     let is = c.inputs-edge-items.ensures.of_graph c.args.problem.now c.requires.links in
     let k = r.1.0 in
     let l : k < c.loop-edge.edge-index = omega (arith, r.1.1, ap length is) in
     let at : get_or (inputs c.args.problem.now c.args.process) k 0 ≡ r.0 =
     get_or_default (inputs c.args.problem.now c.args.process) k 0 r.0 r.1.1 ∙ r.1.2 in
+    -- the loop has passed this input, so its source would not wait, but it does
     let none = c.loop-edge.invariant k l in
     let some = r.2 in
     omega (arith, ap (λ e. get_or c.args.waiting.now (source c.args.problem.now e) 0) at)

@@ -1,4 +1,5 @@
--- Loops of `waiting_source`: a waiting process with an edge to this waiting process.
+-- Loops of `waiting_source`: returns the source of the first input of a waiting process that comes from a waiting
+-- process.
 use Rattle.std.proofs.Common.{ℕ, ◌<◌, ◌≡◌, get_or}
 use Rattle.cpg_base.specs.Graph.{inputs, source}
 use Rattle.cpg_order.proofs.cycle.waiting_source.Given as goal

@@ -1,4 +1,5 @@
--- Proof of `walk_back`: walks against the edges until the walk meets itself.
+-- Proof of `walk_back`: returns the walk against the edges from the least waiting process, always on to a waiting source,
+-- until the next process is in it already.
 use Rattle.std.proofs.Common.{ℕ, List, Option, ◌≡◌, ◌∙◌, ◌==◌, sym, ap, length, false, Some, position, arith, eqb-true}
 use Rattle.std.proofs.Common.{length-append, ◌∷◌, []}
 use Rattle.std.proofs.lemmas.Bool.{false_from_ne_true}
@@ -29,9 +30,10 @@ not_found : (walk : List ℕ) (p : ℕ) (found : Option ℕ) → found ≡ posit
 not_found walk p found is none =
     false_from_ne_true (is_in walk p) (λ t. none (place walk p) (is ∙ position-place walk p (from_is_in walk p t)))
 
--- the process is not in the walk yet, so the walk still has room for it
+-- the process is not in the walk yet, so the walk is shorter than there are processes and what `decreases` counts falls
 pub loop-from-smaller : goal.loop-from-smaller
 loop-from-smaller c =
+    -- the process isn't in the walk yet
     let fresh = not_found c.loop-from.walk.items c.loop-from.process c.place_in.result
     (c.place_in.ensures ∙ ap (position (λ p. p == c.loop-from.process)) c.as_slice.ensures.value)
     c.in_default.not-Some in
@@ -43,6 +45,7 @@ loop-from-smaller c =
 -- the walk goes on with a process that has an edge to its last one
 pub loop-from-preserved : goal.loop-from-preserved
 loop-from-preserved c =
+    -- the process isn't in the walk yet
     let fresh = not_found c.loop-from.walk.items c.loop-from.process c.place_in.result
     (c.place_in.ensures ∙ ap (position (λ p. p == c.loop-from.process)) c.as_slice.ensures.value)
     c.in_default.not-Some in

@@ -1,14 +1,18 @@
--- Loops of `walk_back`: walks against the edges until the walk meets itself.
+-- Loops of `walk_back`: returns the walk against the edges from the least waiting process, always on to a waiting source,
+-- until the next process is in it already.
 use Rattle.std.proofs.Common.{◌+◌, ◌-◌, ◌<◌, get_or, length}
 use Rattle.cpg_base.specs.Graph.{process_count}
 use Rattle.cpg_order.proofs.Cycles.{IsWalkBack}
 use Rattle.cpg_order.proofs.cycle.walk_back.Given as goal
 
--- the walk has different processes, each with an edge from the next, and the process that comes next waits too
+-- the walk so far can go on with the process at hand
 abbrev pub invariant-loop-from : goal.invariant-loop-from
 invariant-loop-from l = record {
+  -- the walk has different processes, each with an edge from the next, and the last with one from the process at hand
   walk : IsWalkBack l.problem l.walk.items l.process;
+  -- the process at hand is one of the graph
   within : l.process < process_count l.problem;
+  -- it waits for an input
   waits : 0 < get_or l.waiting l.process 0;
 }
 

@@ -1,6 +1,8 @@
--- Proof of `deciding_is_active`: the process of a condition that decides another one is active.
+-- Proof of `deciding_is_active`: if a condition decides a process in an outcome, the condition's own process is active
+-- in that outcome.
 use Rattle.cpg_order.proofs.DecidingLaws.{deciding_is_active}
 use Rattle.cpg_order.proofs.laws.deciding_is_active.Goals as goal
 
+-- if the condition's process were inactive, its value would make no edge live, and so would decide nothing
 pub returns : goal.returns
 returns c g order urgency topological values p d l t = deciding_is_active g order urgency topological values p d l t

@@ -1,4 +1,4 @@
--- Loops of `empty_lists`: empty lists, one for each of `count` processes.
+-- Loops of `empty_lists`: returns an empty list for each of `count` processes.
 use Rattle.std.proofs.Common.{◌≡◌, map, []}
 use Rattle.cpg_base.specs.Numbers.{numbers_below}
 use Rattle.cpg_order.proofs.links.empty_lists.Given as goal

@@ -1,4 +1,4 @@
--- Proof of `has_each`: whether a list has each number below its length once.
+-- Proof of `has_each`: returns whether a list has each number below its length exactly once.
 use Rattle.std.proofs.Common.{◌≡◌, ◌∙◌, ◌<◌, sym, subst, refl, false, true≢false, get_or, length, arith, rules}
 use Rattle.std.proofs.lemmas.List.{get_or_default}
 use Rattle.cpg_order.proofs.ListChecks.{AreSeen, seen_none, seen_more, not_great, not_twice, all_seen}
@@ -20,6 +20,7 @@ returns-then-place-list c = (
 pub returns-then-index : goal.returns-then-index
 returns-then-index c =
     let small : get_or c.args.list.now c.loop-number.number-index 0 < length c.args.list.now = omega arith in
+    -- the mark that is read is set
     let old = sym (get_or_default c.loop-number.seen.items (get_or c.args.list.now c.loop-number.number-index 0)
     c.index.result.now false (omega (arith, c.loop-number.invariant.long))) ∙
     sym c.index.ensures ∙ c.if-index.true in (
@@ -32,6 +33,7 @@ returns-then-index c =
 pub loop-number-preserved : goal.loop-number-preserved
 loop-number-preserved c =
     let small : get_or c.args.list.now c.loop-number.number-index 0 < length c.args.list.now = omega arith in
+    -- the mark that is read isn't set
     let fresh = sym (get_or_default c.loop-number.seen.items (get_or c.args.list.now c.loop-number.number-index 0)
     c.index.result.now false (omega (arith, c.loop-number.invariant.long))) ∙
     sym c.index.ensures ∙ c.if-index.false in

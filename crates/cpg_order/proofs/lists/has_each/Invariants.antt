@@ -1,4 +1,4 @@
--- Loops of `has_each`: whether a list has each number below its length once.
+-- Loops of `has_each`: returns whether a list has each number below its length exactly once.
 use Rattle.cpg_order.proofs.ListChecks.{AreSeen}
 use Rattle.cpg_order.proofs.lists.has_each.Given as goal
 

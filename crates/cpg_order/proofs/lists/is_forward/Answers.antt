@@ -1,4 +1,4 @@
--- Proof of `is_forward`: whether each edge leads to a later place.
+-- Proof of `is_forward`: whether each edge leads from an earlier place in the order to a later one.
 use Rattle.std.proofs.Common.{◌≡◌, ◌<◌, sym, ap, subst, refl, true, true≢false, length, inl, inr, arith}
 use Rattle.std.proofs.lemmas.Bool.{cases_eq}
 use Rattle.cpg_base.specs.Graph.{source, target, edge_count, process_count}
@@ -10,6 +10,7 @@ use Rattle.cpg_order.proofs.lists.is_forward.Goals as goal
 -- this edge doesn't lead to a later place
 pub returns-then-place : goal.returns-then-place
 returns-then-place c =
+    -- this edge is one of the graph, with its two places in the order
     let l : c.loop-edge.edge-index < edge_count c.args.problem.now =
     omega (arith, ap length c.edges-edge-items.ensures.edges) in
     let from = rw c.edges-edge-items.ensures.edges at c.place.ensures.place in
@@ -24,6 +25,7 @@ returns-then-place c =
 -- this edge leads to a later place, and so do those before it
 pub loop-edge-preserved : goal.loop-edge-preserved
 loop-edge-preserved c e l =
+    -- this edge is one of the graph, with its two places in the order
     let m : c.loop-edge.edge-index < edge_count c.args.problem.now =
     omega (arith, ap length c.edges-edge-items.ensures.edges) in
     let from = rw c.edges-edge-items.ensures.edges at c.place.ensures.place in
@@ -32,12 +34,14 @@ loop-edge-preserved c e l =
     (c.edges-edge-items.ensures.within.edges c.loop-edge.edge-index _ m).from in
     let inside : source c.args.problem.now c.loop-edge.edge-index < length c.args.order.now = omega arith in
     elim (cases_eq e c.loop-edge.edge-index) [
+      -- this edge: its source was found at an earlier place
       | inl is ↦
           subst (λ k. comes_before c.args.order.now (source c.args.problem.now k) (target c.args.problem.now k) ≡ true)
           (sym is)
           (comes_before_at c.args.order.now c.place.ensures.order (source c.args.problem.now c.loop-edge.edge-index)
           (target c.args.problem.now c.loop-edge.edge-index) c.place.result c.place-in-loop-edge.result
           inside from to c.if-place.false)
+      -- an earlier edge: the invariant says so already
       | inr n ↦ c.loop-edge.invariant e (omega arith)
     ]
 

@@ -1,4 +1,4 @@
--- Loops of `is_forward`: whether each edge leads to a later place.
+-- Loops of `is_forward`: whether each edge leads from an earlier place in the order to a later one.
 use Rattle.std.proofs.Common.{ℕ, ◌<◌, ◌≡◌, true}
 use Rattle.cpg_base.specs.Graph.{source, target}
 use Rattle.cpg_base.specs.Order.{comes_before}

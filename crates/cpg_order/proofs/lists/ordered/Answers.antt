@@ -1,5 +1,5 @@
--- Proof of `ordered`: the order of a list of process numbers, or `None` exactly if it isn't a topological order of
--- all processes.
+-- Proof of `ordered`: returns the order of a list of process numbers, and `None` exactly if the list isn't a
+-- topological order of all processes.
 use Rattle.std.proofs.Common.{◌≡◌, ◌∙◌, refl, sym, ap, subst, subst₂, true≢false, length, IsPermutation, arith}
 use Rattle.cpg_base.specs.Numbers.{numbers_below}
 use Rattle.cpg_base.specs.Graph.{process_count}

@@ -1,4 +1,4 @@
--- Proof of `input_counts`: how many inputs each process has.
+-- Proof of `input_counts`: returns how many inputs each process has, by number.
 use Rattle.std.proofs.Common.{ap, length, arith}
 use Rattle.cpg_base.specs.Graph.{inputs}
 use Rattle.cpg_base.proofs.Lists.{map_below_push}

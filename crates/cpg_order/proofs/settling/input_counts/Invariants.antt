@@ -1,4 +1,4 @@
--- Loops of `input_counts`: how many inputs each process has.
+-- Loops of `input_counts`: returns how many inputs each process has, by number.
 use Rattle.std.proofs.Common.{◌≡◌, length, map}
 use Rattle.cpg_base.specs.Numbers.{numbers_below}
 use Rattle.cpg_base.specs.Graph.{inputs}

@@ -1,4 +1,4 @@
--- Loops of `ready`: the processes that wait for no input.
+-- Loops of `ready`: returns the processes that wait for no input, the lowest first.
 use Rattle.std.proofs.Common.{◌≡◌, ◌==◌, filter, get_or}
 use Rattle.cpg_base.specs.Numbers.{numbers_below}
 use Rattle.cpg_order.proofs.settling.ready.Given as goal

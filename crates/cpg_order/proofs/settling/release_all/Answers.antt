@@ -1,4 +1,4 @@
--- Proof of `release_all`: counts these edges as settled inputs of their targets.
+-- Proof of `release_all`: counts each of these edges as a settled input of its target.
 use Rattle.std.proofs.Common.{ℕ, List, ◌+◌, ◌<◌, ◌≤◌, ◌≡◌, ◌==◌, ◌∙◌, ◌++◌, sym, ap, length, get_or, take, arith}
 use Rattle.std.proofs.Common.{eq-eqb, append_assoc, length-set}
 use Rattle.std.proofs.lemmas.List.{take_all}
@@ -12,7 +12,8 @@ pub target-requires : goal.target-requires
 target-requires c = c.requires.edges (get_or c.args.edges.now c.loop-edge.edge-index 0)
     (Contains-get_or c.args.edges.now c.loop-edge.edge-index 0 c.loop-edge-test.true)
 
--- the target of the next edge still waits
+-- the target t of the next edge still waits: it waited for at least all of these edges that lead to it, and this one isn't
+-- counted yet
 next_waits : (edges waiting : List ℕ) (f : ℕ → ℕ) (i t : ℕ) (old : ℕ) → i < length edges → t ≡ f (get_or edges i 0) →
     passing (λ e. f e == t) edges ≤ old →
     get_or waiting t 0 + passing (λ e. f e == t) (take i edges) ≡ old → 0 < get_or waiting t 0
@@ -31,6 +32,7 @@ release-requires-clause-waits c = next_waits c.args.edges.now c.loop-edge.waitin
 -- after one more edge its target waits for one input less
 pub loop-edge-preserved : goal.loop-edge-preserved
 loop-edge-preserved c =
+    -- the target still waits for an input, which is counted now
     let some = next_waits c.args.edges.now c.loop-edge.waiting.items (target c.args.problem.now) c.loop-edge.edge-index
     c.target.result (get_or c.args.waiting.now.items c.target.result 0)
     c.loop-edge-test.true c.target.ensures.target (c.requires.wait c.target.result)
@@ -47,7 +49,7 @@ loop-edge-preserved c =
           (old.0 ++ more.0, more.1 ∙ ap (λ xs. xs ++ more.0) old.1 ∙ append_assoc c.args.ready.now.items old.0 more.0);
     }
 
--- all edges are counted, so each process waits for fewer inputs by its edges among them
+-- all edges are counted, so each process waits for as many inputs less as there are edges to it among them
 pub returns-clause-waiting : goal.returns-clause-waiting
 returns-clause-waiting c p =
     ap (λ xs. get_or c.loop-edge.waiting.items p 0 + passing (λ e. target c.args.problem.now e == p) xs)

@@ -1,4 +1,4 @@
--- Proof of `settle`: settles all processes that can be settled: each after the sources of its inputs.
+-- Proof of `settle`: settles all processes that can be settled, each after the sources of its inputs.
 use Rattle.std.proofs.Common.{ℕ, ◌+◌, ◌<◌, ◌≤◌, ◌==◌, ◌∙◌, sym, ap, subst, length, get_or, Contains, arith}
 use Rattle.std.proofs.lemmas.List.{get_or_default}
 use Rattle.std.proofs.lemmas.List.FromFn.{length-map-range_with_len}
@@ -27,7 +27,7 @@ loop-settled-init c =
     ∙ get_or-map-below count (process_count c.args.problem.now) p 0 l)
     (subst (λ xs. AreReady xs c.in_ok-ready.ready.items) c.as_slice.ensures.value c.in_ok-ready.ensures)
 
--- the next process, and the edges that lead away from it
+-- the next ready process is one of the graph, so the links have its outputs
 pub outputs-requires : goal.outputs-requires
 outputs-requires c =
     let l : c.loop-settled.settled < length c.loop-settled.ready.items = omega arith in
@@ -43,7 +43,7 @@ release_all-requires-clause-edges c e k =
     (outputs_parts c.args.problem.now c.index-process.result.now e
     (subst (λ xs. Contains xs e) (c.outputs.ensures.of_graph c.args.problem.now c.requires) k)).0
 
--- each process waits for at least the inputs that lead to it from the settled process
+-- the next process isn't settled yet, so each of its targets still waits for the inputs from it
 pub release_all-requires-clause-wait : goal.release_all-requires-clause-wait
 release_all-requires-clause-wait c p =
     let l : c.loop-settled.settled < length c.loop-settled.ready.items = omega arith in

@@ -1,4 +1,4 @@
--- Proof of `longest`: the longest way over these edges, given how long the ways from their targets are.
+-- Proof of `longest`: returns the longest way over one of these edges and on, and 0 if there are none.
 use Rattle.std.proofs.Common.{get_or}
 use Rattle.std.proofs.lemmas.List.Elements.{Contains-get_or}
 use Rattle.cpg_order.proofs.tails.longest.Goals as goal

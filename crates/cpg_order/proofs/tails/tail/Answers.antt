@@ -1,5 +1,5 @@
--- Proof of `tail`: the length of the longest way from the start of a process to an end, in time units: executions
--- without faults, and a round of the bus for each message.
+-- Proof of `tail`: returns the length of the longest way from the start of a process to an end, in time units:
+-- executions without faults, and a round of the bus for each message.
 use Rattle.std.proofs.Common.{◌∙◌, ap, get_or}
 use Rattle.cpg_base.specs.Graph.{process_count}
 use Rattle.cpg_base.proofs.Lists.{get_or-map-below}

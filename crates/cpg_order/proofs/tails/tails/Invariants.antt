@@ -1,4 +1,4 @@
--- Loops of `tails`: the length of the longest way from each process to an end.
+-- Loops of `tails`: returns the tail of each process, by number.
 use Rattle.cpg_order.proofs.LongestWays.{AreFound}
 use Rattle.cpg_order.proofs.tails.tails.Given as goal
 

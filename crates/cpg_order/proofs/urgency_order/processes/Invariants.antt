@@ -1,4 +1,4 @@
--- Loops of `processes`: the processes of the ranks, in the same order.
+-- Loops of `processes`: returns the processes of these ranks, in the same order.
 use Rattle.std.proofs.Common.{◌≡◌, map, take}
 use Rattle.cpg_order.proofs.urgency_order.processes.Given as goal
 

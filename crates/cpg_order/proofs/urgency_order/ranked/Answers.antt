@@ -1,4 +1,4 @@
--- Proof of `ranked`: the processes by falling length of their ways, then by number.
+-- Proof of `ranked`: returns the processes by falling tails, and for equal ones by number.
 use Rattle.std.proofs.Common.{◌∙◌, sym, ap, subst, map, IsPermutation, arith}
 use Rattle.cpg_order.specs.Ranking.{AreRanked}
 use Rattle.cpg_order.proofs.RankOrders.{in_order, ranked_from_sorted}

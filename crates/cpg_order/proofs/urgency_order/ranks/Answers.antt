@@ -1,4 +1,4 @@
--- Proof of `ranks`: the rank of each process.
+-- Proof of `ranks`: returns the rank of each process, by number.
 use Rattle.std.proofs.Common.{refl}
 use Rattle.cpg_base.proofs.Lists.{map_below_push}
 use Rattle.cpg_order.specs.Ranks.{rank_of}

@@ -1,4 +1,4 @@
--- Loops of `ranks`: the rank of each process.
+-- Loops of `ranks`: returns the rank of each process, by number.
 use Rattle.std.proofs.Common.{◌≡◌, map}
 use Rattle.cpg_base.specs.Numbers.{numbers_below}
 use Rattle.cpg_order.specs.Ranks.{rank_of}

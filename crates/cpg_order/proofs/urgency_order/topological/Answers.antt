@@ -1,4 +1,4 @@
--- Proof of `topological`: some topological order of the graph.
+-- Proof of `topological`: returns some topological order of the graph.
 use Rattle.std.proofs.Common.{sym, ap, subst, length, arith}
 use Rattle.cpg_order.specs.Urgency.{IsTopological}
 use Rattle.cpg_order.proofs.Readiness.{settled_stuck, settled_all, settled_topological}

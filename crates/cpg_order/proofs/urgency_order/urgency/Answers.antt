@@ -1,4 +1,4 @@
--- Proof of `urgency`: the urgency order: by falling length of the longest way to an end, then by number.
+-- Proof of `urgency`: returns the urgency order: by falling tails, and for equal ones by number.
 use Rattle.std.proofs.Common.{◌∙◌, sym, ap, subst, length, arith}
 use Rattle.std.proofs.lemmas.List.FromFn.{length-map-range_with_len}
 use Rattle.cpg_base.specs.Graph.{process_count}

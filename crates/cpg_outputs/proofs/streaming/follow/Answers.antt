@@ -12,7 +12,8 @@ use Rattle.cpg_outputs.proofs.streaming.follow.Goals as goal
 pub follow_rest-requires : goal.follow_rest-requires
 follow_rest-requires g c = omega (arith, ap (λ (f : Follower). f.read) c.requires.opened)
 
--- from the follower's first state along all pieces, the stream was followed to its end
+-- an opened follower is along with a fetch that gave nothing yet, so `follow_rest` says that the stream was followed to its
+-- close
 pub returns-in-Ok-clause-whole : goal.returns-in-Ok-clause-whole
 returns-in-Ok-clause-whole g c =
     let f = c.args.follower.now in
@@ -24,7 +25,7 @@ returns-in-Ok-clause-whole g c =
     (subst (IsAlong name past history now now) (sym c.requires.opened)
     (along_open name past history now f.head f.table c.in-Ok.ensures.history)))
 
--- from the follower's first state along all pieces, the stream broke off
+-- an opened follower is along with a fetch that gave nothing yet, so `follow_rest` says where and why the stream broke off
 pub returns-in-Ok-clause-broken : goal.returns-in-Ok-clause-broken
 returns-in-Ok-clause-broken g c =
     let f = c.args.follower.now in
@@ -43,7 +44,8 @@ returns-in-Err-clause-broken g c =
     unfetched c.args.name.now (g.S.Shelf.state c.args.shelf.now).history (g.S.Shelf.state c.fetch.new.self).history
     f.head f.table (g.O.Sink.state c.args.out.now) c.in-Err.ensures.history
 
--- the stream is one fetch more of the shelf, and the rest of it is left
+-- there is one fetch more, that of the stream, and what is left is the rest of what stands under its name, so it gave a
+-- prefix of that
 pub returns-in-Ok-clause-fetched : goal.returns-in-Ok-clause-fetched
 returns-in-Ok-clause-fetched g c =
     let f = c.args.follower.now in
@@ -61,7 +63,7 @@ returns-in-Ok-clause-fetched g c =
     fetched_one old new names one.0 one.1 (c.follow_rest.ensures.rest
     (fetch_rest old mid c.in-Ok.ensures.names name c.in-Ok.ensures.history c.in-Ok.ensures.started))
 
--- the fetch that failed has brought no bytes
+-- a fetch that failed gave nothing, and nothing agrees with whatever stands under the name
 pub returns-in-Err-clause-fetched : goal.returns-in-Err-clause-fetched
 returns-in-Err-clause-fetched g c = fetched_none (g.S.Shelf.state c.args.shelf.now)
     (g.S.Shelf.state c.fetch.new.self) c.args.name.now c.in-Err.ensures.history

@@ -20,7 +20,7 @@ returns-then-count-eq0-clause-along g c start name past a =
     (g.O.Sink.state c.follow_piece.new.out).taken c.follow_piece.new.self) c.if-count-eq0.true
     (c.in-Ok.ensures.along start name past (c.loop-count.invariant.along start name past a))
 
--- one piece more was followed
+-- one piece more was followed: each fact holds from the start to before the piece, and from there to after it
 pub loop-count-preserved : goal.loop-count-preserved
 loop-count-preserved g c =
     let before = c.loop-count.invariant in

@@ -7,10 +7,10 @@ use Rattle.cpg_live.specs.declared.following.TheConstants.{STREAM_LIMIT}
 use Rattle.cpg_live.specs.Following.{IsAlong, IsOfSame}
 use Rattle.cpg_outputs.proofs.streaming.follow_pieces.Given as goal
 
--- After each piece. `few`: no more bytes than the limit have been read. `names`, `access`, `rest`: names and rights
--- of the shelf have not changed, and it leaves the rest behind if it did. `same`: the follower still follows the
--- same. `along`: shelf, sink and follower are as far along as each other, if they were before. `later`: the shelf has
--- forgotten no fault. `out_kept`: the faults of the sink have not changed.
+-- `few`: no more bytes were read than the limit. `names`, `access`: what stands under names, and which may be fetched, is
+-- unchanged. `rest`: what is left is the rest of the fetched name, if it was so at the start. `same`: the follower has the
+-- same head and table. `along`: shelf, sink and follower are as far along the stream as each other, if they were at the
+-- start. `later`: the shelf's count of faults didn't fall. `out_kept`: that of the sink is as at the start.
 abbrev pub invariant-loop-count : goal.invariant-loop-count
 invariant-loop-count g l = record {
   few : l.follower.read ≤ STREAM_LIMIT;

@@ -12,6 +12,6 @@ returns-in-Ok-clause-along g c start name past a =
     (g.O.Sink.state c.close.new.out) c.close.result all.same all.out_kept (all.along start name past a)
     c.close.ensures.closes
 
--- what has been followed up to the piece that breaks off
+-- the pieces broke off, and `follow_pieces` says where and why
 pub returns-in-Err-clause-along : goal.returns-in-Err-clause-along
 returns-in-Err-clause-along g c start name past a = c.in-Err.ensures.along start name past a

@@ -11,12 +11,12 @@ use Rattle.cpg_packing.proofs.Fitting.{heard_row_bytes}
 use Rattle.cpg_packing.proofs.PathBytes.{is_put_as, took_as}
 use Rattle.cpg_packing.proofs.items.put_heard.Goals as goal
 
--- a slot of a graph within its limits is short enough as a delay
+-- in a graph within its limits a slot is shorter than 2 ^ 59
 pub put_row-requires-clause-delay : goal.put_row-requires-clause-delay
 put_row-requires-clause-delay g c = subst (λ (n : ℕ). n < 2 ^ 59) (sym c.slot_length-delay.ensures)
     (slot_short c.args.problem.now c.nodes-nodes.ensures.within c.home.result)
 
--- one item more is put: its row, later by the slot of the node that it is sent from
+-- the rows so far are put, and so is that of this item, later by the slot of its sender (`heard_row_bytes`)
 pub loop-item-preserved : goal.loop-item-preserved
 loop-item-preserved g c =
     let rows = c.args.rows.now in
@@ -34,7 +34,7 @@ loop-item-preserved g c =
       path = c.in_ok-put_row.ensures.path;
     }
 
--- a row failed after those before it were put, so a proper front of all was taken
+-- the sink took a proper prefix of the rows before this one and of this one, and so one of all
 pub returns-in_err-put_row-clause-put : goal.returns-in_err-put_row-clause-put
 returns-in_err-put_row-clause-put g c =
     let rows = c.args.rows.now in

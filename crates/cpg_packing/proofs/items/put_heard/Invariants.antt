@@ -4,7 +4,7 @@ use Rattle.cpg_codec.specs.Writing.{IsPut}
 use Rattle.cpg_packing.specs.PackBytes.{heard_bytes}
 use Rattle.cpg_packing.proofs.items.put_heard.Given as goal
 
--- what is heard of the items so far was put, no fault rose, and the path is back at the root
+-- the heard rows of the items so far are put, no fault is new, and the path is back at the root
 abbrev pub invariant-loop-item : goal.invariant-loop-item
 invariant-loop-item g l = record {
   put : IsPut (g.O.Sink.state l.fn.sink).taken (g.O.Sink.state l.sink).taken l.fn.buffer l.buffer

@@ -5,7 +5,7 @@ use Rattle.cpg_codec.proofs.Puts.{Puts-then, Puts-first, Puts-failed, fails_seco
 use Rattle.cpg_packing.specs.PackBytes.{heard_bytes, own_bytes}
 use Rattle.cpg_packing.proofs.items.put_node.Goals as goal
 
--- a row that the node starts failed, so a proper front of all was taken
+-- the sink took only a proper prefix of the rows of the starts, with which all rows begin
 pub returns-in_err-put_own-clause-put : goal.returns-in_err-put_own-clause-put
 returns-in_err-put_own-clause-put g c =
     let rows = c.args.rows.now in
@@ -15,7 +15,7 @@ returns-in_err-put_own-clause-put g c =
     ++ flat_map (heard_bytes c.args.problem.now rows) items.hears) c.from_residual.result p.0 p.1
     (rw c.starts.ensures at c.in_err-put_own.ensures.put)
 
--- what the node starts was put and a row that it sends failed, so a proper front of all was taken
+-- the rows of the starts are put, and of those of the sends a proper prefix was taken; together that is one of all
 pub returns-in_err-put_own-2-clause-put : goal.returns-in_err-put_own-2-clause-put
 returns-in_err-put_own-2-clause-put g c =
     let rows = c.args.rows.now in
@@ -29,7 +29,7 @@ returns-in_err-put_own-2-clause-put g c =
     (flat_map (heard_bytes c.args.problem.now rows) items.hears)
     (rw c.sends.ensures at c.in_err-put_own-2.ensures.put)))
 
--- what the node starts and sends was put, so what becomes of the rows that it hears becomes of all
+-- the rows of the starts and the sends are put, so what becomes of those of the hears becomes of all
 pub returns-clause-put : goal.returns-clause-put
 returns-clause-put g c =
     let rows = c.args.rows.now in

@@ -7,7 +7,7 @@ use Rattle.cpg_packing.proofs.Fitting.{own_row}
 use Rattle.cpg_packing.proofs.PathBytes.{is_put_as, took_as}
 use Rattle.cpg_packing.proofs.items.put_own.Goals as goal
 
--- one item more is put: its row, later by nothing
+-- the rows so far are put, and so is that of this item; with the delay 0 it is the row itself (`own_row`)
 pub loop-item-preserved : goal.loop-item-preserved
 loop-item-preserved g c =
     let rows = c.args.rows.now in
@@ -22,7 +22,7 @@ loop-item-preserved g c =
       path = c.in_ok-put_row.ensures.path;
     }
 
--- a row failed after those before it were put, so a proper front of all was taken
+-- the sink took a proper prefix of the rows before this one and of this one, and so one of all
 pub returns-in_err-put_row-clause-put : goal.returns-in_err-put_row-clause-put
 returns-in_err-put_row-clause-put g c =
     let rows = c.args.rows.now in

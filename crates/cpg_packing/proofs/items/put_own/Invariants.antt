@@ -4,7 +4,7 @@ use Rattle.cpg_codec.specs.Writing.{IsPut}
 use Rattle.cpg_packing.specs.PackBytes.{own_bytes}
 use Rattle.cpg_packing.proofs.items.put_own.Given as goal
 
--- the rows of the items so far were put, no fault rose, and the path is back at the root
+-- the rows of the items so far are put, no fault is new, and the path is back at the root
 abbrev pub invariant-loop-item : goal.invariant-loop-item
 invariant-loop-item g l = record {
   put : IsPut (g.O.Sink.state l.fn.sink).taken (g.O.Sink.state l.sink).taken l.fn.buffer l.buffer

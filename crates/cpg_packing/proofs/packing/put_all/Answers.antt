@@ -8,13 +8,13 @@ use Rattle.cpg_packing.specs.PackBytes.{AreItemsWithin, items_of_nodes, node_byt
 use Rattle.cpg_packing.proofs.Fitting.{nodes_within}
 use Rattle.cpg_packing.proofs.packing.put_all.Goals as goal
 
--- the items of each node are the graph's
+-- under the head of a graph the items of each node are the graph's
 pub put_nodes-requires-clause-items : goal.put_nodes-requires-clause-items
 put_nodes-requires-clause-items g c =
     subst (All (AreItemsWithin c.args.problem.now)) (sym (c.as_slice.ensures.value ∙ c.requires.nodes))
     (nodes_within c.args.problem.now c.nodes-nodes.ensures.within)
 
--- the head failed, so a proper front of all was taken
+-- the sink took only a proper prefix of the head, with which the pack begins
 pub returns-in_err-put_head-clause-put : goal.returns-in_err-put_head-clause-put
 returns-in_err-put_head-clause-put g c =
     let h = c.args.problem.now in
@@ -22,7 +22,7 @@ returns-in_err-put_head-clause-put g c =
     Puts-first _ _ _ _ (head_bytes (head_of h)) (flat_map (node_bytes h c.args.rows.now) (items_of_nodes h))
     c.from_residual.result p.0 p.1 (rw c.requires.head at c.in_err-put_head.ensures.put)
 
--- the head was put, so what becomes of the rows of the nodes becomes of all
+-- the head is put, so what becomes of the rows of the nodes becomes of the pack
 pub returns-clause-put : goal.returns-clause-put
 returns-clause-put g c =
     let h = c.args.problem.now in

@@ -10,7 +10,7 @@ put_node-requires-clause-items g c =
     subst (AreItemsWithin c.args.problem.now) (sym c.items-item.is)
     (c.requires.items c.loop-items.items-index c.items-item.result c.loop-items-test.true)
 
--- a node failed after those before it were put, so a proper front of all was taken
+-- the sink took a proper prefix of the nodes before this one and of this one, and so one of all
 pub returns-in_err-put_node-clause-put : goal.returns-in_err-put_node-clause-put
 returns-in_err-put_node-clause-put g c =
     let p = err_from_is_err_and c.from_residual.result c.from_residual.ensures.1 in

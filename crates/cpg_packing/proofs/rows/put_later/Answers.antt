@@ -6,7 +6,7 @@ use Rattle.cpg_cube.specs.declared.column.Column.{Column}
 use Rattle.cpg_table.specs.Valid.{later_by}
 use Rattle.cpg_packing.proofs.rows.put_later.Goals as goal
 
--- one column more is put
+-- the columns so far are put, and so is this one; neither met a fault
 pub loop-column-preserved : goal.loop-column-preserved
 loop-column-preserved g c = record {
   put = item_more (λ (x : Column). column_bytes (later_by c.args.delay x)) _ _ _ _ _ _ c.args.columns.now
@@ -15,7 +15,7 @@ loop-column-preserved g c = record {
   kept = c.in_ok-put_column.ensures.cause.kept ∙ c.loop-column.invariant.kept;
 }
 
--- a column failed after those before it were put, so a proper front of all was taken
+-- the sink took a proper prefix of the columns before this one and of this one, and so one of all
 pub returns-in_err-put_column-clause-put : goal.returns-in_err-put_column-clause-put
 returns-in_err-put_column-clause-put g c =
     let p = err_from_is_err_and c.from_residual.result c.from_residual.ensures.1 in

@@ -7,7 +7,7 @@ use Rattle.cpg_packing.specs.PackBytes.{later_bytes}
 use Rattle.cpg_packing.proofs.Fitting.{row_later}
 use Rattle.cpg_packing.proofs.rows.put_row.Goals as goal
 
--- the count of the columns failed, so a proper front of the row was taken
+-- the sink took only a proper prefix of the count, with which the row begins
 pub returns-in_err-put_short-clause-put : goal.returns-in_err-put_short-clause-put
 returns-in_err-put_short-clause-put g c =
     let columns = c.args.row.now.columns in
@@ -16,7 +16,7 @@ returns-in_err-put_short-clause-put g c =
     (Puts-first _ _ _ _ (to_be_bytes w16 (length columns)) (later_bytes c.args.delay columns) c.from_residual.result p.0
     p.1 (rw c.count.ensures at c.in_err-put_short.ensures.put))
 
--- the count was put, so what becomes of the columns becomes of the row
+-- the count is put, so what becomes of the columns becomes of the row
 pub returns-clause-put : goal.returns-clause-put
 returns-clause-put g c =
     let columns = c.args.row.now.columns in

@@ -31,7 +31,7 @@ put_column-requires g t c =
     let first = c.requires.packable (Leaf (Some c.in-Some.time)) is 0 (record { time = 0; cube = [] }) (omega arith) in
     rw c.literals.ensures.literals first.short
 
--- the side below has fewer items, its cuts are in range, and its columns on from the narrowed path fit
+-- the side below has fewer items, its cuts leave numbers above them, and its columns on from the narrowed path fit
 pub put_paths-requires : goal.put_paths-requires
 put_paths-requires g t c κs within =
     let shows = c.in-Cut.ensures.shows in
@@ -41,14 +41,14 @@ put_paths-requires g t c κs within =
     let cuts = c.requires.cuts root shows.4 in
     -- both sides can be packed if the fork can
     let sides = packable_sides c.args.k c.args.path.now v cut shows.0 shows.1 (c.requires.packable root shows.4) in (
-      -- the measure gets smaller, and the list is that of the side
+      -- it has fewer items, and these are those of the side
       omega (arith, c.decreases, c.in-Cut.ensures.less.0),
       (
         within,
         (
           (shows.0, shows.2),
           (
-            -- its cuts leave numbers above them, and its columns can be packed with the path that was narrowed
+            -- its cuts leave numbers above them, and its columns fit with the narrowed path
             λ n are. side_cuts c.args.k c.in-Cut.below.now shows.0 n shows.2 cuts.2 are,
             (
               λ n are. packable_side c.args.k c.in-Cut.below.now shows.0 n (narrowed_by (up_to v cut) c.args.path.now)
@@ -69,11 +69,11 @@ put_paths-requires-in-Cut g t c κs within =
     let root : TreeNode (Option ℕ) = Fork v cut shows.0 shows.1 in
     let cuts = c.requires.cuts root shows.4 in
     let sides = packable_sides c.args.k c.args.path.now v cut shows.0 shows.1 (c.requires.packable root shows.4) in
-    -- the path is back, and narrowed for the side above
+    -- the path is as before, but for the range above the cut
     let path = above_back c.args.k v cut c.top.result c.top.ensures c.narrow-step.result c.args.path.now
     c.narrow-step.new.self c.put_paths.new.path c.exchange.new.self c.narrow-step.ensures.undo
     c.in_ok-put_paths-in-Cut.ensures.path _ refl c.exchange.ensures.narrowed in (
-      -- the measure gets smaller, and the list is that of the side
+      -- it has fewer items, and these are those of the side
       omega (arith, c.decreases, c.in-Cut.ensures.less.1),
       (
         within,
@@ -91,7 +91,7 @@ put_paths-requires-in-Cut g t c κs within =
       ),
     )
 
--- the tree is one time, so its one column was put
+-- the tree is a leaf with a time, so its one column is what was put
 pub returns-in_ok-put_column-in-Value-clause-put : goal.returns-in_ok-put_column-in-Value-clause-put
 returns-in_ok-put_column-in-Value-clause-put g t c n are =
     subst (IsPut _ _ _ _)
@@ -99,13 +99,13 @@ returns-in_ok-put_column-in-Value-clause-put g t c n are =
     (rw c.in-Some.is at c.in-Value.ensures.shows))
     (rw c.literals.ensures.literals at c.in_ok-put_column-in-Value.ensures.put)
 
--- the tree is one value that is no time, so nothing is put
+-- the tree is a leaf without a time, so it has no column and nothing is put
 pub returns-in_default-clause-put : goal.returns-in_default-clause-put
 returns-in_default-clause-put g t c n are =
     subst (IsPut _ _ _ _) (no_piece (delayed c.args.delay) c.args.k c.args.path.now c.args.items.now n are
     (rw c.in_default.is at c.in-Value.ensures.shows)) (IsPut-none _ _)
 
--- the tree's one column failed, so a proper front of it was taken
+-- the tree is a leaf with a time, and of its one column a proper prefix was taken
 pub returns-in_err-put_column-in-Value-clause-put : goal.returns-in_err-put_column-in-Value-clause-put
 returns-in_err-put_column-in-Value-clause-put g t c n are =
     let p = err_from_is_err_and c.from_residual.result c.from_residual.ensures.1 in
@@ -114,7 +114,7 @@ returns-in_err-put_column-in-Value-clause-put g t c n are =
     (rw c.in-Some.is at c.in-Value.ensures.shows))
     (rw c.literals.ensures.literals at c.in_err-put_column-in-Value.ensures.put)
 
--- the side below failed, so a proper front of both sides was taken
+-- the sink took only a proper prefix of the side below, with which both begin
 pub returns-in_err-put_paths-in-Cut-clause-put : goal.returns-in_err-put_paths-in-Cut-clause-put
 returns-in_err-put_paths-in-Cut-clause-put g t c n are =
     let shows = c.in-Cut.ensures.shows in
@@ -130,7 +130,8 @@ returns-in_err-put_paths-in-Cut-clause-put g t c n are =
     c.from_residual-in_err-put_paths-in-Cut.result p.0 p.1
     (rw c.narrow-step.ensures.narrowed at (c.in_err-put_paths-in-Cut.ensures.put shows.0 shows.2)))
 
--- the side below was put and the side above failed, so a proper front of both was taken
+-- the side below is put, and of the side above (on from the exchanged path) a proper prefix was taken; together that is
+-- one of both
 pub returns-in_err-put_paths-in-Cut-2-clause-put : goal.returns-in_err-put_paths-in-Cut-2-clause-put
 returns-in_err-put_paths-in-Cut-2-clause-put g t c n are =
     let shows = c.in-Cut.ensures.shows in
@@ -151,7 +152,7 @@ returns-in_err-put_paths-in-Cut-2-clause-put g t c n are =
     (rw c.narrow-step.ensures.narrowed at (c.in_ok-put_paths-in-Cut.ensures.put shows.0 shows.2))
     (rw path at (c.in_err-put_paths-in-Cut-2.ensures.put shows.1 shows.3))))
 
--- both sides were put, so the fork was
+-- both sides are put one after the other, and the columns of a fork are those of both
 pub returns-in_ok-put_paths-in-Cut-2-clause-put : goal.returns-in_ok-put_paths-in-Cut-2-clause-put
 returns-in_ok-put_paths-in-Cut-2-clause-put g t c n are =
     let shows = c.in-Cut.ensures.shows in

@@ -1,4 +1,4 @@
--- Recursion of `add_tested`: adds the values of all conditions that a tree tests.
+-- Recursion of `add_tested`, which adds the values of all conditions that a guard tests.
 use Rattle.cpg_rules.specs.Trees.{size_of}
 use Rattle.cpg_reach.proofs.conditions.+add_tested.Given as goal
 

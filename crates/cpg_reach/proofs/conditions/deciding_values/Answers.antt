@@ -1,4 +1,4 @@
--- Proof of `deciding_values`: for each process the values of the conditions that decide it in some scenario.
+-- Proof of `deciding_values`: returns, for each process, the values of the conditions that decide it in some scenario.
 use Rattle.std.proofs.Common.{◌+◌, ◌∙◌, ◌≡◌, sym, ap, subst, length, arith}
 use Rattle.cpg_base.specs.Graph.{process_count}
 use Rattle.cpg_rules.specs.Guards.{tree_of}
@@ -27,7 +27,7 @@ tested-requires c = tests_fit c.args.admitted.now.graph c.args.admitted.now.orde
     c.guards.ensures.admitted c.guard_of.result.now
     (rw (← c.guards.ensures.guards) c.guard_of.ensures.below)
 
--- the values that the guard of this process tests are those that decide it
+-- a guard tests just the conditions that decide its process, so their values are those for this process
 pub loop-process-preserved : goal.loop-process-preserved
 loop-process-preserved c =
     let within = c.loop-process-test.true in
@@ -41,7 +41,7 @@ loop-process-preserved c =
     c.tested.result c.tested.ensures)
     c.loop-process.invariant)
 
--- all processes have been gone over
+-- the loop is over, so there is a set for each process of the graph
 pub returns : goal.returns
 returns c =
     let done = c.loop-process-test.false in

@@ -1,4 +1,4 @@
--- Loops of `deciding_values`: for each process the values of the conditions that decide it in some scenario.
+-- Loops of `deciding_values`: returns, for each process, the values of the conditions that decide it in some scenario.
 use Rattle.cpg_reach.specs.Tested.{AreDecidingUntil}
 use Rattle.cpg_reach.proofs.conditions.deciding_values.Given as goal
 

@@ -1,5 +1,5 @@
--- Recursion of `views_from`: how many views there are with the values so far, if these conditions are still to be
--- chosen; `most` if there are more.
+-- Recursion of `views_from`, which returns how many views there are with the values set so far, if the values of
+-- `conditions` are still to be chosen; `most` if there are more.
 use Rattle.std.proofs.Common.{length}
 use Rattle.cpg_reach.proofs.counting.+views_from.Given as goal
 

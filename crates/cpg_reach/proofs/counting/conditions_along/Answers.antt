@@ -1,4 +1,4 @@
--- Proof of `conditions_along`: the conditions by the order of their processes.
+-- Proof of `conditions_along`, which returns the conditions, in the order of their processes.
 use Rattle.std.proofs.Common.{◌∙◌, sym, ap, length, get_or, arith}
 use Rattle.cpg_base.specs.Graph.{condition_of}
 use Rattle.cpg_base.proofs.Standing.{process_within}
@@ -14,7 +14,7 @@ condition_of-requires c =
     (omega (arith, ap length same)) in
     rw same (omega arith)
 
--- the condition of this process is added, if it has one
+-- by whether this process has a condition, which is then the next along the order
 pub loop-process-preserved : goal.loop-process-preserved
 loop-process-preserved c =
     let same = c.processes-process-items.ensures.processes in

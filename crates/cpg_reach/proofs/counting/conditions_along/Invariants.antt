@@ -1,4 +1,4 @@
--- Loops of `conditions_along`: the conditions by the order of their processes.
+-- Loops of `conditions_along`, which returns the conditions, in the order of their processes.
 use Rattle.std.proofs.Common.{◌≡◌, take}
 use Rattle.cpg_order.specs.Counting.{conditions_along}
 use Rattle.cpg_reach.proofs.counting.conditions_along.Given as goal

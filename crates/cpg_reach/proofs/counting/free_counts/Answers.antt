@@ -1,4 +1,4 @@
--- Proof of `free_counts`: how many processes may have faults.
+-- Proof of `free_counts`, which returns how many processes may have faults.
 use Rattle.std.proofs.Common.{sym, ap, length, arith, true, false}
 use Rattle.cpg_order.specs.Counting.{is_count_free}
 use Rattle.cpg_reach.proofs.Counted.{count_next, count-le}
@@ -24,7 +24,7 @@ loop-process-preserved c = elim c.if-is_count_free.branch [
       let i = c.loop-process.invariant in let e = w.counts-is in omega arith
 ]
 
--- no more processes are counted than there are
+-- no more processes are counted than there are, and a graph has at most 128
 pub returns-clause-few : goal.returns-clause-few
 returns-clause-few c =
     let b = count-le (is_count_free c.args.admitted.now.graph c.args.reached.now c.args.scenario.now.values)

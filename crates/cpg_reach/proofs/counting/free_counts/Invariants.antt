@@ -1,4 +1,4 @@
--- Loops of `free_counts`: how many processes may have faults.
+-- Loops of `free_counts`, which returns how many processes may have faults.
 use Rattle.std.proofs.Common.{◌≡◌, count_by}
 use Rattle.cpg_base.specs.Numbers.{numbers_below}
 use Rattle.cpg_order.specs.Counting.{is_count_free}

@@ -1,5 +1,5 @@
--- Proof of `is_value_free`: whether a condition may be true: its value is among the variables, and its process is
--- active.
+-- Proof of `is_value_free`, which says whether a condition may be true: its value is among the variables, and its
+-- process is active.
 use Rattle.std.proofs.Common.{◌∙◌, ◌&&◌, sym, ap, subst, length, arith}
 use Rattle.cpg_base.proofs.Items.{process_of_below}
 use Rattle.cpg_base.specs.Graph.{process_of}
@@ -16,7 +16,7 @@ active-requires-clause-process c =
     c.process_of-process.ensures.process ∙ ap (λ g. process_of g c.args.condition) c.problem.ensures.problem in
     omega (arith, process_of_below c.args.admitted.now.graph c.args.condition c.requires.condition)
 
--- the guard of the condition's process says whether that is active
+-- the value is among the variables, so the condition may be true where its process is active, as the guard says
 pub returns : goal.returns
 returns c =
     c.active.ensures.active c.args.admitted.now.graph c.args.admitted.now.order

@@ -1,4 +1,4 @@
--- Proof of `empty_sets`: makes `count` empty sets of variables.
+-- Proof of `empty_sets`, which returns `count` empty sets of variables.
 use Rattle.std.proofs.Common.{◌+◌, sym, subst}
 use Rattle.cpg_reach.specs.Walked.{AreEmpty}
 use Rattle.cpg_reach.proofs.Empty.{empty_next}

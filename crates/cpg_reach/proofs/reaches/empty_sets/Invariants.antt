@@ -1,4 +1,4 @@
--- Loops of `empty_sets`: makes `count` empty sets of variables.
+-- Loops of `empty_sets`, which returns `count` empty sets of variables.
 use Rattle.cpg_reach.specs.Walked.{AreEmpty}
 use Rattle.cpg_reach.proofs.reaches.empty_sets.Given as goal
 

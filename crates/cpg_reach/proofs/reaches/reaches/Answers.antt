@@ -1,4 +1,4 @@
--- Proof of `reaches`: what the time of each item may depend on under an order, by item.
+-- Proof of `reaches`: returns, for each item, the variables that its time may depend on under the order.
 use Rattle.std.proofs.Common.{◌+◌, ap, ap₂, get_or, length, arith}
 use Rattle.cpg_base.specs.Graph.{process_count, item_count}
 use Rattle.cpg_base.proofs.Places.{length_order}
@@ -6,7 +6,7 @@ use Rattle.cpg_base.proofs.Standing.{process_within}
 use Rattle.cpg_reach.proofs.Walks.{walk_starts, step_in, step_out, all_reached}
 use Rattle.cpg_reach.proofs.reaches.reaches.Goals as goal
 
--- before the first process all sets are empty
+-- all sets are empty, which is right before the first process: nothing is reached, waited for or sent yet
 pub loop-process-init : goal.loop-process-init
 loop-process-init c =
     let same = ap₂ (λ n m. n + m) (ap length c.processes.ensures.processes) (ap length c.edges.ensures.edges) in
@@ -31,7 +31,7 @@ settle_process-requires-clause-process c =
       ap (λ g. process_count g) c.problem-problem.ensures.problem,
     )
 
--- the walk has come to the place of this process
+-- the process is the next along the order, so the walk has come to its place
 pub settle_process-requires-clause-walked : goal.settle_process-requires-clause-walked
 settle_process-requires-clause-walked c =
     let same = c.processes-process-items.ensures.processes in
@@ -42,7 +42,7 @@ settle_process-requires-clause-walked c =
     c.loop-process.walk.reaches.items c.loop-process.walk.known.items c.loop-process.walk.sent.items
     c.loop-process.invariant
 
--- the walk has come to the next place
+-- the process and all that it sends are settled, so the walk has come to the next place
 pub loop-process-preserved : goal.loop-process-preserved
 loop-process-preserved c =
     let same = c.processes-process-items.ensures.processes in

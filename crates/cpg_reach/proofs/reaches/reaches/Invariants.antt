@@ -1,4 +1,4 @@
--- Loops of `reaches`: what the time of each item may depend on under an order, by item.
+-- Loops of `reaches`: returns, for each item, the variables that its time may depend on under the order.
 use Rattle.std.proofs.Common.{◌*◌}
 use Rattle.cpg_order.proofs.Moments.{phases}
 use Rattle.cpg_reach.specs.Walked.{IsWalkedTo}

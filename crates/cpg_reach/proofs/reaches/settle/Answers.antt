@@ -1,4 +1,4 @@
--- Proof of `settle`: takes the reach of what a node may send.
+-- Proof of `settle`, which sets the reach of an item, and adds it to what its node has sent.
 use Rattle.std.proofs.Common.{◌||◌, ◌∙◌, refl, ap}
 use Rattle.cpg_order.specs.Reach.{is_in}
 use Rattle.cpg_reach.proofs.Adding.{set_at}

@@ -1,4 +1,6 @@
--- Proof of `settle_broadcast`: finds the reach of the broadcast of a process's condition, if it has one.
+-- Proof of `settle_broadcast`, which adds the reach of the broadcast of a process's condition, if it has one.
+-- `walked_some` says that the walk has a reach for each item (0), and for each node what later starts (1) and later
+-- sends (2) depend on.
 use Rattle.std.proofs.Common.{◌+◌, ◌*◌, ◌≡◌, ◌∙◌, sym, ap, ap₂, set, length, arith}
 use Rattle.cpg_base.specs.Graph.{broadcast_item}
 use Rattle.cpg_base.specs.Order.{place}
@@ -29,7 +31,7 @@ broadcast_of-reach-requires-clause-nodes c = ap length c.as_slice-2.ensures.valu
     (place c.args.order.now c.args.process * phases c.args.problem.now + 2) c.args.walk.now.reaches.items
     c.args.walk.now.known.items c.args.walk.now.sent.items c.requires.walked).2
 
--- the broadcast of the condition is an item of the graph
+-- the item's number is below the count of items, since the condition is one of the graph
 pub settle-requires-clause-item : goal.settle-requires-clause-item
 settle-requires-clause-item c =
     let w = walked_some c.args.problem.now c.args.order.now c.requires.order (place c.args.order.now c.args.process + 1)
@@ -51,7 +53,8 @@ settle-requires-clause-node c =
     c.args.walk.now.known.items c.args.walk.now.sent.items c.requires.walked in
     omega (arith, w.2, c.node_of.ensures.within)
 
--- the reach of the broadcast is set and added to what its node has sent
+-- the broadcast's reach is set as its item's and added to what its node has sent, so all is right up to the first
+-- message
 pub returns : goal.returns
 returns c =
     let item : length c.processes.result.now + length c.edges.result.now + c.in-Some.condition

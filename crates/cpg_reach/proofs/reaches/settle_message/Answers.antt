@@ -1,4 +1,6 @@
--- Proof of `settle_message`: finds the reach of the message of an edge, if the edge comes from the process.
+-- Proof of `settle_message`, which adds the reach of the message of an edge, if the edge comes from the process.
+-- `walked_some` says that the walk has a reach for each item (0), and for each node what later starts (1) and later
+-- sends (2) depend on.
 use Rattle.std.proofs.Common.{◌+◌, ◌*◌, ◌≡◌, ◌∙◌, sym, ap, set, get_or, length, arith}
 use Rattle.cpg_base.specs.Graph.{message_item, edge_at}
 use Rattle.cpg_base.specs.Order.{place}
@@ -48,7 +50,8 @@ settle-requires-clause-node c =
     c.args.walk.now.known.items c.args.walk.now.sent.items c.requires.walked in
     omega (arith, w.2, c.node_of.ensures.within)
 
--- the reach of the message is set and added to what its node has sent
+-- the message's reach is set as its item's and added to what its node has sent, so all is right up to the next edge's
+-- message
 pub returns : goal.returns
 returns c =
     let at : get_or c.edges.result.now c.args.edge no_edge ≡ edge_at c.args.problem.now c.args.edge =

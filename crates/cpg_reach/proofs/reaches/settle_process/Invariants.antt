@@ -1,4 +1,4 @@
--- Loops of `settle_process`: finds the reaches of the start of a process and of all that may be sent after its end.
+-- Loops of `settle_process`, which adds the reaches of the start of a process and of all that it sends.
 use Rattle.std.proofs.Common.{◌+◌, ◌*◌}
 use Rattle.cpg_base.specs.Order.{place}
 use Rattle.cpg_order.proofs.Moments.{phases}

@@ -1,4 +1,6 @@
--- Proof of `settle_start`: finds the reach of the start of a process.
+-- Proof of `settle_start`, which adds the reach of the start of a process, and what the process makes later ones on
+-- its node wait for. `walked_some` says that the walk has a reach for each item (0), and for each node what later
+-- starts (1) and later sends (2) depend on.
 use Rattle.std.proofs.Common.{◌*◌, ◌∙◌, ap, length, arith}
 use Rattle.cpg_base.specs.Order.{place}
 use Rattle.cpg_order.proofs.Moments.{phases}
@@ -52,7 +54,8 @@ index_mut-requires-2 c =
     c.args.walk.now.known.items c.args.walk.now.sent.items c.requires.walked in
     omega (arith, w.0, c.requires.process)
 
--- the reach of the start is set, and what it makes later ones wait for is added to its node
+-- the start's reach is set, and its node's set gets what the process makes later ones wait for, so all is right up to
+-- the broadcast
 pub returns : goal.returns
 returns c =
     let w = walked_some c.args.problem.now c.args.order.now c.requires.order (place c.args.order.now c.args.process)

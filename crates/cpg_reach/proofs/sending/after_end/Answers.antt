@@ -1,4 +1,4 @@
--- Proof of `after_end`: what an end and what a node has sent depend on.
+-- Proof of `after_end`, which returns what the end of a process and the earlier sends of a node depend on.
 use Rattle.std.proofs.Common.{[], get_or, ap, ◌∙◌}
 use Rattle.cpg_order.specs.Reach.{is_in, end_reach}
 use Rattle.cpg_reach.proofs.Adding.{same_before, set_at}

@@ -1,5 +1,4 @@
--- Proof of `broadcast_of`: what the send of a broadcast depends on, if it is known what its node has sent before it;
--- nothing if there is one node.
+-- Proof of `broadcast_of`, which returns what the time of a broadcast depends on.
 use Rattle.std.proofs.Common.{ap, length, arith}
 use Rattle.cpg_base.specs.declared.item.Item.TheVariants.{Broadcast}
 use Rattle.cpg_base.proofs.Items.{process_of_below}

@@ -1,5 +1,4 @@
--- Proof of `message_of`: what the send of a message depends on, if it is known what its node has sent before it;
--- nothing for an edge within a node.
+-- Proof of `message_of`, which returns what the time of a message depends on.
 use Rattle.std.proofs.Common.{◌≡◌, ◌<◌, ◌++◌, [], sym, ap, ◌∙◌, get_or, arith, true, false}
 use Rattle.cpg_base.specs.Graph.{process_count, edge_at, node_of, source, target}
 use Rattle.cpg_base.specs.declared.item.Item.TheVariants.{Message}

@@ -1,5 +1,5 @@
--- Proof of `add_heard`: adds the values that decide a process, and what the moments of hearing them on a node depend
--- on.
+-- Proof of `add_heard`, which adds the values of the conditions that decide a process, and what the times depend on at
+-- which the node hears them.
 use Rattle.std.proofs.Common.{◌≡◌, ◌∷◌, ◌∙◌, [], sym, ap, subst, filter, get_or, arith}
 use Rattle.cpg_base.specs.Numbers.{numbers_below}
 use Rattle.cpg_base.specs.Graph.{condition_count, value_variable}

@@ -1,5 +1,5 @@
--- Loops of `add_heard`: adds the values that decide a process, and what the moments of hearing them on a node depend
--- on.
+-- Loops of `add_heard`, which adds the values of the conditions that decide a process, and what the times depend on at
+-- which the node hears them.
 use Rattle.std.proofs.Common.{filter, get_or, []}
 use Rattle.cpg_base.specs.Numbers.{numbers_below}
 use Rattle.cpg_base.specs.Graph.{value_variable}

@@ -1,4 +1,4 @@
--- Proof of `add_hearing`: adds what the moment of hearing a condition on a node depends on.
+-- Proof of `add_hearing`, which adds what the time depends on at which a node hears a condition.
 use Rattle.std.proofs.Common.{arith}
 use Rattle.cpg_base.proofs.Items.{process_of_below}
 use Rattle.cpg_reach.proofs.starting.add_hearing.Goals as goal

@@ -1,4 +1,4 @@
--- Proof of `add_inputs`: adds what the moments at which the inputs of a process are there depend on.
+-- Proof of `add_inputs`, which adds what the times depend on at which the inputs of a process are there.
 use Rattle.std.proofs.Common.{◌≡◌, ◌==◌, ◌∙◌, sym, ap, get_or, eq-eqb}
 use Rattle.std.proofs.lemmas.Bool.{ne_eqb}
 use Rattle.cpg_base.specs.Graph.{target, edge_at}
@@ -8,7 +8,8 @@ use Rattle.cpg_reach.proofs.Sends.{no_edge}
 use Rattle.cpg_reach.proofs.starting.add_inputs.Goals as goal
 use Rattle.cpg_reach.proofs.starting.add_inputs.Goals.{then-edges-edge, else-edges-edge}
 
--- this edge is added if it is an input of the process
+-- what this edge depends on is added if it leads to the process; otherwise the set stays, and the edge isn't one of
+-- its inputs
 pub loop-edge-preserved : goal.loop-edge-preserved
 loop-edge-preserved c =
     let at : get_or c.edges-in-loop-edge.result.now c.loop-edge.edge no_edge

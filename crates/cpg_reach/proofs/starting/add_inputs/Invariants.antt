@@ -1,4 +1,4 @@
--- Loops of `add_inputs`: adds what the moments at which the inputs of a process are there depend on.
+-- Loops of `add_inputs`, which adds what the times depend on at which the inputs of a process are there.
 use Rattle.std.proofs.Common.{filter, ◌==◌}
 use Rattle.std.specs.List.{flat_map}
 use Rattle.cpg_base.specs.Numbers.{numbers_below}

@@ -1,4 +1,5 @@
--- Proof of `add_source_value`: adds the value of an edge's source, if the edge is conditional.
+-- Proof of `add_source_value`, which adds the value that an edge asks for: its source's condition, if the edge has a
+-- `when` and the source a condition.
 use Rattle.std.proofs.Common.{◌≡◌, ◌∷◌, [], ◌∙◌, sym, ap, not, is_some, get_or}
 use Rattle.cpg_base.specs.Graph.{value_variable, condition_of, edge_at}
 use Rattle.cpg_order.specs.Reach.{is_in, source_value}

@@ -1,5 +1,4 @@
--- Proof of `start_of`: what the start of a process depends on, if it is known what those before it on its node made
--- it wait for.
+-- Proof of `start_of`, which returns what the start of a process depends on.
 use Rattle.std.proofs.Common.{◌∙◌, ap, true, false, arith}
 use Rattle.cpg_order.specs.Reach.{is_in}
 use Rattle.cpg_reach.proofs.Adding.{set_at}

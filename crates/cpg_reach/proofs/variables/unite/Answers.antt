@@ -1,4 +1,4 @@
--- Proof of `unite`: marks all that the others mark.
+-- Proof of `unite`, which marks what the others mark, too.
 use Rattle.std.proofs.Common.{arith, rules}
 use Rattle.cpg_reach.proofs.Members.{united_first, united_next, united_all}
 use Rattle.cpg_reach.proofs.variables.unite.Goals as goal
@@ -12,7 +12,7 @@ pub loop-variable-preserved : goal.loop-variable-preserved
 loop-variable-preserved c = united_next c.args.marks.now c.args.others.now c.loop-variable.marks
     c.loop-variable.variable _ (omega arith) (search rules) c.loop-variable.invariant
 
--- at the end of the loop each mark is that of both lists
+-- the loop has gone over all marks, so each is set if it is in one of both lists
 pub returns : goal.returns
 returns c = united_all c.args.marks.now c.args.others.now c.loop-variable.marks c.loop-variable.variable
     (omega arith) c.loop-variable.invariant

@@ -1,4 +1,4 @@
--- Loops of `unite`: marks all that the others mark.
+-- Loops of `unite`, which marks what the others mark, too.
 use Rattle.cpg_reach.proofs.Members.{United}
 use Rattle.cpg_reach.proofs.variables.unite.Given as goal
 

@@ -1,4 +1,4 @@
--- Proof of `raise`: from the ways to add up to at most a number, those to add up to at most one more.
+-- Proof of `raise`, which turns the ways to add up to at most `faults` into those to add up to at most one more.
 use Rattle.std.proofs.Common.{arith}
 use Rattle.cpg_reach.proofs.Raising.{raised_first, sum_fits, raised_next, raised_all}
 use Rattle.cpg_reach.proofs.ways.raise.Goals as goal

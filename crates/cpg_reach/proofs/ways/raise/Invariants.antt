@@ -1,4 +1,4 @@
--- Loops of `raise`: from the ways to add up to at most a number, those to add up to at most one more.
+-- Loops of `raise`, which turns the ways to add up to at most `faults` into those to add up to at most one more.
 use Rattle.cpg_reach.proofs.Raising.{Raised}
 use Rattle.cpg_reach.proofs.ways.raise.Given as goal
 

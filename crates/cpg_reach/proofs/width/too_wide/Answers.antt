@@ -1,5 +1,4 @@
--- Proof of `too_wide`: the least item that is too wide under an order, and `None` exactly if there is none: its views
--- are more than 16,384, or the loads of the items up to it are together more than 524,288.
+-- Proof of `too_wide`, which returns the least item that is too wide under an order; `None` exactly if there is none.
 use Rattle.std.proofs.Common.{◌∙◌, sym, ap, arith}
 use Rattle.cpg_base.specs.Graph.{process_count}
 use Rattle.cpg_base.proofs.Places.{length_order}
@@ -11,7 +10,7 @@ pub of-requires : goal.of-requires
 of-requires c = length_order (process_count c.args.admitted.now.graph) c.args.order.now c.requires.all
     ∙ ap (λ g. process_count g) (sym c.problem-problem.ensures.problem)
 
--- the item is too wide, and those before it are not
+-- this item's check failed, so it is too wide, and none before it is, since theirs passed
 pub returns-in-None-clause-some : goal.returns-in-None-clause-some
 returns-in-None-clause-some c = least_wide c.args.admitted.now.graph c.args.order.now c.requires
     c.in_ok-reaches.reaches.items c.in_ok-reaches.ensures c.loop-item.item c.loop-item.loads

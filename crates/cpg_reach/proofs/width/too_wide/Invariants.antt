@@ -1,5 +1,4 @@
--- Loops of `too_wide`: the least item that is too wide under an order, and `None` exactly if there is none: its views
--- are more than 16,384, or the loads of the items up to it are together more than 524,288.
+-- Loops of `too_wide`, which returns the least item that is too wide under an order; `None` exactly if there is none.
 use Rattle.cpg_reach.specs.Counter.{IsCounterFor}
 use Rattle.cpg_reach.proofs.Widths.{AreLoads}
 use Rattle.cpg_reach.proofs.width.too_wide.Given as goal

@@ -1,5 +1,5 @@
--- Proof of `views`: how many views an item has under an order: the scenarios in which each value that the item's time
--- doesn't depend on, and each value of an inactive process, is false, and each such fault count is 0.
+-- Proof of `views`, which returns how many views an item has under an order: the scenarios in which each value that
+-- the item's time doesn't depend on, and each value of an inactive process, is false, and each such fault count is 0.
 use Rattle.std.proofs.Common.{◌∙◌, sym, ap}
 use Rattle.cpg_base.specs.Graph.{process_count}
 use Rattle.cpg_base.proofs.Places.{length_order}

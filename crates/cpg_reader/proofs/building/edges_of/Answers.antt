@@ -1,4 +1,4 @@
--- Proof of `edges_of`: the edges of a document.
+-- Proof of `edges_of`, which returns the edges that a document says.
 use Rattle.std.proofs.Common.{◌≤◌}
 use Rattle.cpg_reader.specs.Shape.{raw_view}
 use Rattle.cpg_base.specs.Natural.{natural}

@@ -1,4 +1,4 @@
--- Loops of `edges_of`: the edges of a document.
+-- Loops of `edges_of`, which returns the edges that a document says.
 use Rattle.std.proofs.Common.{◌≡◌, drop}
 use Rattle.cpg_reader.specs.Reading.{each}
 use Rattle.cpg_reader.specs.Names.{edge_of}

@@ -1,11 +1,11 @@
--- Proof of `faults_of`: how many faults the graph may have.
+-- Proof of `faults_of`, which returns the fault number.
 use Rattle.std.proofs.Common.{◌≡◌, arith, rules}
 use Rattle.cpg_reader.specs.Shape.{raw_view}
 use Rattle.cpg_base.specs.Natural.{natural}
 use Rattle.cpg_reader.proofs.Limits.{small_faults}
 use Rattle.cpg_reader.proofs.building.faults_of.Goals as goal
 
--- a document within the limits has a number of faults that fits
+-- the fault number of a document within the limits fits one byte
 pub overflow_cast-result : goal.overflow_cast-result
 overflow_cast-result c =
     let is : c.natural.result ≡ natural c.args.raw.now.faults = search rules in

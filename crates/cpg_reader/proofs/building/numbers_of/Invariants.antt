@@ -1,4 +1,4 @@
--- Loops of `numbers_of`: the numbers of the names of an order.
+-- Loops of `numbers_of`, which returns the numbers of the names of an order.
 use Rattle.std.proofs.Common.{◌≡◌, drop}
 use Rattle.cpg_reader.specs.Reading.{each}
 use Rattle.cpg_reader.specs.Names.{ordered}

@@ -1,4 +1,4 @@
--- Proof of `order_of`: the numbers of the processes of the order, if there is one.
+-- Proof of `order_of`, which returns the order as numbers of processes, or `None` if the document has none.
 use Rattle.cpg_reader.specs.Shape.{raw_view}
 use Rattle.cpg_reader.proofs.Limits.{few_processes}
 use Rattle.cpg_reader.proofs.building.order_of.Goals as goal

@@ -1,4 +1,4 @@
--- Proof of `processes_of`: the processes of a document.
+-- Proof of `processes_of`, which returns the processes that a document says.
 use Rattle.std.proofs.Common.{◌≤◌}
 use Rattle.cpg_reader.specs.Shape.{raw_view}
 use Rattle.cpg_base.specs.Natural.{natural}

@@ -1,4 +1,4 @@
--- Loops of `processes_of`: the processes of a document.
+-- Loops of `processes_of`, which returns the processes that a document says.
 use Rattle.std.proofs.Common.{◌≡◌, drop}
 use Rattle.cpg_reader.specs.Reading.{each}
 use Rattle.cpg_reader.specs.Names.{process_of}

@@ -1,4 +1,4 @@
--- Proof of `slots_of`: the slots of a document.
+-- Proof of `slots_of`, which returns the slots that a document says.
 use Rattle.std.proofs.Common.{◌≤◌}
 use Rattle.cpg_reader.specs.Shape.{raw_view}
 use Rattle.cpg_base.specs.Natural.{natural}

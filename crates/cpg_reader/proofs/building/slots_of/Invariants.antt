@@ -1,4 +1,4 @@
--- Loops of `slots_of`: the slots of a document.
+-- Loops of `slots_of`, which returns the slots that a document says.
 use Rattle.std.proofs.Common.{◌≡◌, drop}
 use Rattle.cpg_reader.specs.Reading.{each}
 use Rattle.cpg_reader.specs.Names.{slot_of}

@@ -1,4 +1,4 @@
--- Loops of `all_in_range`: checks that the numbers of all elements are in range.
+-- Loops of `all_in_range`, which refuses elements of which one has a number out of range.
 use Rattle.std.proofs.Common.{◌≡◌, drop}
 use Rattle.cpg_reader.specs.Ranges.{all_in_range}
 use Rattle.cpg_reader.proofs.ranges.all_in_range.Given as goal

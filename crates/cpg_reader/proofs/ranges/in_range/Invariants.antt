@@ -1,4 +1,4 @@
--- Loops of `in_range`: checks that numbers are in range.
+-- Loops of `in_range`, which refuses numbers of which one is out of range.
 use Rattle.std.proofs.Common.{◌≡◌, drop}
 use Rattle.cpg_reader.specs.Ranges.{in_range}
 use Rattle.cpg_reader.proofs.ranges.in_range.Given as goal

@@ -1,4 +1,5 @@
--- Proof of `source_count`: how many different sources the conditional edges have.
+-- Proof of `source_count`, which returns how many different sources the conditional edges have, which is how many
+-- conditions there are.
 use Rattle.std.proofs.Common.{◌∙◌, sym}
 use Rattle.cpg_reader.proofs.Texts.{more_sources, same_sources}
 use Rattle.cpg_reader.proofs.ranges.source_count.Goals as goal

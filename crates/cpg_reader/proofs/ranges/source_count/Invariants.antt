@@ -1,4 +1,5 @@
--- Loops of `source_count`: how many different sources the conditional edges have.
+-- Loops of `source_count`, which returns how many different sources the conditional edges have, which is how many
+-- conditions there are.
 use Rattle.std.proofs.Common.{◌≡◌, [], drop, map}
 use Rattle.cpg_reader.specs.Ranges.{different, sources}
 use Rattle.cpg_reader.proofs.ranges.source_count.Given as goal

@@ -1,4 +1,4 @@
--- Proof of `as_name`: a name, if the value is a text that is one.
+-- Proof of `as_name`, which returns a value as a name, or `None` if it isn't a text that is one.
 use Rattle.cpg_reader.proofs.NameTexts.{named_ok}
 use Rattle.cpg_reader.proofs.row.as_name.Goals as goal
 

@@ -1,4 +1,4 @@
--- Proof of `names_in`: the elements of an array, or `None` if one isn't a name.
+-- Proof of `names_in`, which returns the names of an array, or `None` if an element isn't a name.
 use Rattle.std.proofs.Common.{◌∙◌, ap}
 use Rattle.toml.specs.View.{items_view}
 use Rattle.cpg_reader.specs.Rows.{items_as, as_name}

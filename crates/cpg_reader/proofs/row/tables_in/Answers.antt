@@ -1,4 +1,4 @@
--- Proof of `tables_in`: the elements of an array, or `None` if one isn't a table.
+-- Proof of `tables_in`, which returns the tables of an array, or `None` if an element isn't a table.
 use Rattle.std.proofs.Common.{◌∙◌, [], ◌∷◌, map, ap}
 use Rattle.std.proofs.lemmas.List.{map-append}
 use Rattle.toml.specs.Data.{as_table}

@@ -1,4 +1,4 @@
--- Loops of `tables_in`: the elements of an array, or `None` if one isn't a table.
+-- Loops of `tables_in`, which returns the tables of an array, or `None` if an element isn't a table.
 use Rattle.std.proofs.Common.{◌≡◌, map, drop}
 use Rattle.toml.specs.Data.{as_table}
 use Rattle.toml.specs.View.{items_view, table_view}

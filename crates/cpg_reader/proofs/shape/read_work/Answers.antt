@@ -1,4 +1,4 @@
--- Proof of `read_work`: the fields of a process besides its names, if its table has no other key.
+-- Proof of `read_work`, which returns the fields of a process besides its two names.
 use Rattle.std.proofs.Common.{refl}
 use Rattle.std.proofs.lemmas.Result.{err_from_is_err_and}
 use Rattle.cpg_reader.proofs.Each.{Refuses-along}

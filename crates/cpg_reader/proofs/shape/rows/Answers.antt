@@ -1,4 +1,4 @@
--- Proof of `rows`: the elements of a list.
+-- Proof of `rows`, which returns the elements that the tables of a list say, in order.
 use Rattle.std.proofs.Common.{◌∙◌, sym}
 use Rattle.std.proofs.lemmas.Result.{err_from_is_err_and}
 use Rattle.toml.specs.Data.{Members}

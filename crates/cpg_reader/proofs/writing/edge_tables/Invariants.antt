@@ -1,4 +1,4 @@
--- Loops of `edge_tables`: the tables of the edges.
+-- Loops of `edge_tables`, which returns a table for each edge.
 use Rattle.std.proofs.Common.{◌≡◌, take, map}
 use Rattle.toml.specs.Data.{table}
 use Rattle.toml.specs.View.{view}

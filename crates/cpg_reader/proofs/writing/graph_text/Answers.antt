@@ -1,5 +1,4 @@
--- Proof of `graph_text`: a text of a graph file that is read as the graph: its numbers and names, with each key that
--- has a value.
+-- Proof of `graph_text`, which returns the text of a graph file that says the graph, with each key that has a value.
 use Rattle.std.proofs.Common.{◌≡◌, ◌≤◌, Some, ap, ◌∙◌, sym, subst, string_bytes}
 use Rattle.std.proofs.lemmas.Str.{IsUtf8-string_bytes}
 use Rattle.toml.specs.Data.{members_depth}
@@ -8,7 +7,8 @@ use Rattle.cpg_reader.specs.WrittenTree.{graph_members}
 use Rattle.cpg_reader.proofs.ReadBack.{graph_shallow, text_back}
 use Rattle.cpg_reader.proofs.writing.graph_text.Goals as goal
 
--- the text is parsed as the members of the graph, so it is read as the graph
+-- The text is parsed as the members that were written, as their depth is small; read as a document, they give the
+-- graph.
 pub returns-in-Ok : goal.returns-in-Ok
 returns-in-Ok c =
     let g = c.args.problem.now in

@@ -1,4 +1,4 @@
--- Proof of `node_tables`: the tables of the nodes.
+-- Proof of `node_tables`, which returns a table for each node.
 use Rattle.std.proofs.Common.{◌∙◌, ◌++◌, ◌∷◌, [], ap, map}
 use Rattle.toml.specs.Data.{table}
 use Rattle.toml.specs.View.{view}

@@ -1,4 +1,4 @@
--- Loops of `node_tables`: the tables of the nodes.
+-- Loops of `node_tables`, which returns a table for each node.
 use Rattle.std.proofs.Common.{◌≡◌, take, map}
 use Rattle.std.specs.Prelude.{All}
 use Rattle.toml.specs.Data.{table}

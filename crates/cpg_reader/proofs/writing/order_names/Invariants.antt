@@ -1,4 +1,4 @@
--- Loops of `order_names`: the names of the processes of an order.
+-- Loops of `order_names`, which returns the names of the processes of an order.
 use Rattle.std.proofs.Common.{◌≡◌, take, map, get_or, []}
 use Rattle.toml.specs.Data.{string}
 use Rattle.toml.specs.View.{view}

@@ -1,4 +1,4 @@
--- Proof of `process_tables`: the tables of the processes.
+-- Proof of `process_tables`, which returns a table for each process.
 use Rattle.std.proofs.Common.{◌∙◌, ◌++◌, ◌∷◌, [], ap, map}
 use Rattle.toml.specs.Data.{table}
 use Rattle.toml.specs.View.{view}

@@ -1,4 +1,4 @@
--- Loops of `process_tables`: the tables of the processes.
+-- Loops of `process_tables`, which returns a table for each process.
 use Rattle.std.proofs.Common.{◌≡◌, take, map}
 use Rattle.std.specs.Prelude.{All}
 use Rattle.toml.specs.Data.{table}
@@ -7,7 +7,7 @@ use Rattle.cpg_base.specs.Name.{IsName}
 use Rattle.cpg_reader.specs.WrittenTree.{process_members}
 use Rattle.cpg_reader.proofs.writing.process_tables.Given as goal
 
--- after each process, the list has the table of each process so far, and each name so far is a valid name
+-- `made`: the array has the table of each process so far. `named`: the name of each process so far is lawful.
 abbrev pub invariant-loop-process : goal.invariant-loop-process
 invariant-loop-process l = record {
   made : map view l.made.items

@@ -1,4 +1,4 @@
--- Loops of `slot_tables`: the tables of the slots.
+-- Loops of `slot_tables`, which returns a table for each slot.
 use Rattle.std.proofs.Common.{◌≡◌, take, map}
 use Rattle.toml.specs.Data.{table}
 use Rattle.toml.specs.View.{view}

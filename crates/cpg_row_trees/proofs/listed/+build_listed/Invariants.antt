@@ -1,5 +1,5 @@
--- Recursion of `build_listed`: adds the tree for the scenarios of a space from the cube at a place on, unless there
--- would be too many items, and answers the place behind its last cube.
+-- Recursion of `build_listed`, which adds the tree for the scenarios of a space, whose first cube is at a place, and
+-- returns the place behind its last cube; the space is as before then.
 use Rattle.std.proofs.Common.{◌+◌, ◌*◌}
 use Rattle.cpg_row_trees.proofs.listed.+build_listed.Given as goal
 
@@ -12,6 +12,6 @@ decreases-build_listed_fork l = 3 * l.growth.now.left + 2
 abbrev pub decreases-build_listed_above : goal.decreases-build_listed_above
 decreases-build_listed_above l = 3 * l.growth.now.left + 1
 
--- it calls `build_listed_fork` with fewer items left
+-- it takes one of the items left before it calls `build_listed_fork`
 abbrev pub decreases-build_listed : goal.decreases-build_listed
 decreases-build_listed l = 3 * l.growth.now.left

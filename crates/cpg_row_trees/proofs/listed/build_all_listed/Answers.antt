@@ -1,5 +1,5 @@
--- Proof of `build_all_listed`: adds the tree of all cubes for all scenarios of at most `k` faults; whether there is
--- one.
+-- Proof of `build_all_listed`, which adds the tree of all cubes for all scenarios of at most `k` faults, and returns
+-- whether there is one.
 use Rattle.std.proofs.Common.{ℕ, arith, map, take, Bor, List, ◌∙◌, sym, subst}
 use Rattle.cpg_cube.specs.declared.literal.Literal.{Literal}
 use Rattle.cpg_row_trees.specs.Listed.{IsOwnOn}
@@ -8,9 +8,11 @@ use Rattle.cpg_row_trees.proofs.PlaceHintLaws.{cube_here}
 use Rattle.cpg_row_trees.proofs.ListedLaws.{at_some}
 use Rattle.cpg_row_trees.proofs.listed.build_all_listed.Goals as goal
 
--- the cut that the first cube gives is open, and its first literals and the variable's range say who is in the space
+-- the cut that the first cube gives is open, and its first literals and the variable's range say which scenarios are in
+-- the space
 pub build_listed_fork-requires : goal.build_listed_fork-requires
 build_listed_fork-requires c =
+    -- the cube that was looked up is the one at its place in the list
     let look = c.in-Some.ensures.lookup in
     let at = cube_here c.args.cubes.now 0 c.in-Some.first.now look.3.0 look.1 in
     record {

@@ -1,5 +1,5 @@
--- Proof of `listed_tree`: the tree of the places of cubes that were read off it, in the scenarios of at most `k`
--- faults and with at most this many items.
+-- Proof of `listed_tree`, which returns the tree of the places of cubes that were read off it, for all scenarios of at
+-- most `k` faults.
 use Rattle.std.proofs.Common.{ℕ, ◌∙◌, arith, map, Bor, List, Option, subst, sym, ap, length}
 use Rattle.std.proofs.lemmas.Bool.{OnTrue_at}
 use Rattle.std.proofs.lemmas.List.{length-map}
@@ -21,6 +21,7 @@ build_all_listed-requires c = record {
 -- the items were added to an empty list, so they are those of a tree
 pub grown-requires : goal.grown-requires
 grown-requires c =
+    -- the tree that was added finds the cubes of the whole list
     let finds = (OnTrue_at c.if-not-has_tree.false c.in_ok-has_tree.ensures).finds in (
       finds.0,
       all_added c.in_ok-growth.growth.items.items c.build_all_listed.new.growth.items.items finds.0
@@ -31,6 +32,7 @@ grown-requires c =
 pub returns : goal.returns
 returns c s few =
     let cubes : List (List Literal) = map (λ (b : Bor (List Literal)). b.now) c.args.cubes.now in
+    -- the tree that was added finds the cubes of the whole list
     let finds = (OnTrue_at c.if-not-has_tree.false c.in_ok-has_tree.ensures).finds in
     let is = all_added c.in_ok-growth.growth.items.items c.build_all_listed.new.growth.items.items finds.0
     c.in_ok-growth.ensures.items finds.1 in

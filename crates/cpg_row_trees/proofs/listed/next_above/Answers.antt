@@ -1,5 +1,5 @@
--- Proof of `next_above`: the literals of the cube at a place, if it is above a cut, and says before it what the one
--- at another place does.
+-- Proof of `next_above`: whether there is a cube at `place`, it is above a cut, and its literals before that are those
+-- of the cube at `from`.
 use Rattle.std.proofs.Common.{take, List, ◌∙◌, ap, sym}
 use Rattle.cpg_cube.specs.declared.literal.Literal.{Literal}
 use Rattle.cpg_tree.proofs.Passes.{of_true}
@@ -9,6 +9,7 @@ use Rattle.cpg_row_trees.proofs.listed.next_above.Goals as goal
 -- the cube at the place is there and its first literals are those of the other, as both were looked up
 pub returns : goal.returns
 returns c =
+    -- the cube that was looked up is the one at its place in the list
     let look = c.in-Some.ensures.lookup in
     let other = c.in-Some-get.ensures.lookup in
     let front = λ (ls : List Literal). take c.args.part.depth ls in

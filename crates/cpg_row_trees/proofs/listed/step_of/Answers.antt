@@ -1,4 +1,4 @@
--- Proof of `step_of`: what a literal is in a space.
+-- Proof of `step_of`, which returns what a literal of the first cube of a space says there.
 use Rattle.std.proofs.Common.{arith, rules}
 use Rattle.cpg_cube.proofs.CubeLows.{holds-from}
 use Rattle.cpg_tree.proofs.Forks.{from_false}

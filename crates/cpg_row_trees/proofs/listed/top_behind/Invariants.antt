@@ -1,5 +1,5 @@
--- Loops of `top_behind`: the top of the tree from a cube on, if the first literals, up to a depth, say who is in the
--- space.
+-- Loops of `top_behind`, which returns the top of the tree of a space whose first cube has these literals, if the first
+-- `depth` of them say which scenarios are in the space.
 use Rattle.std.proofs.Common.{take}
 use Rattle.cpg_row_trees.specs.Slices.{IsOwn}
 use Rattle.cpg_row_trees.proofs.listed.top_behind.Given as goal

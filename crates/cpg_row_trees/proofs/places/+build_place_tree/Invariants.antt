@@ -1,5 +1,5 @@
--- Recursion of `build_place_tree`: adds the tree of these places for the scenarios of a space, unless there would be
--- too many items; false if there is none: then two cubes may match together, or there would be more items.
+-- Recursion of `build_place_tree`, which adds the tree of these places for the scenarios of a space, and leaves the
+-- space as it was.
 use Rattle.std.proofs.Common.{◌+◌, ◌*◌}
 use Rattle.cpg_row_trees.proofs.places.+build_place_tree.Given as goal
 
@@ -8,6 +8,6 @@ use Rattle.cpg_row_trees.proofs.places.+build_place_tree.Given as goal
 abbrev pub decreases-build_forked_places : goal.decreases-build_forked_places
 decreases-build_forked_places l = 2 * l.growth.now.left + 1
 
--- each fork uses up one of the items that are left
+-- it takes one of the items left before it calls `build_forked_places`
 abbrev pub decreases-build_place_tree : goal.decreases-build_place_tree
 decreases-build_place_tree l = 2 * l.growth.now.left

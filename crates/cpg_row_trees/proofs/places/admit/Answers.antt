@@ -1,5 +1,4 @@
--- Proof of `admit`: adds a place, unless there are too few faults for its cube in the space of all scenarios of at
--- most `k`.
+-- Proof of `admit`, which adds a place, unless it has no cube or this asks for more than `k` faults.
 use Rattle.std.proofs.Common.{◌≡◌, true, refl, sym, subst, map, Bor, List}
 use Rattle.std.proofs.lemmas.Bool.{both_ways}
 use Rattle.cpg_base.specs.Scenario.{Scenario}
@@ -17,6 +16,7 @@ use Rattle.cpg_row_trees.proofs.places.admit.Goals as goal
 pub returns-then-not-affords : goal.returns-then-not-affords
 returns-then-not-affords c =
     let cubes : List (List Literal) = map (λ (b : Bor (List Literal)). b.now) c.args.cubes.now in
+    -- the cube that was looked up is the one at its place in the list
     let look = c.in-Some.ensures.lookup in
     let at = cube_here c.args.cubes.now c.args.place c.in-Some.cube.now look.3.0 look.1 in
     kept_out (λ s. IsInSpace c.args.space.now s × IsMatched cubes s c.args.place) c.args.place
@@ -26,7 +26,7 @@ returns-then-not-affords c =
     (subst (λ xs. matches xs s ≡ true) (sym c.literals-literals.ensures.literals)
     (subst (λ xs. matches xs s ≡ true) at h.1.matched)))
 
--- the place was added
+-- the place was added to those that were there
 pub returns : goal.returns
 returns c =
     let cubes : List (List Literal) = map (λ (b : Bor (List Literal)). b.now) c.args.cubes.now in

@@ -1,4 +1,4 @@
--- Proof of `do_hold`: whether literals hold in the whole space.
+-- Proof of `do_hold`: whether all literals hold in the whole space; true only if they do.
 use Rattle.std.proofs.Common.{◌≡◌, true, subst}
 use Rattle.std.proofs.lemmas.List.{take_all}
 use Rattle.cpg_cube.specs.Cube.{matches}

@@ -1,4 +1,4 @@
--- Loops of `do_hold`: whether literals hold in the whole space.
+-- Loops of `do_hold`: whether all literals hold in the whole space; true only if they do.
 use Rattle.std.proofs.Common.{◌≡◌, true, take}
 use Rattle.cpg_base.specs.Scenario.{Scenario}
 use Rattle.cpg_cube.specs.Cube.{matches}

@@ -1,5 +1,5 @@
--- Proof of `hints_of`: the places whose cubes some scenario of the space of all scenarios of at most `k` faults may
--- match.
+-- Proof of `hints_of`, which returns the places whose cubes some scenario of the space may match, which is that of all
+-- scenarios of at most `k` faults.
 use Rattle.std.proofs.Common.{map, sym, subst, Bor, List, ℕ, arith}
 use Rattle.std.proofs.lemmas.List.{length-map}
 use Rattle.cpg_base.specs.Numbers.{numbers_below}

@@ -1,4 +1,5 @@
--- Proof of `keep`: adds a place to the sides of a fork that have scenarios which match its cube.
+-- Proof of `keep`, which adds a place to those sides of a fork on which some scenario may match its cube, if there is
+-- one.
 use Rattle.std.proofs.Common.{◌≡◌, ◌≤◌, ◌<◌, true, sym, subst, map, Bor, List}
 use Rattle.cpg_base.specs.Scenario.{number_of}
 use Rattle.cpg_cube.specs.declared.literal.Literal.{Literal}
@@ -12,6 +13,7 @@ use Rattle.cpg_row_trees.proofs.places.keep.Goals as goal
 pub returns-clause-low : goal.returns-clause-low
 returns-clause-low c =
     let cubes : List (List Literal) = map (λ (b : Bor (List Literal)). b.now) c.args.cubes.now in
+    -- the cube that was looked up is the one at its place in the list
     let look = c.in-Some.ensures.lookup in
     let at = cube_here c.args.cubes.now c.args.hint.place c.in-Some.cube.now look.3.0 look.1 in
     let v = c.args.span.cut.variable in
@@ -30,6 +32,7 @@ returns-clause-low c =
 pub returns-clause-high : goal.returns-clause-high
 returns-clause-high c =
     let cubes : List (List Literal) = map (λ (b : Bor (List Literal)). b.now) c.args.cubes.now in
+    -- the cube that was looked up is the one at its place in the list
     let look = c.in-Some.ensures.lookup in
     let at = cube_here c.args.cubes.now c.args.hint.place c.in-Some.cube.now look.3.0 look.1 in
     let v = c.args.span.cut.variable in

@@ -1,4 +1,4 @@
--- Proof of `keep_above`: adds a place as it stands above a cut, unless the variable's range ends at the cut or
+-- Proof of `keep_above`, which adds a place to the side above a cut, unless the variable's range ends at the cut or
 -- before, or there are too few faults left.
 use Rattle.std.proofs.Common.{arith, ◌≡◌, ◌<◌, true, refl, sym, subst, List}
 use Rattle.std.proofs.lemmas.Bool.{both_ways}
@@ -34,7 +34,7 @@ returns-then-not-do_suffice_above-clause-kept c =
     both_ways (matches c.args.literals.now s) (from_false c.do_suffice_above.result c.if-not-do_suffice_above.true
     c.do_suffice_above.ensures.none s h.0.0 h.0.1) h.1)
 
--- the place was added
+-- the place was added to those that were there
 pub returns-clause-kept : goal.returns-clause-kept
 returns-clause-kept c =
     let v = c.args.span.cut.variable in

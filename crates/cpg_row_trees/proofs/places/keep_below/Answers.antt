@@ -1,4 +1,5 @@
--- Proof of `keep_below`: adds a place as it stands up to a cut, unless the variable's range is above the cut.
+-- Proof of `keep_below`, which adds a place to the side below a cut, unless the cube's range of the variable is all
+-- above the cut.
 use Rattle.std.proofs.Common.{arith, ◌≤◌, refl, sym, subst, List}
 use Rattle.cpg_base.specs.Scenario.{Scenario, number_of}
 use Rattle.cpg_row_trees.specs.declared.places.PlaceHint.{PlaceHint}
@@ -13,7 +14,7 @@ returns-then-range-span c =
     kept_out (λ s. (number_of s v ≤ c.args.span.cut.most) × (c.args.range.low ≤ number_of s v)) c.args.hint.place
     c.args.low.now.items (λ s h. omega (arith, h.0, h.1, c.if-range-span.true))
 
--- the place was added
+-- the place was added to those that were there
 pub returns : goal.returns
 returns c =
     let v = c.args.span.cut.variable in

@@ -1,4 +1,4 @@
--- Proof of `parted`: the places whose cubes some scenario of each side of a fork may match.
+-- Proof of `parted`, which returns for each side of a fork the places whose cubes some scenario there may match.
 use Rattle.std.proofs.Common.{map, refl, sym, subst, Bor, List, get_or, ◌≤◌, ◌<◌, ◌∙◌}
 use Rattle.std.proofs.lemmas.List.{take_all}
 use Rattle.cpg_base.specs.Scenario.{number_of}
@@ -30,9 +30,11 @@ loop-hint-preserved c =
     let v = c.args.span.cut.variable in
     let none : PlaceHint = record { place = 0; held = 0; spare = 0 } in
     record {
+      -- `keep` says so of the next hint for the side below, and the invariant of those before
       low = keeps_more cubes (λ s. number_of s v ≤ c.args.span.cut.most) c.args.hints.now c.loop-hint.low.items
           c.keep.new.low.items c.loop-hint.hint-index none c.loop-hint-test.true
           c.in_ok-keep.ensures.low c.loop-hint.invariant.low;
+      -- the side above keeps its places too: the space that `keep` speaks of is the one given
       high = keeps_more cubes (λ s. IsInSpace c.args.space.now s × (c.args.span.cut.most < number_of s v))
           c.args.hints.now c.loop-hint.high.items c.keep.new.high.items c.loop-hint.hint-index none
           c.loop-hint-test.true
@@ -49,7 +51,7 @@ pub keep-requires : goal.keep-requires
 keep-requires c = subst (λ (r : Space). IsOpenCut r c.args.span.cut.variable c.args.span.cut.most)
     (sym c.loop-hint.invariant.same) c.requires
 
--- the places for the side below
+-- the loop has seen all hints, so their places are kept up to the cut
 pub returns-clause-low : goal.returns-clause-low
 returns-clause-low c =
     let cubes : List (List Literal) = map (λ (b : Bor (List Literal)). b.now) c.args.cubes.now in

@@ -1,4 +1,4 @@
--- Loops of `parted`: the places whose cubes some scenario of each side of a fork may match.
+-- Loops of `parted`, which returns for each side of a fork the places whose cubes some scenario there may match.
 use Rattle.std.proofs.Common.{map, take, ◌≤◌, ◌<◌, ◌≡◌}
 use Rattle.cpg_base.specs.Scenario.{number_of}
 use Rattle.cpg_tree.specs.Space.{IsInSpace}

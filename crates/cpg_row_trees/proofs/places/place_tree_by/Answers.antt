@@ -1,5 +1,5 @@
--- Proof of `place_tree_by`: the tree of places of cubes in any order, in the scenarios of at most `k` faults and with
--- at most this many items, by forks that a tally chooses.
+-- Proof of `place_tree_by`, which returns the tree of places for all scenarios of at most `k` faults, by forks that a
+-- tally chooses.
 use Rattle.std.proofs.Common.{ℕ, ◌∙◌, map, Bor, List, Option, sym, subst, ap}
 use Rattle.std.proofs.lemmas.Bool.{OnTrue_at}
 use Rattle.cpg_cube.specs.declared.literal.Literal.{Literal}
@@ -15,6 +15,7 @@ use Rattle.cpg_row_trees.proofs.places.place_tree_by.Goals as goal
 -- the items were added to an empty list, so they are those of a tree
 pub grown-requires : goal.grown-requires
 grown-requires c =
+    -- the tree that was added finds the matches among the places
     let found = (OnTrue_at c.if-not-has_tree.false c.in_ok-has_tree.ensures.added).found in (
       found.0,
       all_added c.in_ok-growth.growth.items.items c.build_place_tree.new.growth.items.items found.0
@@ -25,6 +26,7 @@ grown-requires c =
 pub returns : goal.returns
 returns c s few =
     let cubes : List (List Literal) = map (λ (b : Bor (List Literal)). b.now) c.args.cubes.now in
+    -- the tree that was added finds the matches among the places
     let found = (OnTrue_at c.if-not-has_tree.false c.in_ok-has_tree.ensures.added).found in
     let is = all_added c.in_ok-growth.growth.items.items c.build_place_tree.new.growth.items.items found.0
     c.in_ok-growth.ensures.items found.1 in

@@ -1,4 +1,4 @@
--- Proof of `places_top`: the top of the tree of some places for the scenarios of a space.
+-- Proof of `places_top`, which returns the top of the tree of some places for the scenarios of a space.
 use Rattle.std.proofs.Common.{◌≡◌, true, sym, ◌∙◌, subst}
 use Rattle.cpg_cube.specs.Cube.{matches}
 use Rattle.cpg_tree.proofs.Forks.{from_true}
@@ -9,6 +9,7 @@ use Rattle.cpg_row_trees.proofs.places.places_top.Goals as goal
 -- matches it
 pub returns : goal.returns
 returns c s lies =
+    -- the cube that was looked up is the one at its place in the list
     let look = c.in-Some-get.ensures.lookup in
     let at = cube_here c.args.cubes.now c.in-Some.first.now.place c.in-Some-get.cube.now look.3.0 look.1 in
     record {

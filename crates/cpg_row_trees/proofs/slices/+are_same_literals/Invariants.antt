@@ -1,4 +1,4 @@
--- Recursion of `are_same_literals`: whether literals are the same.
+-- Recursion of `are_same_literals`: whether two lists of literals are equal, compared eight at a time.
 use Rattle.std.proofs.Common.{length}
 use Rattle.cpg_row_trees.proofs.slices.+are_same_literals.Given as goal
 

@@ -1,5 +1,5 @@
--- Recursion of `build_slice_tree`: adds the tree of a slice for the scenarios of a space, which are those that the
--- literals of a path match, unless there would be too many items.
+-- Recursion of `build_slice_tree`, which adds the tree of a slice for the scenarios of a space, which are those that
+-- the literals of a path match, and leaves the space and the path as they were.
 use Rattle.std.proofs.Common.{◌+◌, ◌*◌}
 use Rattle.cpg_row_trees.proofs.slices.+build_slice_tree.Given as goal
 
@@ -8,6 +8,6 @@ use Rattle.cpg_row_trees.proofs.slices.+build_slice_tree.Given as goal
 abbrev pub decreases-build_forked_slice : goal.decreases-build_forked_slice
 decreases-build_forked_slice l = 2 * l.growth.now.left + 1
 
--- each fork uses up one of the items that are left
+-- it takes one of the items left before it calls `build_forked_slice`
 abbrev pub decreases-build_slice_tree : goal.decreases-build_slice_tree
 decreases-build_slice_tree l = 2 * l.growth.now.left

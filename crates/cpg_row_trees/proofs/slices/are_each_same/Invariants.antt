@@ -1,4 +1,4 @@
--- Loops of `are_each_same`: whether literals are the same, one after another.
+-- Loops of `are_each_same`: whether two lists of literals are equal, compared one after another.
 use Rattle.std.proofs.Common.{◌≡◌, take}
 use Rattle.cpg_row_trees.proofs.slices.are_each_same.Given as goal
 

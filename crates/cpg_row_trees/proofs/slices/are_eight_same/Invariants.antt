@@ -1,4 +1,4 @@
--- Loops of `are_eight_same`: whether eight literals are the same.
+-- Loops of `are_eight_same`: whether eight literals are equal to eight others.
 use Rattle.std.proofs.Common.{◌≡◌, true, take}
 use Rattle.cpg_row_trees.proofs.slices.are_eight_same.Given as goal
 

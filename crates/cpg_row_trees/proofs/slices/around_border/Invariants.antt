@@ -1,5 +1,5 @@
--- Loops of `around_border`: where in a slice the first place has to be from which on all cubes ask for a number above
--- a cut, if those that do are the last: from a place up to another.
+-- Loops of `around_border`, which returns between which two places of a slice its border lies, which is the first place
+-- from which on all cubes ask for a number above a cut.
 use Rattle.std.proofs.Common.{◌-◌, ◌≤◌}
 use Rattle.cpg_row_trees.proofs.slices.around_border.Given as goal
 

@@ -1,5 +1,5 @@
--- Recursion of `border_of`: the first place of a slice from which on all cubes ask for a number above a cut, if those
--- that do are the last.
+-- Loops of `border_of`, which returns the border of a slice: the first place from which on all cubes ask for a
+-- number above a cut, if those that do are the last ones.
 use Rattle.std.proofs.Common.{◌-◌}
 use Rattle.cpg_row_trees.proofs.slices.border_of.Given as goal
 

@@ -1,5 +1,5 @@
--- Proof of `bounds_of`: how many of the literals are on narrow variables, if each of them holds in the whole space
--- and none goes beyond it.
+-- Proof of `bounds_of`, which returns how many of the literals are on narrow variables; `None` if one doesn't hold in
+-- the whole space or has a number outside its range.
 use Rattle.std.proofs.Common.{arith}
 use Rattle.cpg_tree.proofs.Forks.{from_true}
 use Rattle.cpg_row_trees.proofs.SliceLaws.{bounds_more}

@@ -1,10 +1,10 @@
--- Loops of `bounds_of`: how many of the literals are on narrow variables, if each of them holds in the whole space
--- and none goes beyond it.
+-- Loops of `bounds_of`, which returns how many of the literals are on narrow variables; `None` if one doesn't hold in
+-- the whole space or has a number outside its range.
 use Rattle.std.proofs.Common.{take}
 use Rattle.cpg_row_trees.specs.Slices.{AreSpaceBounds}
 use Rattle.cpg_row_trees.proofs.slices.bounds_of.Given as goal
 
--- after each literal: all scenarios of the space match the literals so far, each of them lies inside the space, and
--- `found` is at most the number of bounds by which they are narrower than all
+-- the literals so far hold in the whole space and have no number outside it, and at least `found` of them are on narrow
+-- variables
 abbrev pub invariant-loop-literal : goal.invariant-loop-literal
 invariant-loop-literal l = AreSpaceBounds l.k l.space (take l.literal-index l.literals) l.found

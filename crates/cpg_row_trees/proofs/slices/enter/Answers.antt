@@ -1,5 +1,4 @@
--- Proof of `enter`: adds to the literals of a path what a fork says of a side: to the last one, if that is on its
--- variable.
+-- Proof of `enter`, which adds to the literals of a path what a fork says of a side.
 use Rattle.std.proofs.Common.{ap, ◌∙◌, subst, List, Option, Some}
 use Rattle.std.specs.Prelude.{IfSome}
 use Rattle.cpg_cube.specs.declared.literal.Literal.{Literal}

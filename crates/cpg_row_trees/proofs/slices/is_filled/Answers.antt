@@ -1,4 +1,4 @@
--- Proof of `is_filled`: whether all numbers in range are a literal's.
+-- Proof of `is_filled`: whether a literal has all numbers of the space's range of its variable.
 use Rattle.std.proofs.Common.{arith, rules}
 use Rattle.std.specs.Prelude.{nat_le, get_or}
 use Rattle.std.proofs.lemmas.Bool.{OnTrue_from, leb-true}

@@ -1,4 +1,5 @@
--- Proof of `is_their_own`: whether the scenarios of a space are those of at most `k` faults that literals match.
+-- Proof of `is_their_own`: whether the scenarios of at most `k` faults in a space are those that literals match; true
+-- only if they are.
 use Rattle.std.proofs.Common.{Option, ℕ, subst}
 use Rattle.std.specs.Prelude.{IfSome, nat_le}
 use Rattle.std.proofs.lemmas.Bool.{OnTrue_from, leb-true}
@@ -6,7 +7,7 @@ use Rattle.cpg_row_trees.specs.Slices.{AreSpaceBounds}
 use Rattle.cpg_row_trees.proofs.SliceLaws.{own}
 use Rattle.cpg_row_trees.proofs.slices.is_their_own.Goals as goal
 
--- the literals are on as many narrow variables as the space has, so they say who is in it
+-- the literals are on as many narrow variables as the space has, so they say which scenarios are in it
 pub returns-in-Some : goal.returns-in-Some
 returns-in-Some c =
     let bounds : AreSpaceBounds c.args.k c.args.space.now c.args.literals.now c.in-Some.found = subst

@@ -1,5 +1,5 @@
--- Proof of `slice_top`: the top of the tree of a slice for the scenarios of a space, which are those that the
--- literals of a path match.
+-- Proof of `slice_top`, which returns the top of the tree of a slice for the scenarios of a space, which are those that
+-- the literals of a path match.
 use Rattle.std.proofs.Common.{arith, sym, ◌∙◌, subst, map, Bor, List}
 use Rattle.cpg_cube.specs.Cube.{IsRising}
 use Rattle.cpg_cube.specs.declared.literal.Literal.{Literal}
@@ -14,9 +14,10 @@ pub is_their_own-requires-clause-rising : goal.is_their_own-requires-clause-risi
 is_their_own-requires-clause-rising c =
     subst IsRising (sym c.literals-literals.ensures.literals) c.literals-literals.ensures.rising
 
--- the slice has one cube, and its literals say who is in the space, so the leaf is right
+-- the slice has one cube, and its literals say which scenarios are in the space, so the leaf is right
 pub returns-then-is_their_own : goal.returns-then-is_their_own
 returns-then-is_their_own c =
+    -- the cube that was looked up is the one at its place in the list
     let look = c.in-Some.ensures.lookup in
     let cubes : List (List Literal) = map (λ (b : Bor (List Literal)). b.now) c.args.cubes.now in
     let at = cube_here c.args.cubes.now c.args.slice.from c.in-Some.cube.now look.3.0 look.1 in
@@ -30,6 +31,7 @@ returns-then-is_their_own c =
 -- the slice has one cube, and its literals are those of the path, so the leaf is right
 pub returns-then-are_same_literals : goal.returns-then-are_same_literals
 returns-then-are_same_literals c =
+    -- the cube that was looked up is the one at its place in the list
     let look = c.in-Some.ensures.lookup in
     let cubes : List (List Literal) = map (λ (b : Bor (List Literal)). b.now) c.args.cubes.now in
     let at = cube_here c.args.cubes.now c.args.slice.from c.in-Some.cube.now look.3.0 look.1 in

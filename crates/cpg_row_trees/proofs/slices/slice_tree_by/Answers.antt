@@ -1,5 +1,5 @@
--- Proof of `slice_tree_by`: the tree of the places of cubes that stand as a tree lists them, in the scenarios of at
--- most `k` faults and with at most this many items, if the slices are found in one way.
+-- Proof of `slice_tree_by`, which returns the tree of the places of cubes that stand as it lists them, for all
+-- scenarios of at most `k` faults.
 use Rattle.std.proofs.Common.{ℕ, ◌∙◌, arith, map, Bor, List, Option, subst, sym, ap, length}
 use Rattle.std.proofs.lemmas.Bool.{OnTrue_at}
 use Rattle.std.proofs.lemmas.List.{length-map}
@@ -12,7 +12,7 @@ use Rattle.cpg_row_trees.proofs.SliceLaws.{whole_reached, whole_own, is_place_of
 use Rattle.cpg_row_trees.proofs.PlacesSeen.{place_is}
 use Rattle.cpg_row_trees.proofs.slices.slice_tree_by.Goals as goal
 
--- the space is the whole, which the empty path of literals describes
+-- the space is the whole: no variable is narrow, and the empty path matches all its scenarios
 pub build_slice_tree-requires : goal.build_slice_tree-requires
 build_slice_tree-requires c = record {
   reached = whole_reached c.args.k c.whole-space.result c.whole-space.ensures.is c.whole-space.ensures.lies;
@@ -23,6 +23,7 @@ build_slice_tree-requires c = record {
 -- the items were added to an empty list, so they are those of a tree
 pub grown-requires : goal.grown-requires
 grown-requires c =
+    -- the tree that was added finds the cubes of the whole list
     let finds = (OnTrue_at c.if-not-has_tree.false c.in_ok-has_tree.ensures.added).finds in (
       finds.0,
       all_added c.in_ok-growth.growth.items.items c.build_slice_tree.new.growth.items.items finds.0
@@ -33,6 +34,7 @@ grown-requires c =
 pub returns : goal.returns
 returns c s few =
     let cubes : List (List Literal) = map (λ (b : Bor (List Literal)). b.now) c.args.cubes.now in
+    -- the tree that was added finds the cubes of the whole list
     let finds = (OnTrue_at c.if-not-has_tree.false c.in_ok-has_tree.ensures.added).finds in
     let is = all_added c.in_ok-growth.growth.items.items c.build_slice_tree.new.growth.items.items finds.0
     c.in_ok-growth.ensures.items finds.1 in

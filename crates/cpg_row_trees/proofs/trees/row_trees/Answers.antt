@@ -1,5 +1,4 @@
--- Proof of `row_trees`: for each item the tree of its row, if one is found: for each scenario the place of the one
--- column that matches.
+-- Proof of `row_trees`, which returns for each item the tree of its row, or `None` if none is found.
 use Rattle.std.proofs.Common.{arith, ap, length}
 use Rattle.cpg_table.proofs.RowColumns.{columns_few}
 use Rattle.cpg_row_trees.proofs.trees.row_trees.Goals as goal

@@ -1,5 +1,4 @@
--- Loops of `row_trees`: for each item the tree of its row, if one is found: for each scenario the place of the one
--- column that matches.
+-- Loops of `row_trees`, which returns for each item the tree of its row, or `None` if none is found.
 use Rattle.cpg_row_trees.specs.Trees.{AreFirstTrees}
 use Rattle.cpg_row_trees.proofs.trees.row_trees.Given as goal
 

@@ -1,14 +1,14 @@
--- Proof of `tree_of`: the tree of columns, if they have one: not if two columns may match together, or if it would be
--- too large.
+-- Proof of `tree_of`, which returns the tree of a row's columns.
 use Rattle.std.proofs.Common.{◌≡◌, ◌∙◌, Bor, List, map, arith, ap}
 use Rattle.cpg_cube.specs.declared.literal.Literal.{Literal}
 use Rattle.cpg_cube.specs.declared.column.Column.{Column}
 use Rattle.cpg_row_trees.proofs.TreeLaws.{as_long, row_tree_of}
 use Rattle.cpg_row_trees.proofs.trees.tree_of.Goals as goal
 
--- the cubes are those of the columns
+-- there are as many cubes as columns, which are few enough
 pub of-requires : goal.of-requires
 of-requires c =
+    -- the cubes referred to are those of the columns
     let same : map (λ (b : Bor (List Literal)). b.now) c.as_slice.result.now
     ≡ map (λ (d : Column). d.cube) c.args.columns.now =
     ap (map (λ (b : Bor (List Literal)). b.now)) c.as_slice.ensures.value ∙ c.in_ok-cubes.ensures in
@@ -17,6 +17,7 @@ of-requires c =
 -- the cubes that are referred to are those of the columns, so their tree is that of the row
 pub returns : goal.returns
 returns c =
+    -- the cubes referred to are those of the columns
     let same : map (λ (b : Bor (List Literal)). b.now) c.as_slice.result.now
     ≡ map (λ (d : Column). d.cube) c.args.columns.now =
     ap (map (λ (b : Bor (List Literal)). b.now)) c.as_slice.ensures.value ∙ c.in_ok-cubes.ensures in

@@ -19,6 +19,7 @@ returns-in-Value g t c =
 -- no scenario of the space is below the cut, so the side above passes for all
 pub returns-then-not-is_open_below : goal.returns-then-not-is_open_below
 returns-then-not-is_open_below g t c =
+    -- what the top shows: the trees of both sides (0, 1), and that the lists are theirs (2, 3) and their fork's (4)
     let shows = c.in-Cut.ensures.shows in
     of_true c.do_pass.result c.do_pass.ensures
     (λ all n are. holds_above (λ (x : Option ℕ) (s : Scenario). g.J.Test.guarantees c.args.test.now x s)
@@ -29,6 +30,7 @@ returns-then-not-is_open_below g t c =
 -- no scenario of the space is above the cut, so the side below passes for all
 pub returns-then-not-is_open_above : goal.returns-then-not-is_open_above
 returns-then-not-is_open_above g t c =
+    -- what the top shows: the trees of both sides (0, 1), and that the lists are theirs (2, 3) and their fork's (4)
     let shows = c.in-Cut.ensures.shows in
     of_true c.do_pass-then-not-is_open_above.result c.do_pass-then-not-is_open_above.ensures
     (λ all n are. holds_below (λ (x : Option ℕ) (s : Scenario). g.J.Test.guarantees c.args.test.now x s)

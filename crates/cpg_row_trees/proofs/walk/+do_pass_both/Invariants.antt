@@ -1,4 +1,4 @@
--- Recursion of `do_pass_both`: whether a test passes at each two places that scenarios of a space come to in two
+-- Recursion of `do_pass_both`: whether a test passes at each pair of places to which a scenario of a space comes in two
 -- trees.
 use Rattle.std.proofs.Common.{◌+◌, ◌*◌, length}
 use Rattle.cpg_row_trees.proofs.walk.+do_pass_both.Given as goal

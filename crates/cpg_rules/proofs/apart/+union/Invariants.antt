@@ -1,4 +1,5 @@
--- Recursion of `union`: the part of a join with these inputs, if no two of them are live at once.
+-- Recursion of `union`: returns the part of a join with these inputs, and `None` exactly if two of them are live at
+-- once in some outcome.
 use Rattle.std.proofs.Common.{length}
 use Rattle.cpg_rules.proofs.apart.+union.Given as goal
 

@@ -1,11 +1,10 @@
--- Proof of `is_single_join`: whether the parts show that no outcome makes two inputs of a process live, if it is a
--- join.
+-- Proof of `is_single_join`: whether the parts show that no outcome makes two inputs of this process live.
 use Rattle.std.proofs.Common.{ap₂, sym, ◌∙◌}
 use Rattle.cpg_rules.specs.Apart.{are_apart}
 use Rattle.cpg_rules.proofs.Unions.{apart_single, inputs_within}
 use Rattle.cpg_rules.proofs.apart.is_single_join.Goals as goal
 
--- the inputs are edges whose sources stand before the process
+-- the sources of the inputs are processes of the graph
 pub are_apart-requires-clause-inputs : goal.are_apart-requires-clause-inputs
 are_apart-requires-clause-inputs c = rw (c.as_slice.ensures.value, c.in_ok-inputs.ensures)
     (inputs_within c.args.problem.now c.requires.guards.order c.requires.guards.topological c.args.process)

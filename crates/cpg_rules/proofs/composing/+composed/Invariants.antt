@@ -1,4 +1,4 @@
--- Recursion of `composed`: the part of a process with these inputs.
+-- Recursion of `composed`: returns the part with the tree of a process with these inputs.
 use Rattle.std.proofs.Common.{length}
 use Rattle.cpg_rules.proofs.composing.+composed.Given as goal
 

@@ -1,4 +1,5 @@
--- Proof of `composed_along`: the parts of the processes after the steps, by number, if these are those before.
+-- Proof of `composed_along`: returns the numbers of the parts with the trees of the processes, by process, after these
+-- steps.
 use Rattle.std.proofs.Common.{◌+◌, ◌∙◌, ◌∷◌, drop, ap, sym, subst}
 use Rattle.std.proofs.lemmas.List.{drop_more}
 use Rattle.cpg_base.specs.Graph.{process_count}

@@ -1,4 +1,4 @@
--- Loops of `ranks_of`: the places of the conditions' processes in the order, by condition.
+-- Loops of `ranks_of`: returns the rank of each condition, by number: the place of its process in the order.
 use Rattle.std.proofs.Common.{◌≡◌, map}
 use Rattle.cpg_base.specs.Graph.{process_of}
 use Rattle.cpg_base.specs.Numbers.{numbers_below}

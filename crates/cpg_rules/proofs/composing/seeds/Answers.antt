@@ -1,4 +1,4 @@
--- Proof of `seeds`: for each of `count` processes the part that says that it is inactive.
+-- Proof of `seeds`: returns a list of `count` roots, all of them the number of the part that is inactive in every outcome.
 use Rattle.std.proofs.Common.{rules}
 use Rattle.cpg_base.specs.declared.activation.Activation.TheVariants.{Inactive}
 use Rattle.cpg_order.specs.Guard.{Leaf}

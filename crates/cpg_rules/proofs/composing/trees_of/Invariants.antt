@@ -1,4 +1,4 @@
--- Loops of `trees_of`: the trees of parts.
+-- Loops of `trees_of`: returns the trees of these parts, in the same order.
 use Rattle.std.proofs.Common.{◌≡◌, take}
 use Rattle.cpg_rules.specs.Sharing.{trees_of}
 use Rattle.cpg_rules.proofs.composing.trees_of.Given as goal

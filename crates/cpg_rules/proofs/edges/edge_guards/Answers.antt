@@ -1,4 +1,4 @@
--- Proof of `edge_guards`: the guards of all edges, by number.
+-- Proof of `edge_guards`: returns the guards of all edges, by number.
 use Rattle.cpg_rules.proofs.EdgeGuards.{one_more_edge}
 use Rattle.cpg_rules.proofs.edges.edge_guards.Goals as goal
 

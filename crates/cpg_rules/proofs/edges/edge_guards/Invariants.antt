@@ -1,4 +1,4 @@
--- Loops of `edge_guards`: the guards of all edges, by number.
+-- Loops of `edge_guards`: returns the guards of all edges, by number.
 use Rattle.std.proofs.Common.{◌≡◌, map}
 use Rattle.cpg_base.specs.Numbers.{numbers_below}
 use Rattle.cpg_rules.specs.Guards.{edge_guard_of}

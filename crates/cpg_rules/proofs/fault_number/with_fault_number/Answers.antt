@@ -1,4 +1,4 @@
--- Proof of `with_fault_number`: the graph with another fault number.
+-- Proof of `with_fault_number`: returns a copy of the graph that has this fault number in place of its own.
 use Rattle.std.proofs.Common.{rules, ◌≡◌, ◌∙◌, None, IfSome, ap, subst, sym}
 use Rattle.cpg_base.specs.Graph.{Graph, process_count}
 use Rattle.cpg_base.specs.Limits.{IsOrderWithin}
@@ -9,6 +9,7 @@ use Rattle.cpg_rules.proofs.fault_number.with_fault_number.Goals as goal
 -- the limits say nothing of the fault number but its own range, so the graph is within them
 pub of-made-requires : goal.of-made-requires
 of-made-requires c =
+    -- the graph that is made, still without its order
     let g = c.args.problem.now in
     let made : Graph = record {
       faults = c.args.faults;
@@ -26,6 +27,7 @@ of-made-requires c =
 -- the order of the old graph suits the new one, which has as many processes
 pub with_order-requires : goal.with_order-requires
 with_order-requires c =
+    -- the graph that is made, still without its order, has as many processes
     let g = c.args.problem.now in
     let made : Graph = record {
       faults = c.args.faults;

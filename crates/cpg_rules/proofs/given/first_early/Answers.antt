@@ -1,9 +1,10 @@
--- Proof of `first_early`: the first process in an order that stands before the source of one of its inputs.
+-- Proof of `first_early`: returns the first process in an order that stands before the source of one of its inputs,
+-- and `None` exactly if none does.
 use Rattle.std.proofs.Common.{◌<◌, ◌≤◌, length, arith, sym, ap, ◌∙◌}
 use Rattle.cpg_rules.proofs.GivenOrders.{at_place, early_first, early_nowhere}
 use Rattle.cpg_rules.proofs.given.first_early.Goals as goal
 
--- what stands in the order is a process of the graph
+-- the order has as many processes as the graph and only numbers below that, so each is a process of the graph
 pub is_early-requires-clause-process : goal.is_early-requires-clause-process
 is_early-requires-clause-process c =
     let inside : c.loop-process.process-index < length c.args.order.now =

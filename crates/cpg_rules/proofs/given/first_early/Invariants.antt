@@ -1,4 +1,5 @@
--- Loops of `first_early`: the first process in an order that stands before the source of one of its inputs.
+-- Loops of `first_early`: returns the first process in an order that stands before the source of one of its inputs,
+-- and `None` exactly if none does.
 use Rattle.std.proofs.Common.{ℕ, ◌≡◌, take, Contains, false}
 use Rattle.cpg_rules.specs.Given.{is_early}
 use Rattle.cpg_rules.proofs.given.first_early.Given as goal

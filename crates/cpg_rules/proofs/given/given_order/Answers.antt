@@ -1,12 +1,11 @@
--- Proof of `given_order`: the order that a graph without a cycle gives, if it gives one: all processes, each after
--- the sources of its inputs.
+-- Proof of `given_order`: returns the order that a graph without a cycle gives, and `None` if it gives none.
 use Rattle.std.proofs.Common.{◌≡◌, ◌<◌, ◌∙◌, ℕ, false, ap, subst, length}
 use Rattle.cpg_base.specs.Graph.{process_count}
 use Rattle.cpg_rules.specs.Given.{is_early}
 use Rattle.cpg_rules.proofs.GivenOrders.{given_within, gives_topological, order_lawful, whole_long, none_early}
 use Rattle.cpg_rules.proofs.given.given_order.Goals as goal
 
--- no process stands before the source of one of its inputs, so the list is a topological order
+-- the list has only numbers of processes, none twice, and lacks none, so it has each number below its length once
 pub order_of-requires : goal.order_of-requires
 order_of-requires c =
     let within = given_within c.args.problem.now c.in-Some.list.now c.in-Some.ensures.order c.in-Some.ensures.within in

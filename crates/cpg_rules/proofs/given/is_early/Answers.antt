@@ -15,6 +15,7 @@ returns-then-place c =
     let e = c.loop-edge.edge-index in
     let l : e < edge_count g = omega (arith, ap length c.edges-edge-items.ensures.edges) in
     let at = rw c.edges-edge-items.ensures.edges at c.if-edge-process.true in
+    -- the place of the source, and that the process has one
     let from = rw c.edges-edge-items.ensures.edges at c.place.ensures.place in
     let inside : c.args.process < length c.args.order.now = omega (arith, c.requires.process, c.requires.order) in
     sym (early_by g c.args.order.now c.args.process e l at
@@ -27,21 +28,25 @@ loop-edge-preserved c e l at =
     let g = c.args.problem.now in
     let i = c.loop-edge.edge-index in
     elim c.if-edge-process.branch [
+      -- an edge that leads to the process
       | then-edge-process+else-place w ↦ elim (cases_eq e i) [
-        -- the edge leads to the process: its source doesn't stand behind it
+        -- it is the edge asked for: its source doesn't come after the process
         | inl same ↦
             let from = rw c.edges-edge-items.ensures.edges at w.place.ensures.place in
             subst (λ f. comes_before c.args.order.now c.args.process (source g f) ≡ false) (sym same)
             (false_from_ne_true (comes_before c.args.order.now c.args.process (source g i))
             (not_before_at c.args.order.now c.args.process
             (source g i) c.place-place.result w.place.result c.place-place.ensures.place from w.if-place.false))
+        -- an earlier edge: the invariant says so already
         | inr other ↦ c.loop-edge.invariant e (omega (arith, l, other)) at
       ]
       -- the edge leads to another process
       | else-edge-process w ↦ elim (cases_eq e i) [
+        -- it can't be the edge that is asked for
         | inl same ↦
             let apart = rw c.edges-edge-items.ensures.edges at w.if-edge-process.false in
             absurd (apart (subst (λ f. target g f ≡ c.args.process) same at))
+        -- an earlier edge: the invariant says so already
         | inr other ↦ c.loop-edge.invariant e (omega (arith, l, other)) at
       ]
     ]

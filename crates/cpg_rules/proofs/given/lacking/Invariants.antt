@@ -1,4 +1,4 @@
--- Loops of `lacking`: the least process that is lacking in a list.
+-- Loops of `lacking`: returns the least process of the graph that a list lacks, and `None` exactly if it lacks none.
 use Rattle.std.proofs.Common.{ℕ, ◌<◌, ◌≡◌, true}
 use Rattle.cpg_order.specs.Reach.{is_in}
 use Rattle.cpg_rules.proofs.given.lacking.Given as goal

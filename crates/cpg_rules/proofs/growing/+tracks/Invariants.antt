@@ -1,4 +1,5 @@
--- Recursion of `tracks`: how many tracks go this way, or `most` if there are no fewer.
+-- Recursion of `tracks`: counts the tracks that begin with these standings, up to `most`: returns how many there are,
+-- and `most` if there are no fewer.
 use Rattle.std.proofs.Common.{length}
 use Rattle.cpg_rules.proofs.growing.+tracks.Given as goal
 

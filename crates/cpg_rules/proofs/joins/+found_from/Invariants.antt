@@ -1,4 +1,5 @@
--- Recursion of `found_from`: the first standings on the way to a process at which two of its inputs are live.
+-- Recursion of `found_from`: returns the first standings at a process with which two of its inputs are live, and
+-- `None` exactly if no way along the steps leads to such standings.
 use Rattle.std.proofs.Common.{length}
 use Rattle.cpg_rules.proofs.joins.+found_from.Given as goal
 

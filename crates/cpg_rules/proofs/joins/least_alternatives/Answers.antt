@@ -1,12 +1,12 @@
--- Proof of `least_alternatives`: the least join that some outcome gives two live inputs, with its least scenario;
--- `None` exactly if no outcome gives a join two.
+-- Proof of `least_alternatives`: returns the least join that some outcome gives two live inputs, with the least
+-- scenario that does, and `None` exactly if no outcome gives a join two.
 use Rattle.cpg_base.specs.Graph.{process_count}
 use Rattle.cpg_base.proofs.Places.{length_order}
 use Rattle.cpg_rules.proofs.Sharing.{roots_stay}
 use Rattle.cpg_rules.proofs.SharedSteps.{trees_stay}
 use Rattle.cpg_rules.proofs.joins.least_alternatives.Goals as goal
 
--- an order has each process once
+-- a topological order has each process once, so it is as long as there are processes
 pub steps_of-requires : goal.steps_of-requires
 steps_of-requires c = length_order (process_count c.args.problem.now) c.args.order.now c.requires.topological.all
 

@@ -1,5 +1,5 @@
--- Proof of `least_of`: the least scenario in which two inputs of a process are live, if it is a join and there is
--- one.
+-- Proof of `least_of`: returns the least scenario in which two inputs of a process are live, and `None` exactly if the
+-- process isn't a join or there is no such scenario.
 use Rattle.std.proofs.Common.{◌≡◌, ◌∙◌, sym, ap, subst, None, true, replicate}
 use Rattle.cpg_base.specs.Scenario.{IsLeast}
 use Rattle.cpg_rules.specs.declared.steps.Aim.TheVariants.{Process}

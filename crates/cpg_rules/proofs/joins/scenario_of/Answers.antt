@@ -1,10 +1,11 @@
--- Proof of `scenario_of`: the scenario without faults in which the processes stand so.
+-- Proof of `scenario_of`: returns the scenario without faults in which a condition is true exactly if its process
+-- stands so.
 use Rattle.std.proofs.Common.{arith}
 use Rattle.cpg_base.proofs.Items.{process_of_below}
 use Rattle.cpg_rules.proofs.Outcome.{scenario_given}
 use Rattle.cpg_rules.proofs.joins.scenario_of.Goals as goal
 
--- the process of a condition has a standing
+-- the process of a condition is one of the graph, of which there are at most 128, and so it has a standing
 pub bounds-standings-process : goal.bounds-standings-process
 bounds-standings-process c =
     let within = c.loop-condition-test.true in

@@ -1,4 +1,5 @@
--- Loops of `above_slot`: the least message whose size is above its sender's slot.
+-- Loops of `above_slot`: returns the least message that is larger than its sender's slot holds, and `None` exactly if
+-- there is none.
 use Rattle.std.proofs.Common.{ℕ, ◌≡◌, ◌<◌, false}
 use Rattle.cpg_rules.specs.Rules.{is_too_big}
 use Rattle.cpg_rules.proofs.slots.above_slot.Given as goal

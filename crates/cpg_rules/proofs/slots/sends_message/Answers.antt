@@ -1,4 +1,4 @@
--- Proof of `sends_message`: whether a node is the source of a message.
+-- Proof of `sends_message`: whether a node sends a message.
 use Rattle.std.proofs.Common.{sym, ap, length, arith}
 use Rattle.cpg_base.specs.Graph.{edge_count}
 use Rattle.cpg_rules.specs.Rules.{is_message_of}

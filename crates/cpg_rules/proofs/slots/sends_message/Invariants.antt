@@ -1,4 +1,4 @@
--- Loops of `sends_message`: whether a node is the source of a message.
+-- Loops of `sends_message`: whether a node sends a message.
 use Rattle.std.proofs.Common.{ℕ, ◌≡◌, ◌<◌, false}
 use Rattle.cpg_rules.specs.Rules.{is_message_of}
 use Rattle.cpg_rules.proofs.slots.sends_message.Given as goal

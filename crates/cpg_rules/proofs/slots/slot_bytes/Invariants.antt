@@ -1,4 +1,5 @@
--- Loops of `slot_bytes`: how many bytes a frame in the first slot of a node holds, or 0 if it has none.
+-- Loops of `slot_bytes`: returns how many bytes a frame in the first of these slots that is the node's holds, and 0 if
+-- the node has none.
 use Rattle.std.proofs.Common.{◌≡◌, drop}
 use Rattle.cpg_rules.specs.Rules.{bytes_in}
 use Rattle.cpg_rules.proofs.slots.slot_bytes.Given as goal

@@ -1,4 +1,5 @@
--- Proof of `without_slot`: the least node that sends and has no slot.
+-- Proof of `without_slot`: returns the least node that sends and has no slot, and `None` exactly if each node that
+-- sends has one.
 use Rattle.std.proofs.Common.{ap, length, arith}
 use Rattle.cpg_rules.proofs.Senders.{senders_have_slots}
 use Rattle.cpg_rules.proofs.slots.without_slot.Goals as goal

@@ -1,4 +1,4 @@
--- Recursion of `rested`: the steps among these that a walk rests on.
+-- Recursion of `rested`: returns the steps among these that a walk rests on, in the same order.
 use Rattle.std.proofs.Common.{length}
 use Rattle.cpg_rules.proofs.steps.+rested.Given as goal
 

@@ -1,4 +1,4 @@
--- Loops of `are_live`: whether all inputs are live.
+-- Loops of `are_live`: whether all these inputs are live.
 use Rattle.std.proofs.Common.{◌≡◌, drop}
 use Rattle.std.specs.List.{list_all}
 use Rattle.cpg_rules.specs.Growing.{is_live_in}

@@ -1,4 +1,4 @@
--- Loops of `first_live`: the activation of a join with these inputs.
+-- Loops of `first_live`: returns how a join with these inputs is active: by the first that is live, or not at all.
 use Rattle.std.proofs.Common.{◌≡◌, drop}
 use Rattle.cpg_rules.specs.Growing.{first_live}
 use Rattle.cpg_rules.proofs.steps.first_live.Given as goal

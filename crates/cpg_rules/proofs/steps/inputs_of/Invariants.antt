@@ -1,4 +1,4 @@
--- Loops of `inputs_of`: the inputs of a process, by edge number.
+-- Loops of `inputs_of`: returns the inputs of a process, by edge number.
 use Rattle.std.proofs.Common.{◌≡◌, ◌==◌, map, filter}
 use Rattle.cpg_base.specs.Numbers.{numbers_below}
 use Rattle.cpg_base.specs.Graph.{target}

@@ -1,4 +1,4 @@
--- Proof of `steps_of`: the steps of all processes, in the order.
+-- Proof of `steps_of`: returns the steps of all processes, in this order.
 use Rattle.std.proofs.Common.{arith, ap, length}
 use Rattle.cpg_base.proofs.Standing.{process_within}
 use Rattle.cpg_rules.proofs.steps.steps_of.Goals as goal

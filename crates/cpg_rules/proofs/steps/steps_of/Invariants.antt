@@ -1,4 +1,4 @@
--- Loops of `steps_of`: the steps of all processes, in the order.
+-- Loops of `steps_of`: returns the steps of all processes, in this order.
 use Rattle.std.proofs.Common.{◌≡◌, map, take}
 use Rattle.cpg_rules.specs.Steps.{step_of}
 use Rattle.cpg_rules.proofs.steps.steps_of.Given as goal

@@ -1,4 +1,4 @@
--- Proof of `shared_guards`: the guards of a graph, by the trees along its urgency order, with the parts of the trees.
+-- Proof of `shared_guards`: returns the guards of a graph along an order, with the shared parts of their trees.
 use Rattle.std.proofs.Common.{ℕ, ◌≡◌, ◌∙◌, ap, arith, length, List, None, map, replicate, min}
 use Rattle.cpg_base.specs.Graph.{process_count}
 use Rattle.cpg_base.specs.declared.activation.Activation.TheVariants.{Inactive}
@@ -17,7 +17,7 @@ use Rattle.cpg_rules.proofs.Counted.{tracks_counted}
 use Rattle.cpg_rules.proofs.Made.{made}
 use Rattle.cpg_rules.proofs.trees.shared_guards.Goals as goal
 
--- an order has each process once
+-- a topological order has each process once, so it is as long as there are processes
 pub steps_of-requires : goal.steps_of-requires
 steps_of-requires c = length_order (process_count c.args.problem.now) c.args.order.now c.requires.all
 
@@ -28,7 +28,7 @@ tracks-requires c =
     (all_rested (IsStepBelow 128) Conditions _
     (steps_below c.args.problem.now c.args.order.now c.requires 128 c.processes-count.ensures.within.few_processes))
 
--- the number of tracks, if it is not past the most that are counted
+-- what was counted along the steps that conditions rest on is the number of all tracks, or 16,385 if there are more
 counted : (steps whole : List ActivationStep) (result all : ℕ) →
     result ≡ min 16385 (tracks_from steps (replicate 128 None)) →
     steps ≡ rested Conditions whole →
@@ -37,6 +37,7 @@ counted : (steps whole : List ActivationStep) (result all : ℕ) →
 counted steps whole result all is along are = is ∙ ap (λ s. min 16385 (tracks_from s (replicate 128 None))) along
     ∙ ap (min 16385) (tracks_rested whole (replicate 128 None) ∙ are)
 
+-- 16,385 tracks were counted, so there are more than 16,384
 pub returns-then-tracks-gt-MOST_TRACKS-clause-many :
     goal.returns-then-tracks-gt-MOST_TRACKS-clause-many
 returns-then-tracks-gt-MOST_TRACKS-clause-many c = λ e.
@@ -48,17 +49,17 @@ returns-then-tracks-gt-MOST_TRACKS-clause-many c = λ e.
     let over = c.if-tracks-gt-MOST_TRACKS.true in
     omega arith
 
--- an order has each process once, so no more than there are
+-- the order is as long as there are processes, so each process of a condition has a place
 pub ranks_of-requires : goal.ranks_of-requires
 ranks_of-requires c = let long = length_order (process_count c.args.problem.now) c.args.order.now c.requires.all in
     omega (arith, long)
 
--- each step is on a process of the graph, whose inputs come from processes before it
+-- the process of each step and the sources of its inputs are processes of the graph
 pub composed_along-requires-clause-steps : goal.composed_along-requires-clause-steps
 composed_along-requires-clause-steps c = rw (c.as_slice-3.ensures.value, c.in_ok-steps.ensures)
     (steps_below c.args.problem.now c.args.order.now c.requires (process_count c.args.problem.now) (omega arith))
 
--- the guards that are made
+-- guards of these parts
 abbrev made_guards : (conditions : ℕ) (trees : List Guard) (edges : List EdgeGuard) → Guards
 made_guards conditions trees edges = record { conditions = conditions; trees = trees; edges = edges }
 
@@ -89,7 +90,7 @@ returns-clause-guards c =
     (c.in_ok-trees.ensures ∙ ap (trees_of c.composed_along.new.parts.parts) c.as_slice-4.ensures.value
     ∙ c.in_ok-roots.ensures.trees) c.in_ok-edges.ensures
 
--- the tracks were counted along the steps, and there are few enough
+-- fewer than 16,385 tracks were counted, so that is how many there are
 pub returns-clause-few : goal.returns-clause-few
 returns-clause-few c =
     let is = counted c.as_slice-2.result.now

@@ -5,13 +5,13 @@ use Rattle.cpg_base.specs.Activity.{live}
 use Rattle.cpg_run.proofs.Senders.{broadcast_active, message_active, queued_above}
 use Rattle.cpg_run.proofs.activity.is_item_active.Goals as goal
 
--- an item past the messages is a broadcast, which is active
+-- an item numbered after the messages is a broadcast, and that of an active process is active
 pub returns-then-item-processes : goal.returns-then-item-processes
 returns-then-item-processes c = sym (broadcast_active c.args.problem.now c.args.scenario.now.values c.args.process
     c.args.item c.requires.item c.requires.active
     (omega (arith, ap length c.processes.ensures.processes, ap length c.edges.ensures.edges, c.if-item-processes.true)))
 
--- what a process sends is numbered after the starts
+-- what a process sends is numbered after the starts, so the difference isn't negative
 pub overflow_sub-item : goal.overflow_sub-item
 overflow_sub-item c = omega (
   arith,

@@ -2,6 +2,6 @@
 use Rattle.cpg_run.specs.Progress.{IsAlong}
 use Rattle.cpg_run.proofs.running.run_by.Given as goal
 
--- before each place of the order, the progress is that of the run up to this place
+-- the progress is what is found of the scenario's run before the place that comes next
 abbrev pub invariant-loop-place : goal.invariant-loop-place
 invariant-loop-place l = IsAlong l.setting.problem.now l.setting.order.now l.frozen l.scenario l.place l.progress

@@ -18,7 +18,7 @@ use Rattle.cpg_run.specs.Progress.{HasSent, KeepsEnds}
 use Rattle.cpg_run.proofs.sending.send.Goals.{then-is_item_active, else-is_item_active}
 use Rattle.cpg_run.proofs.sending.send.Goals as goal
 
--- the item that is looked at is one of those that the process sends
+-- an item of `xs` is in the queue `qs`, if the two lists are the same
 item_queued : (xs qs : List ℕ) (k : ℕ) → k < length xs → xs ≡ qs → Contains qs (get_or xs k 0)
 item_queued xs qs k l is = subst (λ ys. Contains ys (get_or xs k 0)) is (Contains-get_or xs k 0 l)
 
@@ -50,7 +50,7 @@ send_time-time-requires-clause-frozen c =
     c.loop-item.item-index c.loop-item-test.true c.queue-item-items.ensures) in
     omega (arith, x.within, c.requires.frozen)
 
--- the end of the process is that of the run, whose ends are small
+-- the end of the process is that of the scenario's run, and all ends of a run are below 2 ^ 59
 pub send_time-time-requires-clause-early : goal.send_time-time-requires-clause-early
 send_time-time-requires-clause-early c =
     let a = c.requires.setting.admitted in
@@ -70,7 +70,7 @@ set_time-requires c =
     c.loop-item.item-index c.loop-item-test.true c.queue-item-items.ensures) in
     omega (arith, x.within, c.requires.times, c.loop-item.invariant.keeps.times)
 
--- the time is that of the run, so it is small, and so is a round
+-- the time is that of the run and so below 2 ^ 59, a round is short, and so the sum doesn't overflow
 pub overflow_add-free : goal.overflow_add-free
 overflow_add-free c =
     let a = c.requires.setting.admitted in
@@ -109,7 +109,7 @@ overflow_add-free c =
       round-le c.args.setting.now.problem.now a.1.limits,
     )
 
--- an active item with its time set, or an inactive item without one, is one more that has been sent
+-- one more item is sent: an active one has its time set, and an inactive one has none in the run either
 pub loop-item-preserved : goal.loop-item-preserved
 loop-item-preserved c =
     let qs = queue_of c.args.setting.now.problem.now c.args.process in

@@ -4,8 +4,8 @@ use Rattle.cpg_run.specs.Run.{Times, IsRun}
 use Rattle.cpg_run.specs.Progress.{HasSent, KeepsEnds}
 use Rattle.cpg_run.proofs.sending.send.Given as goal
 
--- After each item of the queue: in every run (there is one) the items so far have their times, and `free` is when the
--- node can send next. The lengths of the lists of times and ends do not change.
+-- `sent`: in the scenario's run the items of the queue so far have their times, and `free` is when the slots of the node are
+-- free after them. `keeps`: the ends and the number of times are as at the start.
 abbrev pub invariant-loop-item : goal.invariant-loop-item
 invariant-loop-item l = record {
   sent : (t : Times) → IsRun l.setting.problem.now l.setting.order.now l.frozen l.scenario t →

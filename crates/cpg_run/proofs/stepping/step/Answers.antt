@@ -12,7 +12,7 @@ use Rattle.cpg_run.proofs.Small.{run_small}
 use Rattle.cpg_run.proofs.Starts.{known_small}
 use Rattle.cpg_run.proofs.stepping.step.Goals as goal
 
--- what is read of a node
+-- what is read at the place `at` of a list, whatever the default, is the element at `node`, if both are the same place
 node_read : (xs : List ℕ) (v at node : ℕ) → v ≡ get_or xs at v → at < length xs → at ≡ node → v ≡ get_or xs node 0
 node_read xs v at node is l e = is ∙ get_or_default xs at v 0 l ∙ ap (λ n. get_or xs n 0) e
 
@@ -25,7 +25,7 @@ at-process-requires c = omega (
       c.requires.setting.topological.all,
 )
 
--- what stands in an order of the processes is a process of the graph
+-- an element of the order is a process of the graph
 pub node_of-node-requires : goal.node_of-node-requires
 node_of-node-requires c = omega (
   arith,
@@ -34,7 +34,7 @@ node_of-node-requires c = omega (
       c.requires.setting.topological.all,
 )
 
--- what stands in the order is a process of the graph
+-- an element of the order is a process of the graph
 pub decided_there-requires-clause-process : goal.decided_there-requires-clause-process
 decided_there-requires-clause-process c =
     omega (
@@ -55,7 +55,7 @@ decided_there-requires-clause-small c =
     (run_small c.args.setting.now.problem.now c.args.setting.now.order.now c.args.frozen.now c.args.scenario.now r.0
     a.1.limits c.requires.setting.topological c.requires.scenario c.requires.early r.1)
 
--- what stands in the order is a process of the graph
+-- an element of the order is a process of the graph
 pub is_active-requires-clause-process : goal.is_active-requires-clause-process
 is_active-requires-clause-process c = omega (
   arith,
@@ -64,7 +64,8 @@ is_active-requires-clause-process c = omega (
       c.requires.setting.topological.all,
 )
 
--- after an inactive process all holds before the next place, with the new time of its node
+-- after an inactive process the same times are known, and its node is ready when it has heard what decides the process too;
+-- with that all is found before the next place
 pub returns-then-not-is_active-clause-at : goal.returns-then-not-is_active-clause-at
 returns-then-not-is_active-clause-at c t run =
     let l : c.at-process.result < process_count c.args.setting.now.problem.now =
@@ -104,7 +105,7 @@ start-start-requires-clause-frozen c = omega (
       c.requires.setting.topological.all,
 )
 
--- what stands in the order is a process of the graph
+-- an element of the order is a process of the graph
 pub start-start-requires-clause-process : goal.start-start-requires-clause-process
 start-start-requires-clause-process c = omega (
   arith,
@@ -134,7 +135,7 @@ fault-requires c = omega (
       (process_count c.args.setting.now.problem.now) c.args.setting.now.order.now c.requires.setting.topological.all,
 )
 
--- what stands in the order is a process of the graph
+-- an element of the order is a process of the graph
 pub duration-requires-clause-process : goal.duration-requires-clause-process
 duration-requires-clause-process c = omega (
   arith,
@@ -143,7 +144,7 @@ duration-requires-clause-process c = omega (
       c.requires.setting.topological.all,
 )
 
--- the start is that of the run, so it is small, and so is a duration
+-- the start is that of the run and so below 2 ^ 59, a duration is short, and so the sum doesn't overflow
 pub overflow_add-end : goal.overflow_add-end
 overflow_add-end c =
     let admitted = c.requires.setting.admitted in
@@ -207,7 +208,7 @@ set_end-requires c = omega (
       c.requires.setting.topological.all,
 )
 
--- what stands in the order is a process of the graph
+-- an element of the order is a process of the graph
 pub send-requires-clause-process : goal.send-requires-clause-process
 send-requires-clause-process c = omega (
   arith,
@@ -216,7 +217,7 @@ send-requires-clause-process c = omega (
       c.requires.setting.topological.all,
 )
 
--- with the start and the end set, the process can send
+-- with the start and the end set, all is known that has to be before the process sends
 pub send-requires-clause-can : goal.send-requires-clause-can
 send-requires-clause-can c t run =
     -- the process and its node are of the graph
@@ -256,7 +257,7 @@ send-requires-clause-can c t run =
     (c.start-start.result + c.duration.result) ends
     c.set_end.new.self c.requires.places.times c.requires.places.ends started ended c.index-2.result.now is_free
 
--- with the times of all that the process sends, all holds before the next place
+-- with the start, the end and the times of all that the process sends, all is found before the next place
 pub returns-clause-at : goal.returns-clause-at
 returns-clause-at c t run =
     -- the process and its node are of the graph

@@ -10,7 +10,7 @@ use Rattle.cpg_run.specs.Run.{heard_there}
 use Rattle.cpg_run.proofs.Mosts.{most_deciding}
 use Rattle.cpg_run.proofs.waiting.decided_there.Goals as goal
 
--- the conditions that decide a process are conditions of the graph
+-- the conditions that decide a process are some of those along the urgency order, which are conditions of the graph
 pub latest_heard-heard-requires-clause-conditions : goal.latest_heard-heard-requires-clause-conditions
 latest_heard-heard-requires-clause-conditions c d k =
     let a = c.requires.admitted in
@@ -20,7 +20,8 @@ latest_heard-heard-requires-clause-conditions c d k =
     (conditions_along c.args.problem.now a.0) d
     (subst (λ ds. Contains ds d) is k)).0).0
 
--- the latest hearing of the deciding conditions, in their order, is the most of all that decide
+-- the conditions found are just those that decide the process, so the latest hearing of them is the greatest of all that
+-- decide it
 pub returns : goal.returns
 returns c =
     let a = c.requires.admitted in

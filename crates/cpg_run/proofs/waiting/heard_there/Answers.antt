@@ -14,7 +14,7 @@ node_of-sender-requires c = omega (
   process_of_below c.args.problem.now c.args.condition c.requires.condition,
 )
 
--- the sender is another node than this, so the graph has two nodes and the sender has a slot
+-- the sender is another node than this one, so the graph has two nodes, its broadcasts are sent, and the sender has a slot
 pub frame_there-requires-clause-slot : goal.frame_there-requires-clause-slot
 frame_there-requires-clause-slot c =
     let is : c.node_of-sender.result ≡ node_of c.args.problem.now (process_of c.args.problem.now c.args.condition) =

@@ -13,7 +13,7 @@ pub latest_there-requires-clause-edges : goal.latest_there-requires-clause-edges
 latest_there-requires-clause-edges c e k =
     (inputs_parts c.args.problem.now c.args.process e (subst (λ es. Contains es e) c.inputs.ensures k)).0
 
--- with 0 for the inputs that aren't live, the greatest is that of the live ones
+-- an input that isn't live counts 0, so the greatest over all inputs is that of the live ones
 pub returns : goal.returns
 returns c = c.latest_there.ensures
     ∙ ap (λ es. greatest (map (λ e. if live c.args.problem.now c.args.scenario.now.values e

@@ -5,8 +5,7 @@ use Rattle.cpg_base.specs.Activity.{live}
 use Rattle.cpg_run.specs.Run.{input_there}
 use Rattle.cpg_run.proofs.waiting.latest_there.Given as goal
 
--- after each edge, `latest` is the greatest time at which a live edge so far is there; an edge that isn't live counts
--- 0
+-- `latest` is when all live edges so far are there; an edge that isn't live counts 0
 abbrev pub invariant-loop-edge : goal.invariant-loop-edge
 invariant-loop-edge l =
     l.latest ≡ greatest (map (λ e. if live l.problem l.scenario.values e then input_there l.problem l.known e else 0)

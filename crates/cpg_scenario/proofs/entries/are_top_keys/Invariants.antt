@@ -1,4 +1,4 @@
--- Loops of `are_top_keys`: whether all keys of a document may stand at the top.
+-- Loops of `are_top_keys`: whether each key of a document may stand at the top of a scenario file.
 use Rattle.std.proofs.Common.{◌≡◌}
 use Rattle.toml.specs.View.{members_view}
 use Rattle.cpg_scenario.specs.File.{top_keys, are_among}

@@ -1,4 +1,5 @@
--- Loops of `are_typed`: whether all entries of a table are booleans, or else integers.
+-- Loops of `are_typed`: whether all entries of a table are booleans, if `flags` is true, or integers, if it is
+-- false.
 use Rattle.std.proofs.Common.{◌≡◌}
 use Rattle.toml.specs.View.{members_view}
 use Rattle.cpg_scenario.specs.File.{are_typed}

@@ -1,7 +1,7 @@
--- Proof of `value_at`: the value at a key.
+-- Proof of `value_at`, which returns what a table has at a key, or `None` if it hasn't the key.
 use Rattle.toml.proofs.Views.{table_get}
 use Rattle.cpg_scenario.proofs.entries.value_at.Goals as goal
 
--- the table's entry under the key is the value that the specification looks up
+-- a lookup in the table gives what `get_member` finds in its view
 pub returns : goal.returns
 returns c = table_get c.get.result c.args.key.now c.args.table.now.entries c.get.ensures.value

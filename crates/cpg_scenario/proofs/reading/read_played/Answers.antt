@@ -1,4 +1,4 @@
--- Proof of `read_played`: the scenario and the lengths of a document.
+-- Proof of `read_played`, which returns the scenario and the lengths that a document gives.
 use Rattle.std.proofs.Common.{◌≡◌, ◌∙◌, ap, sym, subst}
 use Rattle.toml.specs.View.{table_view}
 use Rattle.cpg_base.specs.Scenario.{Scenario, IsScenario, full_lengths}
@@ -6,7 +6,8 @@ use Rattle.cpg_scenario.specs.File.{scenario_of, values_of}
 use Rattle.cpg_scenario.proofs.Budget.{is_scenario, full_are, is_played}
 use Rattle.cpg_scenario.proofs.reading.read_played.Goals as goal
 
--- with its values and counts this is the scenario of the document, which is one of the graph
+-- Its counts and then its values have been set, so this is the scenario of the document. As the counts keep the fault
+-- number, it is a scenario of the graph.
 pub full-requires : goal.full-requires
 full-requires c =
     let is : c.set_values.new.scenario ≡ scenario_of c.args.problem.now (table_view c.args.document.now) =
@@ -28,7 +29,7 @@ set_lengths-requires c =
     c.in_ok-lengths.ensures ∙ ap (full_lengths c.args.problem.now) is
     ∙ full_are c.args.problem.now (table_view c.args.document.now)
 
--- all checks have passed, so this is a scenario to play
+-- the document has passed all tests, so its scenario and lengths can be played
 pub returns-clause-played : goal.returns-clause-played
 returns-clause-played c =
     let is : c.set_values.new.scenario ≡ scenario_of c.args.problem.now (table_view c.args.document.now) =

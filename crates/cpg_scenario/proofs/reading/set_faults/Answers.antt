@@ -1,5 +1,4 @@
--- Proof of `set_faults`: gives each process its fault count; false exactly if a count is below 0, or they are more
--- than the fault number.
+-- Proof of `set_faults`, which sets the fault count of each process to the given one, or to 0.
 use Rattle.std.proofs.Common.{rules, ℕ, pos, ◌+◌, ◌<◌, ◌≡◌, ◌⊎◌, w64, true, false, List, length, map, sum_by, sym, ap}
 use Rattle.std.proofs.Common.{subst, ◌∙◌, arith}
 use Rattle.toml.specs.View.{table_view}

@@ -1,5 +1,4 @@
--- Loops of `set_faults`: gives each process its fault count; false exactly if a count is below 0, or they are more
--- than the fault number.
+-- Loops of `set_faults`, which sets the fault count of each process to the given one, or to 0.
 use Rattle.std.proofs.Common.{ℕ, ◌+◌, ◌<◌, ◌≡◌, true, sum_by}
 use Rattle.toml.specs.View.{table_view}
 use Rattle.cpg_base.specs.Numbers.{numbers_below}
@@ -8,8 +7,8 @@ use Rattle.cpg_scenario.specs.File.{count_given, count_of, is_natural}
 use Rattle.cpg_scenario.proofs.Filling.{FilledTo}
 use Rattle.cpg_scenario.proofs.reading.set_faults.Given as goal
 
--- after each process: the counts so far are natural numbers, `left` and the counts so far make up the faults of the
--- graph, the scenario has the counts so far, and its values are as before
+-- `natural`: the counts so far aren't below 0. `total`: they and `left` together are the fault number. `filled`: the
+-- processes so far have their counts in the scenario. `values`: its values are as before.
 abbrev pub invariant-loop-process : goal.invariant-loop-process
 invariant-loop-process l = record {
   natural : (q : ℕ) → q < l.process → is_natural (count_given l.problem (table_view l.document) q) ≡ true;

@@ -1,5 +1,4 @@
--- Loops of `set_lengths`: gives each execution its length, if all are full; false exactly if one is below 1 or above
--- the full one.
+-- Loops of `set_lengths`, which sets each length that is given, where all are the longest before.
 use Rattle.std.proofs.Common.{ℕ, ◌<◌, ◌≤◌, ◌≡◌, true, get_or}
 use Rattle.toml.specs.View.{table_view}
 use Rattle.cpg_base.specs.Graph.{process_count}
@@ -8,8 +7,8 @@ use Rattle.cpg_scenario.specs.File.{count_of, length_given, length_or, is_length
 use Rattle.cpg_scenario.proofs.Filling.{FilledTo}
 use Rattle.cpg_scenario.proofs.reading.set_lengths.Given as goal
 
--- `kept`: each length given so far is at most the duration. `filled`: the processes so far have the length given, or
--- the full duration. `full`: the processes that are left have the full duration still
+-- `kept`: each length given so far is from 1 to the duration. `filled`: the processes so far have the length given, or
+-- the duration. `full`: the processes that are left still have the duration.
 abbrev pub invariant-loop-process : goal.invariant-loop-process
 invariant-loop-process l = record {
   kept : (q : ℕ) → q < l.process →

@@ -1,4 +1,4 @@
--- Proof of `set_values`: gives each condition its value.
+-- Proof of `set_values`, which sets the value of each condition to the given one, or to false if none is given.
 use Rattle.std.proofs.Common.{ℕ, Bool, false, List, unwrap_or, sym, ap, subst, ◌∙◌, ◌+◌, arith}
 use Rattle.toml.specs.View.{table_view}
 use Rattle.cpg_base.specs.Graph.{condition_count, process_of}

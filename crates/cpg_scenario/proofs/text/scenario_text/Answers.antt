@@ -1,5 +1,5 @@
--- Proof of `scenario_text`: the faults and the true values of a scenario by process number, as `A faults 1, A true`,
--- and `none` if there are none.
+-- Proof of `scenario_text`, which returns the faults and the true values of a scenario by process number, as `A
+-- faults 1, A true`, or `none` if there are none.
 use Rattle.std.proofs.Common.{◌≡◌, ◌∙◌, ap, flat_map, string_bytes, length, arith}
 use Rattle.cpg_base.specs.Numbers.{numbers_below}
 use Rattle.cpg_base.specs.Graph.{process_count}
@@ -8,7 +8,7 @@ use Rattle.cpg_scenario.specs.Pieces.{or_none}
 use Rattle.cpg_scenario.proofs.Pieces.{next_pieces, finished, pieces_some}
 use Rattle.cpg_scenario.proofs.text.scenario_text.Goals as goal
 
--- the pieces of the next process are written behind those of the processes so far
+-- the pieces of the next process are written after those of the processes so far
 pub loop-process-preserved : goal.loop-process-preserved
 loop-process-preserved c = next_pieces (pieces_of c.args.problem.now c.args.scenario.now) c.loop-process.process
     (string_bytes c.loop-process.out)

@@ -1,5 +1,5 @@
--- Loops of `scenario_text`: the faults and the true values of a scenario by process number, as `A faults 1, A true`,
--- and `none` if there are none.
+-- Loops of `scenario_text`, which returns the faults and the true values of a scenario by process number, as `A
+-- faults 1, A true`, or `none` if there are none.
 use Rattle.std.proofs.Common.{◌≡◌, [], flat_map, string_bytes}
 use Rattle.cpg_base.specs.Numbers.{numbers_below}
 use Rattle.cpg_scenario.specs.Pieces.{with_pieces}

@@ -5,13 +5,13 @@ use Rattle.cpg_show.proofs.TraceSteps.{one_node}
 use Rattle.cpg_show.proofs.Within.{acts_at}
 use Rattle.cpg_show.proofs.events.gathered.Goals as goal
 
--- the acts of a node are on items of the problem
+-- in a play the acts of a node are on items of the graph
 pub add_acts-requires : goal.add_acts-requires
 add_acts-requires c = subst (All (IsActWithin c.args.problem.now)) (sym c.acts.ensures)
     (acts_at c.args.cluster.now c.requires.playing c.args.problem.now c.requires.same c.loop-node.node
     (omega (arith, ap length c.nodes.ensures.nodes)))
 
--- the acts and the ends of the next node are added
+-- the events so far are followed by the acts of this node, and these by its ends
 pub loop-node-preserved : goal.loop-node-preserved
 loop-node-preserved c = one_node c.args.problem.now c.args.cluster.now.cluster.acts c.args.cluster.now.cluster.ends
     c.loop-node.node c.loop-node.events.items c.add_acts.new.events.items

@@ -3,7 +3,7 @@ use Rattle.std.proofs.Common.{subst}
 use Rattle.cpg_io.specs.Sink.{TookPrefix}
 use Rattle.cpg_show.proofs.node.write_node.Goals as goal
 
--- if the writing fails, the sink took a front of the text
+-- if the writing fails, the sink took a proper prefix of the sheet's text, which is that of the node
 pub returns-clause-part : goal.returns-clause-part
 returns-clause-part g c =
     λ failed. subst (TookPrefix (g.O.Sink.state c.args.sink.now).taken (g.O.Sink.state c.write_sheet.new.sink).taken)

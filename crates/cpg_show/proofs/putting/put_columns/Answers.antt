@@ -1,10 +1,11 @@
+-- Proof of `put_columns`, which puts the lines of columns, one after another.
 use Rattle.std.proofs.Common.{◌∙◌}
 use Rattle.std.proofs.lemmas.Result.{err_from_is_err_and}
 use Rattle.cpg_label.specs.CubeText.{column_line}
 use Rattle.cpg_codec.proofs.Puts.{item_more, item_fails, Puts-failed}
 use Rattle.cpg_show.proofs.putting.put_columns.Goals as goal
 
--- the line of the next column is put after those before
+-- the lines so far are put, and so is that of this column; neither met a fault
 pub loop-column-preserved : goal.loop-column-preserved
 loop-column-preserved g c = record {
   put = item_more (column_line c.args.labels.now) _ _ _ _ _ _ c.args.columns.now c.loop-column.column-index
@@ -14,7 +15,7 @@ loop-column-preserved g c = record {
   line = c.in_ok-put_next.ensures.line;
 }
 
--- the line of this column failed, so a front of the text was put
+-- the sink took a proper prefix of the lines before this one and of this one, and so one of all
 pub returns-in_err-put_next-clause-put : goal.returns-in_err-put_next-clause-put
 returns-in_err-put_next-clause-put g c =
     let p = err_from_is_err_and c.from_residual.result c.from_residual.ensures.1 in

@@ -1,14 +1,17 @@
+-- Proof of `put_timed`, which puts the line of a time and a text, without its end.
 use Rattle.std.proofs.Common.{◌++◌, codes, decimal}
 use Rattle.std.proofs.lemmas.Result.{err_from_is_err_and}
 use Rattle.cpg_codec.proofs.Puts.{Puts-then, Puts-first}
 use Rattle.cpg_show.proofs.putting.put_timed.Goals as goal
 
+-- the sink took only a proper prefix of the time with its colon, with which the line begins
 pub returns-in_err-put_time-clause-put : goal.returns-in_err-put_time-clause-put
 returns-in_err-put_time-clause-put g c =
     let p = err_from_is_err_and c.from_residual.result c.from_residual.ensures.1 in
     Puts-first _ _ _ _ (codes "  " ++ decimal c.args.time ++ codes ": ")
     (c.args.text.now) c.from_residual.result p.0 p.1 c.in_err-put_time.ensures.put
 
+-- the time with its colon is put, so the whole is put as far as the text is
 pub returns-clause-put : goal.returns-clause-put
 returns-clause-put g c = Puts-then _ _ _ _ _ _ (codes "  " ++ decimal c.args.time ++ codes ": ")
     (c.args.text.now) c.put_any.result c.in_ok-put_time.ensures.put c.put_any.ensures.put

@@ -1,10 +1,11 @@
+-- Proof of `put_parts`, which puts parts, one after another.
 use Rattle.std.proofs.Common.{◌∙◌}
 use Rattle.std.proofs.lemmas.Result.{err_from_is_err_and}
 use Rattle.cpg_show.specs.Sheet.{part_text}
 use Rattle.cpg_codec.proofs.Puts.{item_more, item_fails, Puts-failed}
 use Rattle.cpg_show.proofs.sheet.put_parts.Goals as goal
 
--- the next part is put after those before
+-- the parts so far are put, and so is this one; neither met a fault
 pub loop-part-preserved : goal.loop-part-preserved
 loop-part-preserved g c = record {
   put = item_more (part_text c.args.labels.now) _ _ _ _ _ _ c.args.parts.now c.loop-part.part-index c.part-item.result
@@ -15,7 +16,7 @@ loop-part-preserved g c = record {
   path = c.in_ok-put_part.ensures.path;
 }
 
--- this part failed, so a front of the text was put
+-- the sink took a proper prefix of the parts before this one and of this one, and so one of all
 pub returns-in_err-put_part-clause-put : goal.returns-in_err-put_part-clause-put
 returns-in_err-put_part-clause-put g c =
     let p = err_from_is_err_and c.from_residual.result c.from_residual.ensures.1 in

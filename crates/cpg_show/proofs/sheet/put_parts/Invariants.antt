@@ -1,3 +1,4 @@
+-- Loops of `put_parts`, which puts parts, one after another.
 use Rattle.std.proofs.Common.{◌≡◌, [], take}
 use Rattle.std.specs.List.{flat_map}
 use Rattle.cpg_label.specs.Lines.{IsLine}
@@ -5,8 +6,8 @@ use Rattle.cpg_show.specs.Sheet.{part_text}
 use Rattle.cpg_codec.specs.Writing.{IsPut}
 use Rattle.cpg_show.proofs.sheet.put_parts.Given as goal
 
--- After each part. `put`: the sink and the buffer together have grown by the text of the parts so far. `kept`: the
--- faults of the sink have not changed. `line`: the buffer for one line is still one of these labels. `path`: the path is at the root again.
+-- `put`: the text of the parts so far is put. `kept`: no fault is new. `line`: it is still a line under these labels.
+-- `path`: the path is at the root again.
 abbrev pub invariant-loop-part : goal.invariant-loop-part
 invariant-loop-part g l = record {
   put : IsPut (g.O.Sink.state l.fn.sink).taken (g.O.Sink.state l.sink).taken l.fn.buffer l.buffer

@@ -1,9 +1,10 @@
+-- Proof of `put_source`, which puts the lines of the columns of a source.
 use Rattle.std.proofs.Common.{ℕ, sym, subst}
 use Rattle.cpg_tree.specs.Decision.{HasCuts}
 use Rattle.cpg_tree.proofs.PathLaws.{good_cuts}
 use Rattle.cpg_show.proofs.sheet.put_source.Goals as goal
 
--- in a tree each cut leaves numbers above it
+-- a kept tree is good, so each cut leaves a number of its variable above it
 pub put_paths-requires-clause-cuts : goal.put_paths-requires-clause-cuts
 put_paths-requires-clause-cuts g c n are = subst (λ (k : ℕ). HasCuts k n) (sym c.faults.ensures)
     (good_cuts c.in-Kept.tree.now.faults n (c.items.ensures.good n are))

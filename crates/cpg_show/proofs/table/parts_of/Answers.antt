@@ -1,9 +1,10 @@
+-- Proof of `parts_of`, which returns a part for each item that is started or sent, by number.
 use Rattle.std.proofs.Common.{sym, ◌∙◌}
 use Rattle.cpg_show.proofs.Rows.{hidden_more, shown_more}
 use Rattle.cpg_show.proofs.table.parts_of.Goals.{then-is_shown+in_ok-head_line_of+in_ok-push, else-is_shown}
 use Rattle.cpg_show.proofs.table.parts_of.Goals as goal
 
--- the next item's line and columns are added, if it has lines
+-- an item that has lines adds its part; one that hasn't adds nothing to the text either
 pub loop-item-preserved : goal.loop-item-preserved
 loop-item-preserved c = elim c.if-is_shown.branch [
   | then-is_shown+in_ok-head_line_of+in_ok-push w ↦

@@ -1,3 +1,4 @@
+-- Loops of `write_names`, which writes the names of the processes along an order, each after a blank.
 use Rattle.std.proofs.Common.{◌≡◌, ◌++◌, codes, drop, flat_map, string_bytes}
 use Rattle.cpg_label.specs.Labels.{process_name}
 use Rattle.cpg_show.proofs.table.write_names.Given as goal

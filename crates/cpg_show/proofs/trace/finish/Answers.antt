@@ -3,7 +3,7 @@ use Rattle.std.proofs.Common.{ap, fold, map, max, ◌∙◌}
 use Rattle.cpg_show.proofs.TraceSteps.{one_finish}
 use Rattle.cpg_show.proofs.trace.finish.Goals as goal
 
--- the greatest end of one more node is counted in
+-- the greatest of the ends so far and of those of this node is the greatest up to this node
 pub loop-node-preserved : goal.loop-node-preserved
 loop-node-preserved c = one_finish c.args.cluster.now.cluster.ends c.loop-node.node c.loop-node.last
     c.last_of-last.result c.loop-node.invariant

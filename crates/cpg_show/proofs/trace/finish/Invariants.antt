@@ -4,6 +4,6 @@ use Rattle.cpg_base.specs.Numbers.{greatest, numbers_below}
 use Rattle.cpg_show.specs.TraceText.{end_times}
 use Rattle.cpg_show.proofs.trace.finish.Given as goal
 
--- after each node, `last` is the greatest end of the nodes so far
+-- `last` is the greatest end of the nodes so far, 0 if there is none
 abbrev pub invariant-loop-node : goal.invariant-loop-node
 invariant-loop-node l = l.last ≡ greatest (flat_map (end_times l.cluster.cluster.ends) (numbers_below l.node))

@@ -7,7 +7,7 @@ use Rattle.cpg_show.proofs.TraceSteps.{all_within}
 use Rattle.cpg_show.proofs.Within.{acts_at, ends_at}
 use Rattle.cpg_show.proofs.trace.trace_text.Goals as goal
 
--- the events of the play are of items and processes of the graph, in whatever order
+-- in a play all events are of items and processes of the graph; sorting doesn't change which they are
 pub write_events-requires-clause-within : goal.write_events-requires-clause-within
 write_events-requires-clause-within c =
     let p = c.args.cluster.now in

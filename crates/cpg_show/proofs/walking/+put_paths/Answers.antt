@@ -1,3 +1,5 @@
+-- Proof of `put_paths`, which puts the lines of the columns that the tree has below a path: the time of each is a
+-- leaf, and its cube is the path to there.
 use Rattle.std.proofs.Common.{arith, refl, subst}
 use Rattle.std.proofs.lemmas.Result.{err_from_is_err_and}
 use Rattle.cpg_codec.specs.Writing.{IsPut, Puts}
@@ -10,14 +12,14 @@ use Rattle.cpg_tree_columns.proofs.ColumnsFound.{side_cuts, cut_fits}
 use Rattle.cpg_tree_columns.proofs.PathWalks.{above_back, both_pieces, no_piece, one_piece, pieces_from}
 use Rattle.cpg_show.proofs.walking.+put_paths.Goals as goal
 
--- a cut leaves numbers above it, and those fit a byte
+-- a cut leaves a number of its variable above it, which fits a byte
 pub overflow_add-upper : goal.overflow_add-upper
 overflow_add-upper g t c =
     let shows = c.in-Cut.ensures.shows in
     let cuts = c.requires.cuts (Fork c.in-Cut.variable c.in-Cut.cut shows.0 shows.1) shows.4 in
     omega (arith, cut_fits c.args.k c.in-Cut.variable c.in-Cut.cut c.ranges.k.fits cuts.1)
 
--- the side below is a tree with fewer items
+-- the side below has fewer items, and its cuts leave numbers above them as those of the whole do
 pub put_paths-requires : goal.put_paths-requires
 put_paths-requires g t c κs within =
     let shows = c.in-Cut.ensures.shows in
@@ -35,7 +37,7 @@ put_paths-requires g t c κs within =
       ),
     )
 
--- so is the side above
+-- the same for the side above
 pub put_paths-requires-in-Cut : goal.put_paths-requires-in-Cut
 put_paths-requires-in-Cut g t c κs within =
     let shows = c.in-Cut.ensures.shows in
@@ -53,13 +55,13 @@ put_paths-requires-in-Cut g t c κs within =
       ),
     )
 
--- a leaf without a time has no column
+-- the tree is a leaf without a time, so it has no column and nothing is put
 pub returns-in-Value-None-clause-put : goal.returns-in-Value-None-clause-put
 returns-in-Value-None-clause-put g t c n are =
     subst (IsPut _ _ _ _) (no_piece (column_line c.args.labels.now) c.args.k c.args.path.now c.args.items.now n are
     (rw c.in-Value-None.field-0-is at c.in-Value-None.ensures.shows)) (IsPut-none _ _)
 
--- a leaf with a time has one
+-- the tree is a leaf with a time, so its one column is what was put
 pub returns-in-Value-Some-clause-put : goal.returns-in-Value-Some-clause-put
 returns-in-Value-Some-clause-put g t c n are =
     subst (Puts _ _ _ _ c.put_next.result)
@@ -67,7 +69,7 @@ returns-in-Value-Some-clause-put g t c n are =
     (rw c.in-Value-Some.field-0-is at c.in-Value-Some.ensures.shows))
     (rw c.literals.ensures.literals at c.put_next.ensures.put)
 
--- the side below failed, so a front of the text of both was put
+-- the sink took only a proper prefix of the lines of the side below, with which those of both begin
 pub returns-in_err-put_paths-in-Cut-clause-put : goal.returns-in_err-put_paths-in-Cut-clause-put
 returns-in_err-put_paths-in-Cut-clause-put g t c n are =
     let shows = c.in-Cut.ensures.shows in
@@ -82,7 +84,8 @@ returns-in_err-put_paths-in-Cut-clause-put g t c n are =
     (pieces_from f k (narrowed_by (above k v cut) c.args.path.now) shows.1) c.from_residual.result p.0 p.1
     (rw c.narrow-step.ensures.narrowed at (c.in_err-put_paths-in-Cut.ensures.put shows.0 shows.2)))
 
--- the side above failed behind the text of the side below
+-- the side below is put, and of the side above (on from the exchanged path) a proper prefix was taken; together that is
+-- one of both
 pub returns-in_err-put_paths-in-Cut-2-clause-put : goal.returns-in_err-put_paths-in-Cut-2-clause-put
 returns-in_err-put_paths-in-Cut-2-clause-put g t c n are =
     let shows = c.in-Cut.ensures.shows in
@@ -103,7 +106,7 @@ returns-in_err-put_paths-in-Cut-2-clause-put g t c n are =
     (rw c.narrow-step.ensures.narrowed at (c.in_ok-put_paths-in-Cut.ensures.put shows.0 shows.2))
     (rw path at (c.in_err-put_paths-in-Cut-2.ensures.put shows.1 shows.3))))
 
--- the text of a fork is that of the side below and then that of the side above
+-- the lines of a fork are those of the side below and then those of the side above, on from the exchanged path
 pub returns-in_ok-put_paths-in-Cut-2-clause-put : goal.returns-in_ok-put_paths-in-Cut-2-clause-put
 returns-in_ok-put_paths-in-Cut-2-clause-put g t c n are =
     let shows = c.in-Cut.ensures.shows in

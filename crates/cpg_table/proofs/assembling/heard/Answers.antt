@@ -11,11 +11,11 @@ use Rattle.cpg_table.specs.Writing.{row_for, IsWritable}
 use Rattle.cpg_table.proofs.NodeRows.{no_row, long, writable, slot_short}
 use Rattle.cpg_table.proofs.assembling.heard.Goals as goal
 
--- there is a row for each item, and the item is one of the graph
+-- there is a row for each item of the graph, and this is one
 pub bounds-rows-item : goal.bounds-rows-item
 bounds-rows-item c = omega (arith, c.requires.item, long c.args.problem.now c.args.rows.now c.requires.rows)
 
--- the times of a writable row leave room for a slot
+-- the row is the item's (`is`), and a writable row has times below 2 ^ 59
 pub later-requires-clause-times : goal.later-requires-clause-times
 later-requires-clause-times c =
     let g = c.args.problem.now in

@@ -6,7 +6,7 @@ use Rattle.cpg_table.specs.Items.{ItemLists, hears_of, lists_of}
 use Rattle.cpg_table.proofs.NodeRows.{all_below, hear_below}
 use Rattle.cpg_table.proofs.assembling.node_hears.Goals as goal
 
--- what a node hears is an item of the graph
+-- what a node hears under the graph's head is an item of the graph
 pub all_heard-requires-clause-items : goal.all_heard-requires-clause-items
 all_heard-requires-clause-items c =
     let g = c.args.problem.now in

@@ -32,7 +32,8 @@ loop-heard-init c =
       items = all_known g rows c.requires.rows;
     }
 
--- the rows of what the node starts and sends, and of what it hears, are the rows of its table
+-- the rows left still have all own rows of this node (`own`), and the iterator its heard rows next (`heard`): these are the
+-- rows of its table
 pub node_table-requires : goal.node_table-requires
 node_table-requires c =
     let g = c.args.problem.now in
@@ -53,7 +54,7 @@ node_table-requires c =
     (sym (ap₂ (λ (xs ys : List Row). xs ++ ys) own heard ∙ node_rows g within node rows c.requires.rows))
     (are_rows g within rows c.requires.rows node l))
 
--- the table of one more node is made, and the rows of the other nodes are left
+-- the table of this node is made, and the rows that other nodes start or send are left
 pub loop-heard-preserved : goal.loop-heard-preserved
 loop-heard-preserved c =
     let g = c.args.problem.now in

@@ -6,8 +6,8 @@ use Rattle.cpg_table.specs.Table.{Row}
 use Rattle.cpg_table.specs.Writing.{hears_at, own_rows, AreNodeTables}
 use Rattle.cpg_table.proofs.assembling.node_tables.Given as goal
 
--- after each node, the tables of the nodes so far are made, the heard rows of the other nodes are in the iterator,
--- and the rows left have all own rows of the other nodes
+-- `count`, `hears`: the iterator has the heard rows of the nodes from `node` on. `tables`: those of the nodes before are
+-- made. `left`, `items`: the rows left are of items of the graph, with all own rows of the nodes from `node` on
 abbrev pub invariant-loop-heard : goal.invariant-loop-heard
 invariant-loop-heard l = record {
   count : l.node + length l.heard-iterator.rest.items ≡ length l.problem.nodes;

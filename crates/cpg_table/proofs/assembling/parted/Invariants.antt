@@ -5,8 +5,8 @@ use Rattle.cpg_table.specs.Table.{Row}
 use Rattle.cpg_table.specs.Writing.{own_rows, other_rows}
 use Rattle.cpg_table.proofs.assembling.parted.Given as goal
 
--- the own rows and the other rows of all are those taken so far, and then those among the rows that are left; each
--- row left is of an item of the graph
+-- `own`, `others`: the own rows of all are those taken so far and then those among the rows left; so are the others.
+-- `known`: each row left is of an item of the graph
 abbrev pub invariant-loop-row : goal.invariant-loop-row
 invariant-loop-row l = record {
   own : own_rows l.problem l.node l.fn.rows.items ≡ l.own.items ++ own_rows l.problem l.node l.row-iterator.rest.items;

@@ -4,7 +4,7 @@ use Rattle.cpg_table.specs.Lawful.{Tables, AreTablesOf}
 use Rattle.cpg_table.proofs.TablesWith.{lawful, tables_with}
 use Rattle.cpg_table.proofs.assembling.tables_of.Goals as goal
 
--- the tables that are made are lawful tables under the head of the graph
+-- a table for each node with its rows is lawful, and together they have no more columns than the rows allow
 pub of-requires : goal.of-requires
 of-requires c =
     let g = c.args.problem.now in
@@ -12,7 +12,7 @@ of-requires c =
     (lawful g c.nodes-nodes.ensures.within c.requires.formed c.args.rows.items c.requires.rows c.in_ok-nodes.nodes.items
     c.in_ok-nodes.ensures)
 
--- the tables under the head of the graph are the tables with the given rows
+-- lawful tables of all nodes with these rows have the columns and the hear rows that are asked for
 pub returns : goal.returns
 returns c =
     let g = c.args.problem.now in

@@ -1,4 +1,4 @@
--- Loops of `count_columns`: how many columns rows have, with those before them; `None` exactly if the number doesn't
+-- Loops of `count_columns`: how many columns rows have, with those before them, or `None` if the number doesn't
 -- fit a machine word.
 use Rattle.std.proofs.Common.{◌≡◌, ◌+◌, drop}
 use Rattle.cpg_table.specs.Lawful.{column_count}

@@ -1,11 +1,11 @@
--- Proof of `counts_of`: how many rows a node starts and sends; `None` exactly if the rows aren't those of its items.
+-- Proof of `counts_of`: how many rows a node starts and sends, or `None` if the rows aren't those of its items.
 use Rattle.std.proofs.Common.{◌++◌, sym, ◌∙◌, arith, true≢false}
 use Rattle.cpg_table.specs.Items.{starts_of, sends_of, hears_of}
 use Rattle.cpg_table.proofs.AfterItems.{after_both, after_neither, after_parts, after_three, not_these}
 use Rattle.cpg_table.proofs.AfterItems.{these_where_nothing}
 use Rattle.cpg_table.proofs.counts.counts_of.Goals as goal
 
--- the rows don't begin with those of the starts
+-- the rows don't begin with those of the starts, so they aren't those of all the node's items
 pub returns-in_default-clause-other : goal.returns-in_default-clause-other
 returns-in_default-clause-other c =
     let xs = starts_of c.args.head.now c.args.node in
@@ -13,7 +13,7 @@ returns-in_default-clause-other c =
     let zs = hears_of c.args.head.now c.args.node in
     not_these (xs ++ (ys ++ zs)) c.args.rows.now (after_neither xs (ys ++ zs) c.args.rows.now c.in_default.ensures)
 
--- the rows after the starts don't begin with those of the sends
+-- the rows after the starts don't begin with those of the sends, so they aren't those of all items
 pub returns-in_default-after_sends-clause-other : goal.returns-in_default-after_sends-clause-other
 returns-in_default-after_sends-clause-other c =
     let xs = starts_of c.args.head.now c.args.node in
@@ -23,7 +23,7 @@ returns-in_default-after_sends-clause-other c =
     (after_neither ys zs c.in-Some.sends.now c.in_default-after_sends.ensures
     ∙ sym (after_both xs (ys ++ zs) c.args.rows.now c.in-Some.sends.now c.in-Some.ensures))
 
--- the rows after the sends don't begin with those of the hears
+-- the rows after the sends don't begin with those of the hears, so they aren't those of all items
 pub returns-in_default-after_hears-clause-other : goal.returns-in_default-after_hears-clause-other
 returns-in_default-after_hears-clause-other c =
     let xs = starts_of c.args.head.now c.args.node in
@@ -33,7 +33,7 @@ returns-in_default-after_hears-clause-other c =
     (c.in_default-after_hears.ensures ∙ sym (after_three xs ys zs c.args.rows.now c.in-Some.sends.now
     c.in-Some-after_sends.hears.now c.in-Some.ensures c.in-Some-after_sends.ensures))
 
--- some rows are left after those of the hears
+-- a row is left after those of the hears, so they aren't just those of all items
 pub returns-then-not-is_empty-clause-other : goal.returns-then-not-is_empty-clause-other
 returns-then-not-is_empty-clause-other c =
     let xs = starts_of c.args.head.now c.args.node in

@@ -1,13 +1,13 @@
--- Proof of `have_hears`: whether these are the rows of what a node hears.
+-- Proof of `have_hears`: whether rows are those of what a node hears.
 use Rattle.cpg_table.specs.Items.{hears_of}
 use Rattle.cpg_table.proofs.AfterItems.{these_where_nothing, these_never}
 use Rattle.cpg_table.proofs.counts.have_hears.Goals as goal
 
--- the rows begin with the heard items of the node, so they are these exactly if nothing follows
+-- the rows begin with those of what the node hears, so they are these exactly if none is left
 pub returns-in-Some : goal.returns-in-Some
 returns-in-Some c = these_where_nothing (hears_of c.args.head.now c.args.node) c.args.rows.now c.in-Some.rest.now
     c.in-Some.ensures c.is_empty.result c.is_empty.ensures
 
--- the rows don't begin with the heard items of the node
+-- the rows don't begin with those of what the node hears, so they aren't these
 pub returns-in-None : goal.returns-in-None
 returns-in-None c = these_never (hears_of c.args.head.now c.args.node) c.args.rows.now c.in-None.ensures

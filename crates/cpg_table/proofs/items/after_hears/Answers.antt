@@ -1,11 +1,11 @@
--- Proof of `after_hears`: the rows after those of the items that a node hears; `None` exactly if other rows stand
+-- Proof of `after_hears`: the rows after those of the items that a node hears, or `None` if other rows stand
 -- there.
 use Rattle.std.proofs.Common.{rules, sym, ◌∙◌, ◌==◌, not}
 use Rattle.cpg_table.specs.Items.{numbers_where, enters, first_message, first_broadcast, conditioned}
 use Rattle.cpg_table.proofs.AfterItems.{after_both, after_neither}
 use Rattle.cpg_table.proofs.items.after_hears.Goals as goal
 
--- the first part of the items doesn't stand there, so the whole doesn't
+-- the rows don't begin with those of the messages, so they don't with those of all that is heard
 pub returns-in_default : goal.returns-in_default
 returns-in_default c = search (rules, after_neither)
 

@@ -1,4 +1,4 @@
--- Proof of `after_sends`: the rows after those of the items that a node sends; `None` exactly if other rows stand
+-- Proof of `after_sends`: the rows after those of the items that a node sends, or `None` if other rows stand
 -- there.
 use Rattle.std.proofs.Common.{rules, sym, ap, ◌∙◌, ◌==◌, ◌<◌, [], length, ltb, cond, lt-ltb, arith}
 use Rattle.std.proofs.lemmas.Bool.{cond-true}
@@ -6,7 +6,7 @@ use Rattle.cpg_table.specs.Items.{numbers_where, leaves, first_message, first_br
 use Rattle.cpg_table.proofs.AfterItems.{after_both, after_neither}
 use Rattle.cpg_table.proofs.items.after_sends.Goals as goal
 
--- the first part of the items doesn't stand there, so the whole doesn't
+-- the rows don't begin with those of the messages, so they don't with those of all that is sent
 pub returns-in_default : goal.returns-in_default
 returns-in_default c = search (rules, after_neither)
 

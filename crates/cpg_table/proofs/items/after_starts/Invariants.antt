@@ -1,4 +1,4 @@
--- Loops of `after_starts`: the rows after those of the items that a node starts; `None` exactly if other rows stand
+-- Loops of `after_starts`: the rows after those of the items that a node starts, or `None` if other rows stand
 -- there.
 use Rattle.std.proofs.Common.{◌≡◌, ◌==◌, drop}
 use Rattle.cpg_table.specs.Items.{numbers_where, starts_of, after_items}

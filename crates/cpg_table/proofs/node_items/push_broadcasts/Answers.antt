@@ -5,7 +5,8 @@ use Rattle.cpg_table.specs.Items.{first_broadcast}
 use Rattle.cpg_table.proofs.Broadcasts.{few_on, broadcasts_on}
 use Rattle.cpg_table.proofs.node_items.push_broadcasts.Goals as goal
 
--- one more process is visited, and its broadcast is added if it is wanted
+-- `few`: the number rises by one at most. `same`: the broadcast of this process is added if it is wanted, and the next
+-- number goes on if it has a condition
 pub loop-process-preserved : goal.loop-process-preserved
 loop-process-preserved c = record {
   few = rw c.next_number-item.ensures (few_on c.process-item.result.condition c.loop-process.item

@@ -1,4 +1,4 @@
--- Loops of `is_own_of`: whether these facts are the ones that a node needs to know of its own processes.
+-- Loops of `is_own_of`: whether `own` is what a node needs to know of its own processes.
 use Rattle.std.proofs.Common.{◌≡◌, ◌≤◌, drop}
 use Rattle.cpg_table.specs.Items.{own_from, own_of}
 use Rattle.cpg_table.proofs.own.is_own_of.Given as goal

@@ -1,4 +1,5 @@
--- Proof of `may_finish`: whether an execution that started in the last turn may end one time unit later.
+-- Proof of `may_finish`: whether an execution may end one time unit after the last turn with this report: it started
+-- in that turn and hasn't reported, and its duration with these faults isn't 0.
 use Rattle.std.proofs.Common.{◌≡◌, ◌<◌, ◌≤◌, ◌+◌, ℕ, Bool, true, false, Option, Some, None, sym, ap, ◌∙◌, refl, arith}
 use Rattle.std.proofs.Common.{subst, ltb-true, lt-ltb, nat_lt, true≢false}
 use Rattle.std.specs.Prelude.{IfSome, is_some, option_map, option_and_then}

@@ -1,4 +1,5 @@
--- Proof of `take_turn`: takes the turn of the next instant, if there is one, and answers that instant.
+-- Proof of `take_turn`, which takes the turn of the next instant, without reports or frames, and returns that
+-- instant; `None` if there is none.
 use Rattle.std.proofs.lemmas.List.Elements.{All-nil}
 use Rattle.std.proofs.Common.{sym}
 use Rattle.cpg_node.specs.State.{EndsAt, ArrivesAt}

@@ -1,4 +1,5 @@
--- Loops of `time_of`: how long an execution of a process of the node takes with so many faults.
+-- Loops of `time_of`, which returns how long an execution of a process of the node takes with so many faults; 0 if
+-- it isn't one of the node's or has no such duration.
 use Rattle.std.proofs.Common.{◌≡◌, [], ◌==◌, None, filter, drop, get_or}
 use Rattle.cpg_table.specs.declared.own.Own.{Own}
 use Rattle.cpg_tests.proofs.node_tests.time_of.Given as goal

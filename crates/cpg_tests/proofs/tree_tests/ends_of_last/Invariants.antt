@@ -1,4 +1,5 @@
--- Loops of `ends_of_last`: how many ends the last process of a chain of 40 has with at most two faults.
+-- Loops of `ends_of_last`, which returns how many leaves the tree of the ends has, for the last process of a chain
+-- of 40 with at most two faults.
 use Rattle.std.proofs.Common.{◌≡◌}
 use Rattle.cpg_tests.proofs.tree_tests.ends_of_last.Given as goal
 

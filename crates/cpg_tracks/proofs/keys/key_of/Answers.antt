@@ -1,5 +1,5 @@
--- Proof of `key_of`: the key of a process: its latest start, and one more than the key of each predecessor if that is
--- greater.
+-- Proof of `key_of`: returns the key of a process: the greatest of its latest start and one more than the key of each
+-- predecessor.
 use Rattle.std.proofs.Common.{Contains, get_or, subst}
 use Rattle.std.proofs.lemmas.List.Elements.{Contains-get_or}
 use Rattle.cpg_base.proofs.Inputs.{inputs_parts}

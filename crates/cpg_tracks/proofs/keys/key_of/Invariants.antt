@@ -1,5 +1,5 @@
--- Loops of `key_of`: the key of a process: its latest start, and one more than the key of each predecessor if that is
--- greater.
+-- Loops of `key_of`: returns the key of a process: the greatest of its latest start and one more than the key of each
+-- predecessor.
 use Rattle.std.proofs.Common.{◌≡◌, take}
 use Rattle.cpg_base.specs.Graph.{inputs}
 use Rattle.cpg_tracks.specs.Keys.{key_over}

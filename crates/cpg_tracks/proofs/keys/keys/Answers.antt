@@ -1,4 +1,4 @@
--- Proof of `keys`: the key of each process.
+-- Proof of `keys`: returns the key of each process, by number.
 use Rattle.std.proofs.Common.{◌+◌, ◌^◌, ◌<◌, ◌≡◌, ◌∙◌, ap, sym, subst, get_or, length, set, arith}
 use Rattle.cpg_base.specs.Graph.{process_count}
 use Rattle.cpg_base.specs.Order.{place}
@@ -8,20 +8,22 @@ use Rattle.cpg_tracks.proofs.TrackSteps.{at_index, key_set, keys_done}
 use Rattle.cpg_tracks.proofs.Keyed.{key_low, low_more}
 use Rattle.cpg_tracks.proofs.keys.keys.Goals as goal
 
--- what stands in the order is a process of the graph
+-- each number in the order is that of a process of the graph
 pub key_of-key-requires-clause-process : goal.key_of-key-requires-clause-process
 key_of-key-requires-clause-process c =
     let g = c.args.problem.now in
     let same = c.processes-process-items.ensures.processes in
+    -- what is at this place of the order is a process of the graph
     let at = at_index g c.args.order.now c.requires.order c.args.schedules.now c.loop-process.process-index 0
     (omega (arith, ap length same, c.loop-process-test.true)) in
     rw same at.0
 
--- the process of the order has a place among the keys
+-- the process of the order is one of the graph, and there is a key for each
 pub index_mut-requires : goal.index_mut-requires
 index_mut-requires c =
     let g = c.args.problem.now in
     let same = c.processes-process-items.ensures.processes in
+    -- what is at this place of the order is a process of the graph
     let at = at_index g c.args.order.now c.requires.order c.args.schedules.now c.loop-process.process-index 0
     (omega (arith, ap length same, c.loop-process-test.true)) in
     rw same (omega (arith, at.0, c.loop-process.invariant.set.count))
@@ -64,6 +66,7 @@ pub returns : goal.returns
 returns c =
     let g = c.args.problem.now in
     let order = c.args.order.now in
+    -- the loop has ended at the end of the order
     let done : c.loop-process.process-index ≡ length order = omega (
       arith,
       ap length c.processes-process-items.ensures.processes,

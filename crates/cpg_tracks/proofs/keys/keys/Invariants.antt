@@ -1,4 +1,4 @@
--- Loops of `keys`: the key of each process.
+-- Loops of `keys`: returns the key of each process, by number.
 use Rattle.std.proofs.Common.{◌+◌, ◌^◌}
 use Rattle.cpg_tracks.specs.Walks.{KeysSoFar}
 use Rattle.cpg_tracks.specs.Keys.{AreLow}
@@ -8,6 +8,8 @@ use Rattle.cpg_tracks.proofs.keys.keys.Given as goal
 -- overflows
 abbrev pub invariant-loop-process : goal.invariant-loop-process
 invariant-loop-process l = record {
+  -- the keys of the processes so far are right
   set : KeysSoFar l.problem l.order l.schedules l.keys.items l.process-index;
+  -- none is above the bound so far
   low : AreLow (2 ^ 60 + l.process-index) l.keys.items;
 }

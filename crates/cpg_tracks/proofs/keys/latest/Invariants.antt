@@ -1,4 +1,4 @@
--- Loops of `latest`: the latest start of a process in these schedules, or 0 if it has none.
+-- Loops of `latest`: returns the latest start of a process in these schedules, and 0 if it has none in any.
 use Rattle.std.proofs.Common.{◌≡◌, take}
 use Rattle.cpg_tracks.specs.Keys.{latest}
 use Rattle.cpg_tracks.proofs.keys.latest.Given as goal

@@ -1,4 +1,4 @@
--- Proof of `by_key`: the processes by rising key, then by number.
+-- Proof of `by_key`: returns the processes by rising keys, and for equal ones by number.
 use Rattle.std.proofs.Common.{subst}
 use Rattle.cpg_order.specs.Ranking.{AreRanked}
 use Rattle.cpg_tracks.proofs.Ranked.{all_ranked, rising_by_key}

@@ -1,4 +1,4 @@
--- Proof of `merged_order`: the track order of a graph: by key, then by number.
+-- Proof of `merged_order`: returns the track order of a graph: by key, and for equal keys by number.
 use Rattle.std.proofs.Common.{◌∙◌, ap, sym, subst, subst₂, length, arith}
 use Rattle.cpg_order.specs.Urgency.{IsTopological}
 use Rattle.cpg_tracks.specs.Tracks.{HasTrackOrder}
@@ -18,7 +18,7 @@ by_key-requires c =
       c.problem-problem.ensures.admitted.limits.few_processes,
     )
 
--- the processes by key are the track order, which is topological, so it isn't refused
+-- the processes by key are the track order, which is topological, so `ordered` doesn't refuse it
 pub unreachable-requires : goal.unreachable-requires
 unreachable-requires c =
     let g = c.args.admitted.now.graph in

@@ -1,4 +1,4 @@
--- Loops of `rests`: how far each key is from the greatest number, so that a lower key is farther.
+-- Loops of `rests`: returns how far each key is from the greatest 64-bit number.
 use Rattle.cpg_tracks.specs.Rests.{AreRestsUpTo}
 use Rattle.cpg_tracks.proofs.order.rests.Given as goal
 

@@ -1,4 +1,4 @@
--- Proof of `all_fed`: the processes that can be placed.
+-- Proof of `all_fed`: returns the processes that can be placed, the lowest first.
 use Rattle.cpg_tracks.specs.Timing.{outcome_of}
 use Rattle.cpg_tracks.proofs.Feeding.{fed_below}
 use Rattle.cpg_tracks.proofs.schedule.all_fed.Goals as goal

@@ -1,4 +1,4 @@
--- Proof of `drop_placed`: leaves out a process.
+-- Proof of `drop_placed`: takes every entry of a process out of the list of those that can be placed.
 use Rattle.std.proofs.Common.{rules}
 use Rattle.std.proofs.lemmas.Fn.{filter_same}
 use Rattle.cpg_tracks.proofs.schedule.drop_placed.Goals as goal

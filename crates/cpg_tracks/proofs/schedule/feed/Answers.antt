@@ -7,7 +7,7 @@ use Rattle.cpg_tracks.proofs.GreedySteps.{active_is, active_long}
 use Rattle.cpg_tracks.proofs.Feeding.{feeds_none, feeds_one}
 use Rattle.cpg_tracks.proofs.schedule.feed.Goals as goal
 
--- there is a flag for each process
+-- the process is one of the graph, and there is a mark for each
 pub index-requires : goal.index-requires
 index-requires c = omega (arith, c.requires.process, active_long c.args.problem.now c.args.timing.now c.requires.timing)
 

@@ -10,7 +10,7 @@ use Rattle.cpg_tracks.proofs.Feeding.{processes_of, AreTargetsFed, target_asked,
 use Rattle.cpg_tracks.proofs.schedule.feed_targets.Goals as goal
 use Rattle.cpg_tracks.proofs.schedule.feed_targets.Goals.{then-index+in_ok-feed, else-index}
 
--- an output of the process is an edge of the graph, which the table has
+-- an output of the process is an edge of the graph, and each of these has a mark
 pub index-requires : goal.index-requires
 index-requires c =
     let g = c.args.problem.now in

@@ -1,4 +1,5 @@
--- Proof of `input_time`: when an input is there; `None` exactly if its source isn't placed.
+-- Proof of `input_time`: returns when an input is there, if all faults strike its source; `None` exactly if its source
+-- isn't placed.
 use Rattle.std.proofs.Common.{◌≡◌, ◌+◌, ◌∙◌, Some, None, get_or, sym, ap, ap₂, arith, true, false}
 use Rattle.cpg_base.proofs.Bounds.{round-le, duration-le}
 use Rattle.cpg_base.specs.Graph.{source}
@@ -6,12 +7,12 @@ use Rattle.cpg_base.specs.Duration.{duration}
 use Rattle.cpg_tracks.proofs.GreedySteps.{duration_at, durations_long, start_early, input_there}
 use Rattle.cpg_tracks.proofs.schedule.input_time.Goals as goal
 
--- there is a duration for each process
+-- the source is a process of the graph, and there is a duration for each
 pub index-requires : goal.index-requires
 index-requires c =
     omega (arith, c.source-source.ensures.within, durations_long c.args.problem.now c.args.timing.now c.requires.timing)
 
--- a start and a duration fit a number of 64 bits
+-- the start is at most 2^60 and the duration below 2^40, so the sum fits 64 bits
 pub overflow_add-end : goal.overflow_add-end
 overflow_add-end c =
     let g = c.args.problem.now in
@@ -24,7 +25,7 @@ overflow_add-end c =
       start_early c.args.starts.now p c.in-Some.start _ c.requires.starts.early c.in-Some.is,
     )
 
--- an end and a round of the bus fit a number of 64 bits
+-- with a round added, of at most 16 slots of at most 10^9, the sum still fits 64 bits
 pub overflow_add-result : goal.overflow_add-result
 overflow_add-result c =
     let g = c.args.problem.now in
@@ -44,6 +45,7 @@ pub returns-then-is_message : goal.returns-then-is_message
 returns-then-is_message c =
     let g = c.args.problem.now in
     let from = c.source-source.ensures.source in
+    -- what is added is the source's duration with all k faults
     let time = c.index.ensures ∙ duration_at g c.args.timing.now c.requires.timing c.source-source.result
     c.index.result.now c.source-source.ensures.within ∙ ap (λ p. duration g p g.faults) from in
     ap₂ (λ d r. Some (c.in-Some.start + d + r)) time c.requires.timing.round
@@ -55,6 +57,7 @@ pub returns : goal.returns
 returns c =
     let g = c.args.problem.now in
     let from = c.source-source.ensures.source in
+    -- what is added is the source's duration with all k faults
     let time = c.index.ensures ∙ duration_at g c.args.timing.now c.requires.timing c.source-source.result
     c.index.result.now c.source-source.ensures.within ∙ ap (λ p. duration g p g.faults) from in
     ap (λ d. Some (c.in-Some.start + d)) time

@@ -1,4 +1,4 @@
--- Proof of `place_all`: the starts of a track's processes, placed one after another.
+-- Proof of `place_all`: returns the start of each process of a track, by number, and `None` for each inactive one.
 use Rattle.std.proofs.Common.{◌≡◌, ◌+◌, ◌<◌, ◌≤◌, ◌∙◌, All, None, Some, replicate, set, ap, sym, subst, subst₂, length}
 use Rattle.std.proofs.Common.{rules, arith}
 use Rattle.cpg_base.specs.Graph.{process_count}
@@ -15,6 +15,7 @@ use Rattle.cpg_tracks.proofs.schedule.place_all.Goals as goal
 pub loop-placed-init : goal.loop-placed-init
 loop-placed-init c =
     let g = c.args.problem.now in
+    -- no process has a start, and each node is free from 0 on
     let starts : c.in_ok-starts.starts.items ≡ replicate (length c.processes-count.result.now) None = search rules in
     let free : c.in_ok-free.free.items ≡ replicate (length c.nodes.result.now) 0 = search rules in
     record {
@@ -34,6 +35,7 @@ next-requires-clause-free c =
     let g = c.args.problem.now in
     let a = c.requires.admitted in
     let o = c.args.track.now.outcome in
+    -- the starts and the free times so far, and that n processes are placed
     let s = c.loop-placed.starts.items in
     let f = c.loop-placed.free.items in
     let n = c.loop-placed._placed in
@@ -55,6 +57,7 @@ returns-in_default-clause-greedy c =
     let g = c.args.problem.now in
     let a = c.requires.admitted in
     let o = c.args.track.now.outcome in
+    -- the starts and the free times so far, and that n processes are placed
     let s = c.loop-placed.starts.items in
     let f = c.loop-placed.free.items in
     let n = c.loop-placed._placed in
@@ -65,11 +68,12 @@ returns-in_default-clause-greedy c =
     c.as_slice-in-loop-placed.ensures.value c.as_slice-in-loop-placed-2.ensures.value h.free c.loop-placed.invariant.fed
     c.next.ensures c.in_default.is)
 
--- the chosen process has a duration in the table
+-- the chosen process is one of the graph, and there is a duration for each
 pub index-requires : goal.index-requires
 index-requires c =
     let g = c.args.problem.now in
     let o = c.args.track.now.outcome in
+    -- the starts and the free times so far, and what is known of them
     let s = c.loop-placed.starts.items in
     let f = c.loop-placed.free.items in
     let h = c.loop-placed.invariant.placed in
@@ -100,6 +104,7 @@ overflow_add-end c =
     let g = c.args.problem.now in
     let a = c.requires.admitted in
     let o = c.args.track.now.outcome in
+    -- the starts and the free times so far, and that n processes are placed
     let s = c.loop-placed.starts.items in
     let f = c.loop-placed.free.items in
     let n = c.loop-placed._placed in
@@ -127,6 +132,7 @@ feed_targets-requires-clause-starts c =
     let g = c.args.problem.now in
     let a = c.requires.admitted in
     let o = c.args.track.now.outcome in
+    -- the starts and the free times so far, and that n processes are placed
     let s = c.loop-placed.starts.items in
     let f = c.loop-placed.free.items in
     let n = c.loop-placed._placed in
@@ -152,10 +158,12 @@ feed_targets-requires-clause-fed c =
     let g = c.args.problem.now in
     let a = c.requires.admitted in
     let o = c.args.track.now.outcome in
+    -- the starts and the free times so far, and what is known of them
     let s = c.loop-placed.starts.items in
     let f = c.loop-placed.free.items in
     let h = c.loop-placed.invariant.placed in
     let p = c.in-Some.chosen.process in
+    -- the chosen process is the next one, with its start
     let next = chosen_of g o s f c.as_slice-in-loop-placed.result.now c.loop-placed.fed.items
     c.as_slice-in-loop-placed-2.result.now c.next.result (Some c.in-Some.chosen)
     c.as_slice-in-loop-placed.ensures.value c.as_slice-in-loop-placed-2.ensures.value h.free c.loop-placed.invariant.fed
@@ -172,6 +180,7 @@ loop-placed-preserved c =
     let g = c.args.problem.now in
     let a = c.requires.admitted in
     let o = c.args.track.now.outcome in
+    -- the starts and the free times so far, and that n processes are placed
     let s = c.loop-placed.starts.items in
     let f = c.loop-placed.free.items in
     let n = c.loop-placed._placed in
@@ -189,34 +198,37 @@ loop-placed-preserved c =
     c.index.result.now next.0 next.1 c.node_of.ensures.node time in
     record {
       placed = more;
-      -- what can be placed is what the targets of its outputs have been fed to
+      -- the targets of its outputs were looked at again, so what can be placed is complete
       fed = subst (λ x. AreFed g x (set s p (Some c.in-Some.chosen.start)) c.feed_targets.new.fed.items)
           (ap (λ t. t.outcome) c.in_ok-timing.ensures.track)
           (subst (λ xs. AreFed g (outcome_of c.in_ok-timing.timing) xs c.feed_targets.new.fed.items)
           c.as_slice-in-loop-placed-3.ensures.value c.in_ok-feed_targets.ensures);
     }
 
--- all processes have had their turn, so the schedule is greedy
+-- there were as many turns as processes, so all active ones are placed, and the schedule is greedy
 pub returns-clause-greedy : goal.returns-clause-greedy
 returns-clause-greedy c =
     let g = c.args.problem.now in
     let a = c.requires.admitted in
     let o = c.args.track.now.outcome in
+    -- the starts and the free times so far, and that n processes are placed
     let s = c.loop-placed.starts.items in
     let f = c.loop-placed.free.items in
     let n = c.loop-placed._placed in
     let h = c.loop-placed.invariant.placed in
+    -- there was a turn for each process, so none is left
     let count : process_count g ≤ n =
     omega (arith, ap length c.processes-count.ensures.processes, c.loop-placed-test.false) in
     placed_greedy g a.limits a.well_formed o s f n h c.args.order.now a.topological
     (placed_whole g a.limits a.well_formed o s f n h count)
 
--- no start is later than 2^60
+-- no start is later than 2^60: each of at most 128 turns adds little enough
 pub returns-in_default-clause-early : goal.returns-in_default-clause-early
 returns-in_default-clause-early c =
     let g = c.args.problem.now in
     let a = c.requires.admitted in
     let o = c.args.track.now.outcome in
+    -- the starts and the free times so far, and that n processes are placed
     let s = c.loop-placed.starts.items in
     let f = c.loop-placed.free.items in
     let n = c.loop-placed._placed in
@@ -224,12 +236,13 @@ returns-in_default-clause-early c =
     placed_early g a.limits a.well_formed o s f n h
     (omega (arith, ap length c.processes-count.ensures.processes, c.loop-placed-test.true))
 
--- no start is later than 2^60
+-- no start is later than 2^60 after the last turn either
 pub returns-clause-early : goal.returns-clause-early
 returns-clause-early c =
     let g = c.args.problem.now in
     let a = c.requires.admitted in
     let o = c.args.track.now.outcome in
+    -- the starts and the free times so far, and that n processes are placed
     let s = c.loop-placed.starts.items in
     let f = c.loop-placed.free.items in
     let n = c.loop-placed._placed in

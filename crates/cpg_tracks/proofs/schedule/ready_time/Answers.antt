@@ -1,5 +1,5 @@
--- Proof of `ready_time`: when an active process is ready; `None` exactly if it is placed, or the source of a live
--- input isn't.
+-- Proof of `ready_time`: returns when an active process is ready; `None` exactly if it is placed already, or the
+-- source of a live input isn't.
 use Rattle.std.proofs.Common.{◌≡◌, ◌<◌, ◌∙◌, ◌∷◌, true≢false, None, Contains, filter, map, get_or, length, max, sym, ap}
 use Rattle.std.proofs.Common.{subst, arith}
 use Rattle.std.proofs.lemmas.List.{take_all}
@@ -15,7 +15,7 @@ use Rattle.cpg_tracks.proofs.GreedySteps.{fed_takes, fed_skips, not_fed}
 use Rattle.cpg_tracks.proofs.schedule.ready_time.Goals as goal
 use Rattle.cpg_tracks.proofs.schedule.ready_time.Goals.{then-index+in-Some, else-index}
 
--- an input of the process is an edge of the graph, which the table has
+-- an input of the process is an edge of the graph, and each of these has a mark
 pub index-requires : goal.index-requires
 index-requires c =
     let g = c.args.problem.now in
@@ -45,6 +45,7 @@ returns-in_default-clause-none c =
     let xs = c.inputs-edge-items.result.now in
     let e = get_or xs c.loop-edge.edge-index 0 in
     let same = c.inputs-edge-items.ensures.of_graph g c.requires.timing.links in
+    -- the input is an edge of the graph
     let inside : e < edge_count g = (inputs_parts g c.args.process e
     (subst (λ ys. Contains ys e) same (Contains-get_or xs c.loop-edge.edge-index 0 c.loop-edge-test.true))).0 in
     not_fed g o c.args.starts.now c.args.process c.loop-edge.edge-index e 0
@@ -101,6 +102,7 @@ returns-then-is_some-clause-none c f = true≢false (sym c.if-is_some.true ∙ c
 pub returns-clause-fed : goal.returns-clause-fed
 returns-clause-fed c =
     let g = c.args.problem.now in
+    -- the loop has visited all inputs
     let done = take_all c.loop-edge.edge-index (inputs g c.args.process) (omega
     (arith, ap length (c.inputs-edge-items.ensures.of_graph g c.requires.timing.links), c.loop-edge-test.false)) in
     record {

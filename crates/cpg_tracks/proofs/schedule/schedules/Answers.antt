@@ -1,4 +1,4 @@
--- Proof of `schedules`: the schedule of each track of a graph with these links.
+-- Proof of `schedules`: returns the greedy schedule of each of these tracks, in the same order.
 use Rattle.std.proofs.Common.{◌^◌, All, sym, subst}
 use Rattle.std.proofs.lemmas.List.Elements.{All-push}
 use Rattle.cpg_tracks.specs.Tracks.{IsGreedy}

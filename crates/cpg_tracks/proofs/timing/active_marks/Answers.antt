@@ -1,4 +1,4 @@
--- Proof of `active_marks`: by process, whether it is active.
+-- Proof of `active_marks`: returns for each process, by number, whether it is active in the track.
 use Rattle.std.proofs.Common.{◌≡◌, ◌+◌, ◌<◌, ◌++◌, ◌∷◌, [], ◌∙◌, true, Contains, get_or, length, take, sym, ap, subst}
 use Rattle.std.proofs.Common.{arith}
 use Rattle.std.proofs.lemmas.List.{take_more, take_all, length-set}
@@ -6,7 +6,7 @@ use Rattle.cpg_tracks.proofs.GreedySteps.{active_at}
 use Rattle.cpg_tracks.proofs.Feeding.{mark_set, mark_only, marks_done}
 use Rattle.cpg_tracks.proofs.timing.active_marks.Goals as goal
 
--- an active process of the track has a mark
+-- an active process is one of the graph, and there is a mark for each
 pub index_mut-requires : goal.index_mut-requires
 index_mut-requires c =
     let same = c.active-process-items.ensures in
@@ -21,6 +21,7 @@ loop-process-preserved c =
     let actives = c.args.track.now.active in
     let marks = c.loop-process.marks.items in
     let same = c.active-process-items.ensures in
+    -- the active process at hand, with which the processes so far are one more
     let p = get_or c.active-process-items.result.now i 0 in
     let is : p ≡ get_or actives i 0 = ap (λ xs. get_or xs i 0) same in
     let l : i < length actives = omega (arith, ap length same, c.loop-process-test.true) in
@@ -35,7 +36,7 @@ loop-process-preserved c =
           subst (λ xs. Contains xs q) (sym more) (mark_only marks (take i actives) p c.loop-process.invariant.only q k);
     }
 
--- exactly the active processes are marked
+-- the loop has visited all active processes, so exactly these are marked
 pub returns : goal.returns
 returns c =
     let actives = c.args.track.now.active in

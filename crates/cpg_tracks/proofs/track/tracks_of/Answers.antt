@@ -1,4 +1,4 @@
--- Proof of `tracks_of`: the tracks of these outcomes.
+-- Proof of `tracks_of`: returns the tracks of these outcomes, in the same order.
 use Rattle.std.proofs.Common.{◌∙◌, All, ap, sym, subst}
 use Rattle.cpg_base.specs.Scenario.{Scenario}
 use Rattle.std.proofs.lemmas.List.Elements.{All-push}

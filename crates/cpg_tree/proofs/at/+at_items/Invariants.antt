@@ -1,4 +1,4 @@
--- Recursion of `at_items`: the value that a scenario comes to.
+-- Recursion of `at_items`, which returns the value at the leaf that a scenario comes to in a tree, given as its list.
 use Rattle.std.proofs.Common.{length}
 use Rattle.cpg_tree.proofs.at.+at_items.Given as goal
 

@@ -1,4 +1,4 @@
--- Proof of `leaf_count`: how many leaves there are.
+-- Proof of `leaf_count`, which returns how many leaves a tree has, which is how many paths it has.
 use Rattle.cpg_tree.proofs.AtLaws.{leaves_are}
 use Rattle.cpg_tree.proofs.at.leaf_count.Goals as goal
 

@@ -1,4 +1,4 @@
--- Proof of `fork_by_sides`: does what `fork` does, by comparing the whole of both lists.
+-- Proof of `fork_by_sides`, which does what `fork` does, by comparing the whole of both lists.
 use Rattle.std.proofs.Common.{◌≡◌, drop, take, subst, List}
 use Rattle.cpg_tree.specs.Added.{RepeatsBelow}
 use Rattle.cpg_tree.specs.declared.item.TreeItem.{TreeItem}

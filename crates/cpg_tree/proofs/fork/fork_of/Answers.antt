@@ -1,4 +1,4 @@
--- Proof of `fork_of`: a fork of the two trees that a list ends in, from a start and a middle on.
+-- Proof of `fork_of`, which makes a fork of the two trees that a list ends in, with its cut behind both lists.
 use Rattle.cpg_tree.proofs.Forks.{of_answer}
 use Rattle.cpg_tree.proofs.ForkLaws.{forks_plain}
 use Rattle.cpg_tree.proofs.fork.fork_of.Goals as goal

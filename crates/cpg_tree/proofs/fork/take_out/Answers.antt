@@ -1,4 +1,4 @@
--- Proof of `take_out`: takes items out.
+-- Proof of `take_out`, which takes `count` items out of a list, from the place `from` on.
 use Rattle.std.proofs.Common.{rules, ◌∙◌, ◌-◌, ◌≡◌, ap, take, ℕ}
 use Rattle.cpg_tree.proofs.Moves.{moved, moved_on, moved_all, moved_none}
 use Rattle.cpg_tree.proofs.fork.take_out.Goals as goal

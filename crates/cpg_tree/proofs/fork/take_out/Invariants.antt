@@ -1,9 +1,9 @@
--- Loops of `take_out`: takes items out.
+-- Loops of `take_out`, which takes `count` items out of a list, from the place `from` on.
 use Rattle.std.proofs.Common.{◌≡◌, length}
 use Rattle.cpg_tree.proofs.Moves.{moved}
 use Rattle.cpg_tree.proofs.fork.take_out.Given as goal
 
--- after i turns i of the `count` items from place `from` are moved, and the list is as long as before
+-- the places from `from` up to i have the items from `count` places further on; the others, and the length, are as before
 abbrev pub invariant-loop-i : goal.invariant-loop-i
 invariant-loop-i g l = record {
   long : length l.out.items ≡ length l.fn.out.items;

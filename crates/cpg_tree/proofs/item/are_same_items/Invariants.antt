@@ -1,4 +1,4 @@
--- Loops of `are_same_items`: whether two lists are equal.
+-- Loops of `are_same_items`: whether two lists of items are equal.
 use Rattle.std.proofs.Common.{◌≡◌, take, length}
 use Rattle.cpg_tree.proofs.item.are_same_items.Given as goal
 

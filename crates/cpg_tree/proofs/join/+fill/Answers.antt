@@ -8,6 +8,7 @@ use Rattle.cpg_tree.proofs.join.+fill.Goals as goal
 -- the space is closed below the cut, so the answers for the side above are those for the fork
 pub fill_fork-returns-then-not-is_open_below-clause-made : goal.fill_fork-returns-then-not-is_open_below-clause-made
 fill_fork-returns-then-not-is_open_below-clause-made g t c =
+    -- what the top shows: the trees of both sides (0, 1), and that the lists are theirs (2, 3) and their fork's (4)
     let shows = c.in-Cut.ensures.shows in
     of_answer c.fill_fork.result _ _ c.fill_fork.ensures.made
     (λ u made n are.
@@ -19,6 +20,7 @@ fill_fork-returns-then-not-is_open_below-clause-made g t c =
 -- the space is closed above the cut, so the answers for the side below are those for the fork
 pub fill_fork-returns-then-not-is_open_above-clause-made : goal.fill_fork-returns-then-not-is_open_above-clause-made
 fill_fork-returns-then-not-is_open_above-clause-made g t c =
+    -- what the top shows: the trees of both sides (0, 1), and that the lists are theirs (2, 3) and their fork's (4)
     let shows = c.in-Cut.ensures.shows in
     of_answer c.fill_fork-then-not-is_open_above.result _ _ c.fill_fork-then-not-is_open_above.ensures.made
     (λ u made n are.
@@ -48,6 +50,7 @@ fill_fork-returns-in-Value-clause-made g t c =
 pub fill_fork-returns-in_ok-fill_items-in-Cut-2-clause-made :
     goal.fill_fork-returns-in_ok-fill_items-in-Cut-2-clause-made
 fill_fork-returns-in_ok-fill_items-in-Cut-2-clause-made g t c =
+    -- what the top shows: the trees of both sides (0, 1), and that the lists are theirs (2, 3) and their fork's (4)
     let shows = c.in-Cut.ensures.shows in
     -- the fork joins what is made of both sides
     of_answer c.fork.result _ _ c.fork.ensures.made

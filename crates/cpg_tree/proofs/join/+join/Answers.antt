@@ -12,9 +12,11 @@ use Rattle.cpg_tree.proofs.join.+join.Goals as goal
 -- fork
 pub join_items-returns-then-not-is_open_below-clause-made : goal.join_items-returns-then-not-is_open_below-clause-made
 join_items-returns-then-not-is_open_below-clause-made g t c =
+    -- what the top shows: the trees of both sides (0, 1), and that the lists are theirs (2, 3) and their fork's (4)
     let shows = c.in-Cut.ensures.shows in
     of_answer c.join_items.result _ _ c.join_items.ensures.made
     (λ u made n m are others.
+    -- the part of the other tree that the space comes to
     let part = c.part_in-other.ensures.part m others in
     joins_whole (λ (x : g.row.T.Denot) (y : g.row.U.Denot) (z : g.row.V.Denot). g.F.Fn.post c.args.f.now (x, (y, tt)) z)
     c.args.space.now n m part.0 c.args.out.now.items c.join_items.new.out.items
@@ -29,9 +31,11 @@ join_items-returns-then-not-is_open_below-clause-made g t c =
 -- fork
 pub join_items-returns-then-not-is_open_above-clause-made : goal.join_items-returns-then-not-is_open_above-clause-made
 join_items-returns-then-not-is_open_above-clause-made g t c =
+    -- what the top shows: the trees of both sides (0, 1), and that the lists are theirs (2, 3) and their fork's (4)
     let shows = c.in-Cut.ensures.shows in
     of_answer c.join_items-then-not-is_open_above.result _ _ c.join_items-then-not-is_open_above.ensures.made
     (λ u made n m are others.
+    -- the part of the other tree that the space comes to
     let part = c.part_in-other.ensures.part m others in
     joins_whole (λ (x : g.row.T.Denot) (y : g.row.U.Denot) (z : g.row.V.Denot). g.F.Fn.post c.args.f.now (x, (y, tt)) z)
     c.args.space.now n m part.0 c.args.out.now.items
@@ -47,6 +51,7 @@ pub join_items-returns-in-Value-clause-made : goal.join_items-returns-in-Value-c
 join_items-returns-in-Value-clause-made g t c =
     of_answer c.fill_items.result _ _ c.fill_items.ensures.made
     (λ u made n m are others.
+    -- the part of the other tree that the space comes to
     let part = c.part_in-other.ensures.part m others in
     joins_whole (λ (x : g.row.T.Denot) (y : g.row.U.Denot) (z : g.row.V.Denot). g.F.Fn.post c.args.f.now (x, (y, tt)) z)
     c.args.space.now n m part.0 c.args.out.now.items c.fill_items.new.out.items
@@ -61,6 +66,7 @@ pub join_side-returns-in-Value-clause-made : goal.join_side-returns-in-Value-cla
 join_side-returns-in-Value-clause-made g t c =
     of_answer c.fill_items.result _ _ c.fill_items.ensures.made
     (λ u made n m are others.
+    -- the part of the other tree that the space comes to
     let part = c.part_in-other.ensures.part m others in
     joins_whole (λ (x : g.row.T.Denot) (y : g.row.U.Denot) (z : g.row.V.Denot). g.F.Fn.post c.args.f.now (x, (y, tt)) z)
     c.args.space.now n m part.0 c.args.out.now.items c.fill_items.new.out.items
@@ -93,10 +99,12 @@ join_items-returns-in_ok-join_side-in-Cut-2-clause-back g t c =
 pub join_items-returns-in_ok-join_side-in-Cut-2-clause-made :
     goal.join_items-returns-in_ok-join_side-in-Cut-2-clause-made
 join_items-returns-in_ok-join_side-in-Cut-2-clause-made g t c =
+    -- what the top shows: the trees of both sides (0, 1), and that the lists are theirs (2, 3) and their fork's (4)
     let shows = c.in-Cut.ensures.shows in
     -- the fork joins what is made of both sides with the part of the other tree
     of_answer c.fork.result _ _ c.fork.ensures.made
     (λ u forks n m are others.
+    -- the part of the other tree that the space comes to
     let part = c.part_in-other.ensures.part m others in
     joins_whole (λ (x : g.row.T.Denot) (y : g.row.U.Denot) (z : g.row.V.Denot). g.F.Fn.post c.args.f.now (x, (y, tt)) z)
     c.args.space.now n m part.0 c.args.out.now.items c.fork.new.out.items part.2

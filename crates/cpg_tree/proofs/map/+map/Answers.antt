@@ -23,6 +23,7 @@ map_fork-returns-in-Value-clause-made g t c =
 -- the answers for both sides are added one behind the other and joined by a fork
 pub map_fork-returns-in_ok-map_items-in-Cut-2-clause-made : goal.map_fork-returns-in_ok-map_items-in-Cut-2-clause-made
 map_fork-returns-in_ok-map_items-in-Cut-2-clause-made g t c =
+    -- what the top shows: the trees of both sides (0, 1), and that the lists are theirs (2, 3) and their fork's (4)
     let shows = c.in-Cut.ensures.shows in
     of_answer c.fork.result _ _ c.fork.ensures.made
     (λ u forks n are. maps_fork (λ (x : g.row.T.Denot) (z : g.row.U.Denot). g.F.Fn.post c.args.f.now (x, tt) z)

@@ -6,6 +6,7 @@ use Rattle.cpg_tree.proofs.part.+part.Goals as goal
 -- the space is closed below the cut, so the part of the side above is that of the fork
 pub part_in-returns-then-not-is_open_below-clause-part : goal.part_in-returns-then-not-is_open_below-clause-part
 part_in-returns-then-not-is_open_below-clause-part g t c n are =
+    -- what the top shows: the trees of both sides (0, 1), and that the lists are theirs (2, 3) and their fork's (4)
     let shows = c.in-Cut.ensures.shows in
     part_above c.args.space.now c.in-Cut.variable c.in-Cut.cut shows.0 shows.1 n c.args.items.now shows.4 are
     c.part_of.result.now
@@ -15,6 +16,7 @@ part_in-returns-then-not-is_open_below-clause-part g t c n are =
 -- the space is closed above the cut, so the part of the side below is that of the fork
 pub part_in-returns-then-not-is_open_above-clause-part : goal.part_in-returns-then-not-is_open_above-clause-part
 part_in-returns-then-not-is_open_above-clause-part g t c n are =
+    -- what the top shows: the trees of both sides (0, 1), and that the lists are theirs (2, 3) and their fork's (4)
     let shows = c.in-Cut.ensures.shows in
     part_below c.args.space.now c.in-Cut.variable c.in-Cut.cut shows.0 shows.1 n c.args.items.now shows.4 are
     c.part_of-then-not-is_open_above.result.now

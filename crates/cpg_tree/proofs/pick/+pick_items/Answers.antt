@@ -1,4 +1,5 @@
--- Proof of `pick_items`: adds the tree of the values that a chooser picks, for the scenarios of a space.
+-- Proof of `pick_items`, which adds the tree of the values of `on` if the chooser, whose list is `items`, is true, and
+-- otherwise of `off`, for the scenarios of a space.
 use Rattle.std.proofs.Common.{Bool, ◌∙◌, sym, ap, arith}
 use Rattle.cpg_tree.specs.TreeNode.{Leaf}
 use Rattle.cpg_tree.specs.Flat.{flat}
@@ -11,9 +12,11 @@ use Rattle.cpg_tree.proofs.pick.+pick_items.Goals as goal
 -- the space is closed below the cut, so what the chooser's side above picks is what the fork picks
 pub returns-then-not-is_open_below-clause-made : goal.returns-then-not-is_open_below-clause-made
 returns-then-not-is_open_below-clause-made g t c =
+    -- what the top shows: the trees of both sides (0, 1), and that the lists are theirs (2, 3) and their fork's (4)
     let shows = c.in-Cut.ensures.shows in
     of_answer c.pick_items.result _ _ c.pick_items.ensures.made
     (λ u made n a b are ons offs.
+    -- the parts of both trees that the space comes to
     let on = c.part_in-on.ensures.part a ons in
     let off = c.part_in-off.ensures.part b offs in
     picks_whole c.args.space.now n a b on.0 off.0 c.args.out.now.items c.pick_items.new.out.items on.2 off.2
@@ -25,9 +28,11 @@ returns-then-not-is_open_below-clause-made g t c =
 -- the space is closed above the cut, so what the chooser's side below picks is what the fork picks
 pub returns-then-not-is_open_above-clause-made : goal.returns-then-not-is_open_above-clause-made
 returns-then-not-is_open_above-clause-made g t c =
+    -- what the top shows: the trees of both sides (0, 1), and that the lists are theirs (2, 3) and their fork's (4)
     let shows = c.in-Cut.ensures.shows in
     of_answer c.pick_items-then-not-is_open_above.result _ _ c.pick_items-then-not-is_open_above.ensures.made
     (λ u made n a b are ons offs.
+    -- the parts of both trees that the space comes to
     let on = c.part_in-on.ensures.part a ons in
     let off = c.part_in-off.ensures.part b offs in
     picks_whole c.args.space.now n a b on.0 off.0 c.args.out.now.items
@@ -42,6 +47,7 @@ pub returns-then-is_on-clause-made : goal.returns-then-is_on-clause-made
 returns-then-is_on-clause-made g t c =
     of_answer c.within_items.result _ _ c.within_items.ensures.made
     (λ u made n a b are ons offs.
+    -- the parts of both trees that the space comes to
     let on = c.part_in-on.ensures.part a ons in
     let off = c.part_in-off.ensures.part b offs in
     picks_whole c.args.space.now n a b on.0 off.0 c.args.out.now.items c.within_items.new.out.items on.2 off.2
@@ -53,6 +59,7 @@ pub returns-else-is_on-clause-made : goal.returns-else-is_on-clause-made
 returns-else-is_on-clause-made g t c =
     of_answer c.within_items-else-is_on.result _ _ c.within_items-else-is_on.ensures.made
     (λ u made n a b are ons offs.
+    -- the parts of both trees that the space comes to
     let on = c.part_in-on.ensures.part a ons in
     let off = c.part_in-off.ensures.part b offs in
     picks_whole c.args.space.now n a b on.0 off.0 c.args.out.now.items
@@ -81,10 +88,12 @@ returns-in_ok-pick_items-in-Cut-2-clause-back g t c =
 -- above the cut is that of the space given.
 pub returns-in_ok-pick_items-in-Cut-2-clause-made : goal.returns-in_ok-pick_items-in-Cut-2-clause-made
 returns-in_ok-pick_items-in-Cut-2-clause-made g t c =
+    -- what the top shows: the trees of both sides (0, 1), and that the lists are theirs (2, 3) and their fork's (4)
     let shows = c.in-Cut.ensures.shows in
     -- the fork joins what is picked on both sides, from the parts of the two trees
     of_answer c.fork.result _ _ c.fork.ensures.made
     (λ u forks n a b are ons offs.
+    -- the parts of both trees that the space comes to
     let on = c.part_in-on.ensures.part a ons in
     let off = c.part_in-off.ensures.part b offs in
     picks_whole c.args.space.now n a b on.0 off.0 c.args.out.now.items c.fork.new.out.items on.2 off.2

@@ -1,4 +1,5 @@
--- Recursion of `pick_items`: adds the tree of the values that a chooser picks, for the scenarios of a space.
+-- Recursion of `pick_items`, which adds the tree of the values of `on` if the chooser, whose list is `items`, is true,
+-- and otherwise of `off`, for the scenarios of a space.
 use Rattle.std.proofs.Common.{length}
 use Rattle.cpg_tree.proofs.pick.+pick_items.Given as goal
 

@@ -1,4 +1,5 @@
--- Proof of `within_items`: adds a tree for the scenarios of a space.
+-- Proof of `within_items`, which adds a tree as it is for the scenarios of a space: forks that the space leaves only
+-- one way to go are left out.
 use Rattle.std.proofs.Common.{rules}
 use Rattle.cpg_tree.proofs.Forks.{of_answer}
 use Rattle.cpg_tree.proofs.pick.within_items.Goals as goal
@@ -7,6 +8,7 @@ use Rattle.cpg_tree.proofs.pick.within_items.Goals as goal
 pub returns-clause-made : goal.returns-clause-made
 returns-clause-made g c =
     of_answer c.fill_items.result _ _ c.fill_items.ensures.made
+    -- p: the tree that was added, how its list stands in the new one, and what is known of it; only `value` is said otherwise
     (λ u made n are. let p = made n are in (
       p.0,
       p.1,

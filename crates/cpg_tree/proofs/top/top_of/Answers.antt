@@ -1,4 +1,4 @@
--- Proof of `top_of`: the top of the tree that a list is of.
+-- Proof of `top_of`, which returns the top of a tree.
 use Rattle.std.proofs.Common.{◌∙◌, ap, length, ◌++◌, ◌∷◌, [], take, drop, arith}
 use Rattle.cpg_tree.specs.declared.item.TreeItem.{TreeItem}
 use Rattle.cpg_tree.proofs.Flats.{shows_value, shows_cut, flat-long}

@@ -1,4 +1,4 @@
--- Proof of `are_at_least`: whether each value of a tree is a time of at least this.
+-- Proof of `are_at_least`: whether each leaf of a tree has a time that is at least `least`.
 use Rattle.std.proofs.Common.{All, subst}
 use Rattle.std.proofs.lemmas.Bool.{OnTrue_at}
 use Rattle.std.proofs.lemmas.List.{take_all}

@@ -1,4 +1,4 @@
--- Loops of `are_at_least`: whether each value of a tree is a time of at least this.
+-- Loops of `are_at_least`: whether each leaf of a tree has a time that is at least `least`.
 use Rattle.std.proofs.Common.{All, take}
 use Rattle.cpg_tree.specs.Later.{IsItemFrom}
 use Rattle.cpg_tree.proofs.tree.are_at_least.Given as goal

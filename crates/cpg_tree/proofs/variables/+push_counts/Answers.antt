@@ -1,4 +1,5 @@
--- Proof of `push_counts`: adds the tree of the count of a process, if it is `first` or more.
+-- Proof of `push_counts`, which adds the tree of the fault count of a process, for the scenarios in which it is from
+-- `first` to `k`.
 use Rattle.std.proofs.Common.{ℕ, ◌≤◌, ◌<◌, ◌≡◌, ◌∙◌, arith}
 use Rattle.cpg_tree.proofs.Forks.{of_answer}
 use Rattle.cpg_tree.proofs.VariableLaws.{adds_last, adds_counts}
@@ -8,7 +9,7 @@ use Rattle.cpg_tree.proofs.variables.+push_counts.Goals as goal
 before : (a b : ℕ) → a ≤ b → (a ≡ b → ⊥) → a < b
 before a b l n = omega arith
 
--- the next count is closer to the last one
+-- the next count is at most the last one, and fewer counts are left from there on
 pub push_counts-requires : goal.push_counts-requires
 push_counts-requires t c =
     let less : c.args.first < c.args.k = before c.args.first c.args.k c.requires.first c.if-first-k.false in

@@ -1,4 +1,5 @@
--- Recursion of `push_counts`: adds the tree of the count of a process, if it is `first` or more.
+-- Recursion of `push_counts`, which adds the tree of the fault count of a process, for the scenarios in which it is
+-- from `first` to `k`.
 use Rattle.std.proofs.Common.{◌-◌}
 use Rattle.cpg_tree.proofs.variables.+push_counts.Given as goal
 

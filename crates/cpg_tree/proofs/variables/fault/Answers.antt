@@ -1,4 +1,5 @@
--- Proof of `fault`: how many faults a process has.
+-- Proof of `fault`, which returns the tree that has in each scenario of at most `k` faults the fault count of a
+-- process.
 use Rattle.std.proofs.Common.{ℕ, ◌≡◌, sym, subst, arith}
 use Rattle.cpg_tree.specs.Tree.{TreeState, DoPathsPass, IsNumber}
 use Rattle.cpg_tree.proofs.Flats.{all_added}

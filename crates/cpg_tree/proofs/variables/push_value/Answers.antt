@@ -1,4 +1,4 @@
--- Proof of `push_value`: adds the tree of the value of a condition.
+-- Proof of `push_value`, which adds the tree of the value of a condition: false below a fork at 0, and true above.
 use Rattle.std.proofs.Common.{◌+◌, ◌∙◌, arith}
 use Rattle.cpg_tree.proofs.Forks.{of_answer}
 use Rattle.cpg_tree.proofs.VariableLaws.{adds_value}

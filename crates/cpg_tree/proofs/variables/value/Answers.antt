@@ -1,4 +1,4 @@
--- Proof of `value`: the value of a condition.
+-- Proof of `value`, which returns the tree that has in each scenario of at most `k` faults the value of a condition.
 use Rattle.std.proofs.Common.{ℕ, ◌+◌, ◌≡◌, Bool, sym, subst, arith}
 use Rattle.cpg_base.specs.Scenario.{number_of_value}
 use Rattle.cpg_tree.specs.Tree.{TreeState, DoPathsPass, IsNumber}

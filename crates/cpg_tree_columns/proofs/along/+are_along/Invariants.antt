@@ -1,3 +1,4 @@
+-- Recursion of `are_along`, which says whether the forks stand along the order on each way down.
 use Rattle.std.proofs.Common.{length}
 use Rattle.cpg_tree_columns.proofs.along.+are_along.Given as goal
 

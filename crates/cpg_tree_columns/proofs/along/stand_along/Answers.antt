@@ -1,3 +1,6 @@
+-- Proof of `stand_along`, which says whether the columns of a tree are known to stand by their least scenarios along
+-- the order, as they are found from left to right. `root` is the tree that the items are of, as `are` says; `good`: it
+-- is in the form that trees are kept in.
 use Rattle.std.proofs.Common.{ℕ, Option, sym, ap, subst}
 use Rattle.cpg_cube.specs.declared.column.Column.{Column}
 use Rattle.cpg_cube.specs.Keys.{AreByLows}
@@ -12,6 +15,7 @@ pub returns : goal.returns
 returns c =
     let root : TreeNode (Option ℕ) = c.items.ensures.flat.0 in
     let are = c.items.ensures.flat.1 in
+    -- the tree's list is that of a good root
     let good = c.items.ensures.good root are in
     let g = c.args.problem.now in
     let order = c.args.order.now in

@@ -1,3 +1,5 @@
+-- Proof of `column_count`, which returns how many columns the tree has: one for each leaf with a time. `root` is the
+-- tree that the items are of, as `are` says.
 use Rattle.std.proofs.Common.{ℕ, ◌∙◌, [], Option, length, sym, ap}
 use Rattle.cpg_tree.specs.TreeNode.{TreeNode}
 use Rattle.cpg_tree_columns.specs.Columns.{columns_of_paths}

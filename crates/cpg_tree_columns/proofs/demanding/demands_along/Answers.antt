@@ -1,3 +1,6 @@
+-- Proof of `demands_along`, which returns the demands of the columns from right to left, if the columns are known to
+-- stand by their least scenarios along the order. `root` is the tree that the items are of, as `are` says; `good`: it
+-- is in the form that trees are kept in.
 use Rattle.std.proofs.Common.{ℕ, ◌∙◌, ◌++◌, [], Option, arith, reverse, map, sym, ap, subst}
 use Rattle.cpg_cube.specs.declared.column.Column.{Column}
 use Rattle.cpg_cube.specs.Cube.{IsRising}
@@ -16,6 +19,7 @@ pub returns-then-branch-clause-along : goal.returns-then-branch-clause-along
 returns-then-branch-clause-along c =
     let root : TreeNode (Option ℕ) = c.items.ensures.flat.0 in
     let are = c.items.ensures.flat.1 in
+    -- the tree's list is that of a good root
     let good = c.items.ensures.good root are in
     let g = c.args.problem.now in
     let order = c.args.order.now in

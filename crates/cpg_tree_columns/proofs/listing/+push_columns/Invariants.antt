@@ -1,5 +1,4 @@
--- Recursion of `push_columns`: adds the columns on from a cube, which is narrowed on the way down and restored on the
--- way up.
+-- Recursion of `push_columns`, which adds the columns of a tree that is entered with a cube, from left to right.
 use Rattle.std.proofs.Common.{length}
 use Rattle.cpg_tree_columns.proofs.listing.+push_columns.Given as goal
 

@@ -1,4 +1,6 @@
--- Proof of `columns_are_tidy`: its contract says that the columns of a tree of a graph are tidy.
+-- Proof of `columns_are_tidy`, which does nothing: its contract says that the columns of a tree over a graph's
+-- scenarios are tidy. `root` is the tree that the items are of, as `are` says; `good`: it is in the form that trees
+-- are kept in; `seen_paths`: callers see its paths.
 use Rattle.std.proofs.Common.{ℕ, ◌≡◌, ◌∙◌, ◌++◌, List, Option, All, IsPermutation, sym, ap, ap₂, subst}
 use Rattle.std.proofs.lemmas.List.Sorted.{IsPermutation-refl}
 use Rattle.cpg_cube.specs.declared.literal.Literal.{Literal}
@@ -13,11 +15,13 @@ use Rattle.cpg_tree_columns.proofs.ColumnsFound.{all_columns}
 use Rattle.cpg_tree_columns.proofs.TidyColumns.{tidy_columns}
 use Rattle.cpg_tree_columns.proofs.listing.columns_are_tidy.Goals as goal
 
--- the columns of the paths of a good tree are tidy, and the tree's paths are those
+-- the columns of the paths of a good tree over known variables are tidy (`tidy_columns`), and the tree's paths are
+-- such
 pub returns : goal.returns
 returns c =
     let root : TreeNode (Option ℕ) = c.items-items.ensures.flat.0 in
     let are = c.items-items.ensures.flat.1 in
+    -- the tree's list is that of a good root
     let good = c.items-items.ensures.good root are in
     let seen_paths = c.items-items.ensures.paths root are in
     let g = c.args.problem.now in

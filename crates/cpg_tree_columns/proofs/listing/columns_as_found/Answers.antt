@@ -1,4 +1,5 @@
--- Proof of `columns_as_found`: the paths with a number, each with its own cube, from the left to the right.
+-- Proof of `columns_as_found`, which returns the columns of a tree from left to right. `root` is the tree that the
+-- items are of, as `are` says; `good`: it is in the form that trees are kept in; `seen_paths`: callers see its paths.
 use Rattle.std.proofs.Common.{ℕ, ◌∙◌, ◌++◌, List, Option, sym, ap, ap₂, subst}
 use Rattle.cpg_cube.specs.declared.literal.Literal.{Literal}
 use Rattle.cpg_tree.specs.TreeNode.{TreeNode}
@@ -13,11 +14,13 @@ pub push_columns-requires-clause-cuts : goal.push_columns-requires-clause-cuts
 push_columns-requires-clause-cuts c n are = subst (λ (k : ℕ). HasCuts k n) (sym c.faults.ensures)
     (good_cuts c.args.tree.now.faults n (c.items.ensures.good n are))
 
--- the columns added are those of all paths with a number
+-- `push_columns` adds the columns of the tree that is entered with the whole cube, which are those of all paths with a
+-- number
 pub returns : goal.returns
 returns c =
     let root : TreeNode (Option ℕ) = c.items.ensures.flat.0 in
     let are = c.items.ensures.flat.1 in
+    -- the tree's list is that of a good root
     let good = c.items.ensures.good root are in
     let seen_paths = c.items.ensures.paths root are in
     let k : ℕ = c.args.tree.now.faults in

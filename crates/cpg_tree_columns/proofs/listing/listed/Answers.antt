@@ -1,4 +1,4 @@
--- Proof of `listed`: the paths with a number, each with its own cube, from the left to the right.
+-- Proof of `listed`, which returns the columns of a tree from left to right; they are tidy.
 use Rattle.std.proofs.Common.{All, sym, subst}
 use Rattle.cpg_tree_columns.specs.Columns.{IsTidyColumn}
 use Rattle.cpg_tree_columns.proofs.listing.listed.Goals as goal

@@ -1,5 +1,5 @@
--- Proof of `listing_along`: the paths with a number, each with its own cube, from the left to the right, and whether
--- they are known to stand by the least scenario along the order that they match.
+-- Proof of `listing_along`, which returns the columns of a tree from left to right, and whether they are known to
+-- stand by their least scenarios along the order.
 use Rattle.std.proofs.Common.{sym, subst}
 use Rattle.cpg_cube.specs.declared.column.Column.{Column}
 use Rattle.cpg_cube.specs.Keys.{AreByLows}

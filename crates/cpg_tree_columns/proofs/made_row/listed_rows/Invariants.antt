@@ -1,4 +1,4 @@
--- Loops of `listed_rows`: the rows, listed.
+-- Loops of `listed_rows`, which returns the rows with their columns listed.
 use Rattle.std.proofs.Common.{◌≡◌, ◌++◌}
 use Rattle.cpg_tree_columns.proofs.made_row.listed_rows.Given as goal
 

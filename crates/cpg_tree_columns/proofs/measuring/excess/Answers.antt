@@ -1,4 +1,4 @@
--- Proof of `excess`: how far an end is past its due at most, by the ends of the processes and the greatest of each.
+-- Proof of `excess`, which returns the greatest excess.
 use Rattle.std.proofs.Common.{ℕ, ◌+◌, ◌<◌, ◌≡◌, ◌∙◌, Option, None, length, arith, sym, ap, subst}
 use Rattle.std.proofs.lemmas.List.{get_or_default}
 use Rattle.std.proofs.lemmas.List.Elements.{All-get_or}
@@ -12,7 +12,7 @@ use Rattle.cpg_tree_columns.proofs.PeaksTop.{ends_tops, past_count, past_tops_ar
 use Rattle.cpg_tree_columns.proofs.measuring.excess.Goals as goal
 use Rattle.cpg_tree_columns.proofs.measuring.excess.Goals.{then-reaches+in_ok-peak-2, else-reaches}
 
--- there is a top for each process
+-- the tops of the excess are one for each process, and this process is one of the graph
 pub index-requires : goal.index-requires
 index-requires c =
     let g = c.args.problem.now in

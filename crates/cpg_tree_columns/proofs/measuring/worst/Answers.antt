@@ -1,4 +1,4 @@
--- Proof of `worst`: the greatest finish, by the ends of the processes and the greatest of each.
+-- Proof of `worst`, which returns the greatest finish.
 use Rattle.std.proofs.Common.{ℕ, ◌+◌, ◌<◌, ◌≡◌, ◌∙◌, Option, None, get_or, rules, length, arith, sym, ap, subst}
 use Rattle.std.proofs.lemmas.List.{get_or_default}
 use Rattle.cpg_base.specs.Graph.{process_count}

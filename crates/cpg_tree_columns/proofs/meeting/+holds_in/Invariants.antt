@@ -1,4 +1,4 @@
--- Recursion of `holds_in`: whether a tree is true in some scenario of a space.
+-- Recursion of `holds_in`, which says whether the tree is true in some scenario of the space.
 use Rattle.std.proofs.Common.{length}
 use Rattle.cpg_tree_columns.proofs.meeting.+holds_in.Given as goal
 

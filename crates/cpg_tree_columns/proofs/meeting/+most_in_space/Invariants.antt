@@ -1,5 +1,5 @@
--- Recursion of `most_in_space`: the greatest of a number and of a tree's numbers in a space where another tree is
--- true.
+-- Recursion of `most_in_space`, which returns the greater of `best` and of the greatest number that the tree has in a
+-- scenario of the space in which `wanted` is true; `None` exactly if there is neither.
 use Rattle.std.proofs.Common.{length}
 use Rattle.cpg_tree_columns.proofs.meeting.+most_in_space.Given as goal
 

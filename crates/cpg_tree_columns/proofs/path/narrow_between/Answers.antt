@@ -1,3 +1,5 @@
+-- Proof of `narrow_between`, which narrows the cube by a literal, and returns that step: the literal is put in its
+-- place, or met with the one on its variable.
 use Rattle.std.proofs.Common.{◌≡◌, ◌<◌, ◌∙◌, ℕ, Some, None, length, arith, refl, sym, ap, rules}
 use Rattle.std.specs.Prelude.{position, slice_index_or, slice_set}
 use Rattle.std.specs.Vec.{vec_len}
@@ -16,13 +18,13 @@ push_reserved-requires c =
     let small : c.args.literal.variable < 256 = search rules in
     omega (arith, room_last c.args.literal small c.args.literals.now.items c.requires.path e, long, c.requires.room)
 
--- then it is the last one
+-- no literal is on this variable or a later one, and narrowing puts the literal last then, as the code does
 pub returns-in_default-clause-narrowed : goal.returns-in_default-clause-narrowed
 returns-in_default-clause-narrowed c =
     let e : position (from_variable c.args.literal.variable) c.args.literals.now.items ≡ None = search rules in
     c.push_reserved.ensures.items ∙ sym (narrowed-last c.args.literal c.args.literals.now.items e)
 
--- the place found has a literal on the variable, and the met range set there is the narrowing
+-- the place that is found has a literal on the variable, and narrowing meets it with the given one
 pub returns-then-other-literal-clause-narrowed : goal.returns-then-other-literal-clause-narrowed
 returns-then-other-literal-clause-narrowed c =
     let xs = c.args.literals.now.items in
@@ -58,7 +60,7 @@ put_at-requires-clause-room c =
       c.requires.room,
     )
 
--- the literal put in before it is the narrowing
+-- the place that is found has a literal on a later variable, and narrowing puts the given one before it
 pub returns-clause-narrowed : goal.returns-clause-narrowed
 returns-clause-narrowed c =
     let xs = c.args.literals.now.items in

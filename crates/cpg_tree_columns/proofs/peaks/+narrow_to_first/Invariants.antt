@@ -1,3 +1,5 @@
+-- Recursion of `narrow_to_first`, which narrows the cube to that of the first leaf from the left that has the number,
+-- and returns true.
 use Rattle.std.proofs.Common.{length}
 use Rattle.cpg_tree_columns.proofs.peaks.+narrow_to_first.Given as goal
 

@@ -1,3 +1,5 @@
+-- Proof of `first_with_number`, which returns the least scenario along the order that has some number; `None` exactly
+-- if none has one.
 use Rattle.std.proofs.Common.{ℕ, ◌≡◌, ◌∙◌, List, Option, Some, IsPermutation, All, get_or, unwrap_or, sym, ap, subst}
 use Rattle.std.proofs.lemmas.Bool.{cond-true}
 use Rattle.std.proofs.lemmas.List.{get_or_default}
@@ -21,7 +23,8 @@ returns-in_default-clause-none c k d l =
     (sym c.as_slice-columns.ensures.value ∙ rw c.in_default.is at c.in_ok-place.ensures.none)
     (get_or c.args.tree.now.paths k d) (Contains-get_or c.args.tree.now.paths k d l)
 
--- the column with the first lows has the least scenario that has a number
+-- the lows of the column that comes first are its least scenario, and a scenario with a number is on the path of some
+-- column, which comes no earlier
 pub returns-clause-some : goal.returns-clause-some
 returns-clause-some c =
     let g = c.args.problem.now in
@@ -34,6 +37,7 @@ returns-clause-some c =
     let column : Column = get_or columns at c.index-columns-place.result in
     let same = sym c.as_slice-columns.ensures.value in
     let few = c.processes-processes.ensures.within.few_processes in
+    -- the columns are those of the paths, in some order
     let all : IsPermutation (columns_of_paths paths) columns =
     permutation_of_equal (columns_of_paths paths) columns (sym c.in_ok-columns.ensures.all ∙ same) in
     let tidy : All (IsTidyColumn g) columns = subst (All (IsTidyColumn g)) same c.in_ok-columns.ensures.tidy in

@@ -1,3 +1,6 @@
+-- Proof of `greatest`, which returns the greatest number with the least scenario along the order that has it; `None`
+-- exactly if no path has a number. `root` is the tree that the items are of, as `are` says; `seen_paths`: callers see
+-- its paths.
 use Rattle.std.proofs.Common.{ℕ, ◌≢◌, ◌∙◌, Option, List, Some, All, Contains, get_or, sym, subst}
 use Rattle.std.proofs.lemmas.List.Elements.{Contains-get_or}
 use Rattle.cpg_base.specs.Scenario.{IsLeast}
@@ -30,7 +33,7 @@ unreachable-requires c =
     (subst (All (λ (p : Path (Option ℕ)). p.1 ≢ Some c.in-Some.most)) seen_paths
     (rw c.in-None.is at c.in_ok-least.ensures.none))
 
--- the greatest number with its least scenario is what is asked for
+-- the number is the greatest of the tree, and the scenario the least that has it, by what the two calls answer
 pub returns-clause-some : goal.returns-clause-some
 returns-clause-some c =
     let root : TreeNode (Option ℕ) = c.items.ensures.flat.0 in

@@ -1,3 +1,6 @@
+-- Proof of `least_found`, which returns the least scenario of the first column from the left that has the time; `None`
+-- exactly if no column has it. `root` is the tree that the items are of, as `are` says; `good`: it is in the form that
+-- trees are kept in; `seen_paths`: callers see its paths.
 use Rattle.std.proofs.Common.{ℕ, ◌≡◌, ◌∙◌, Option, Some, List, option_map, sym, ap, subst}
 use Rattle.std.specs.Option.{IfSome}
 use Rattle.std.proofs.lemmas.Bool.{cond-true}
@@ -29,8 +32,10 @@ pub returns-then-not-branch-clause-is : goal.returns-then-not-branch-clause-is
 returns-then-not-branch-clause-is c =
     let root : TreeNode (Option ℕ) = c.items.ensures.flat.0 in
     let are = c.items.ensures.flat.1 in
+    -- the tree's list is that of a good root
     let good = c.items.ensures.good root are in
     let seen_paths = c.items.ensures.paths root are in
+    -- the columns listed from the root are those of the tree's paths
     let seen = columns_seen c.args.tree.now.faults root good c.args.tree.now.paths seen_paths c.faults.result
     c.faults.ensures c.whole-cube.result
     c.whole-cube.ensures in
@@ -38,16 +43,19 @@ returns-then-not-branch-clause-is c =
     (sym (from_false c.in_ok-narrow_to_first.field-0 c.if-not-branch.true c.in_ok-narrow_to_first.ensures.none root are)
     ∙ ap (first_with c.args.wanted) seen)
 
--- some scenario of the graph matches the first column with the number
+-- the first column with the number is that of a path, whose literals are on variables of the graph
 pub least-requires : goal.least-requires
 least-requires c =
     let root : TreeNode (Option ℕ) = c.items.ensures.flat.0 in
     let are = c.items.ensures.flat.1 in
+    -- the tree's list is that of a good root
     let good = c.items.ensures.good root are in
     let seen_paths = c.items.ensures.paths root are in
+    -- the columns listed from the root are those of the tree's paths
     let seen = columns_seen c.args.tree.now.faults root good c.args.tree.now.paths seen_paths c.faults.result
     c.faults.ensures c.whole-cube.result
     c.whole-cube.ensures in
+    -- the cube is that of the first column with the number
     let cube : List Literal = c.narrow_to_first.new.cube in
     let first : first_with c.args.wanted (columns_of_paths c.args.tree.now.paths) ≡ Some cube =
     sym (ap (first_with c.args.wanted) seen) ∙
@@ -63,12 +71,15 @@ pub returns-clause-is : goal.returns-clause-is
 returns-clause-is c =
     let root : TreeNode (Option ℕ) = c.items.ensures.flat.0 in
     let are = c.items.ensures.flat.1 in
+    -- the tree's list is that of a good root
     let good = c.items.ensures.good root are in
     let seen_paths = c.items.ensures.paths root are in
     let g = c.args.problem.now in
+    -- the columns listed from the root are those of the tree's paths
     let seen = columns_seen c.args.tree.now.faults root good c.args.tree.now.paths seen_paths c.faults.result
     c.faults.ensures c.whole-cube.result
     c.whole-cube.ensures in
+    -- the cube is that of the first column with the number
     let cube : List Literal = c.narrow_to_first.new.cube in
     let first : first_with c.args.wanted (columns_of_paths c.args.tree.now.paths) ≡ Some cube =
     sym (ap (first_with c.args.wanted) seen) ∙
@@ -79,18 +90,22 @@ returns-clause-is c =
     c.requires.faults c.requires.known c.args.wanted cube first)
     ∙ sym (ap (option_map (lows g)) first)
 
--- if the columns stand along an order, the lows of the first with the number are the least scenario that has it
+-- if the columns stand along an order, none with the number comes before the first one, so its lows are the least
+-- scenario that has it
 pub returns-clause-least : goal.returns-clause-least
 returns-clause-least c =
     let root : TreeNode (Option ℕ) = c.items.ensures.flat.0 in
     let are = c.items.ensures.flat.1 in
+    -- the tree's list is that of a good root
     let good = c.items.ensures.good root are in
     let seen_paths = c.items.ensures.paths root are in
     let g = c.args.problem.now in
     let paths : List (Path (Option ℕ)) = c.args.tree.now.paths in
+    -- the columns listed from the root are those of the tree's paths
     let seen = columns_seen c.args.tree.now.faults root good c.args.tree.now.paths seen_paths c.faults.result
     c.faults.ensures c.whole-cube.result
     c.whole-cube.ensures in
+    -- the cube is that of the first column with the number
     let cube : List Literal = c.narrow_to_first.new.cube in
     let first : first_with c.args.wanted (columns_of_paths paths) ≡ Some cube =
     sym (ap (first_with c.args.wanted) seen) ∙

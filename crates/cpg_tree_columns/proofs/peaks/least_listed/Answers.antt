@@ -1,3 +1,6 @@
+-- Proof of `least_listed`, which returns the least scenario along the order that has the number, by a list of the
+-- columns that have it; `None` exactly if no path has it. `root` is the tree that the items are of, as `are` says;
+-- `good`: it is in the form that trees are kept in; `seen_paths`: callers see its paths.
 use Rattle.std.proofs.Common.{ℕ, ◌≡◌, ◌≢◌, ◌∙◌, Option, Some, None, All, sym, subst}
 use Rattle.std.specs.Option.{IfNone, IfSome}
 use Rattle.cpg_base.specs.Scenario.{Scenario, IsLeast}
@@ -26,12 +29,15 @@ pub returns-clause-none : goal.returns-clause-none
 returns-clause-none c =
     let root : TreeNode (Option ℕ) = c.items-items.ensures.flat.0 in
     let are = c.items-items.ensures.flat.1 in
+    -- the tree's list is that of a good root
     let good = c.items-items.ensures.good root are in
     let seen_paths = c.items-items.ensures.paths root are in
     let g = c.args.problem.now in
     let all : TreeState (Option ℕ) = c.args.tree.now in
+    -- the tree of the number alone
     let only : TreeState (Option ℕ) = c.in_ok-alone.alone in
     let same : c.args.tree.now.faults ≡ g.faults = c.requires.faults in
+    -- the given tree is the one with this root
     let is : record { faults = g.faults; paths = paths_of g.faults root } ≡ all =
     subst (λ (n : ℕ). record { faults = n; paths = paths_of n root } ≡ all) same
     (state_seen c.args.tree.now root seen_paths) in
@@ -46,18 +52,22 @@ returns-clause-none c =
     (subst (λ (t : TreeState (Option ℕ)). All (λ (p : Path (Option ℕ)). IsKnown g p.0) t.paths)
     (sym is) c.requires.known))
 
--- the least scenario of the tree of the number alone is the least that has the number
+-- the tree of the number alone has it just where the given tree does, so the least scenario of a number there is the
+-- one wanted
 pub returns-clause-some : goal.returns-clause-some
 returns-clause-some c =
     let root : TreeNode (Option ℕ) = c.items-items.ensures.flat.0 in
     let are = c.items-items.ensures.flat.1 in
+    -- the tree's list is that of a good root
     let good = c.items-items.ensures.good root are in
     let seen_paths = c.items-items.ensures.paths root are in
     let g = c.args.problem.now in
     let order = c.args.order.now in
     let all : TreeState (Option ℕ) = c.args.tree.now in
+    -- the tree of the number alone
     let only : TreeState (Option ℕ) = c.in_ok-alone.alone in
     let same : c.args.tree.now.faults ≡ g.faults = c.requires.faults in
+    -- the given tree is the one with this root
     let is : record { faults = g.faults; paths = paths_of g.faults root } ≡ all =
     subst (λ (n : ℕ). record { faults = n; paths = paths_of n root } ≡ all) same
     (state_seen c.args.tree.now root seen_paths) in

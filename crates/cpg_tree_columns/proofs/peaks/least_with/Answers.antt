@@ -1,3 +1,5 @@
+-- Proof of `least_with`, which returns the least scenario along the order that has the number; `None` exactly if no
+-- path has it.
 use Rattle.std.proofs.Common.{ℕ, ◌≡◌, ◌≢◌, Option, Some, List, All, option_map}
 use Rattle.std.specs.Option.{IfNone, IfSome}
 use Rattle.cpg_base.specs.Scenario.{Scenario, IsLeast}
@@ -9,7 +11,7 @@ use Rattle.cpg_tree_columns.specs.Greatest.{HasValueAt, IsLeastWhereSorted}
 use Rattle.cpg_tree_columns.proofs.FirstColumns.{none_first, some_sorted}
 use Rattle.cpg_tree_columns.proofs.peaks.least_with.Goals as goal
 
--- the columns stand along the order, and none has the number
+-- the columns stand along the order; if none has the number, no path has, since each path with a time has a column
 pub returns-then-branch-clause-none : goal.returns-then-branch-clause-none
 returns-then-branch-clause-none c =
     let g = c.args.problem.now in

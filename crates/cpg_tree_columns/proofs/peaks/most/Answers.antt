@@ -1,3 +1,6 @@
+-- Proof of `most`, which returns the greatest number of the paths; `None` exactly if no path has one. `root` is the
+-- tree that the items are of, as `are` says; `good`: it is in the form that trees are kept in; `seen_paths`: callers
+-- see its paths.
 use Rattle.std.proofs.Common.{ℕ, List, Option, None, All, ◌≡◌, sym, subst}
 use Rattle.std.specs.Option.{IfNone, IfSome}
 use Rattle.cpg_tree_columns.specs.Greatest.{IsGreatestNumber}
@@ -18,11 +21,12 @@ returns-clause-none c =
     IfNone c.most_of.result (All (λ (p : Path (Option ℕ)). p.1 ≡ None) paths)) (sym seen_paths)
     (most_none c.args.tree.now.faults root c.most_of.result most)
 
--- the number that is found is the greatest of the paths that callers see
+-- the number that is found is the greatest of the leaves, and so of the paths that callers see
 pub returns-clause-some : goal.returns-clause-some
 returns-clause-some c =
     let root : TreeNode (Option ℕ) = c.items.ensures.flat.0 in
     let are = c.items.ensures.flat.1 in
+    -- the tree's list is that of a good root
     let good = c.items.ensures.good root are in
     let seen_paths = c.items.ensures.paths root are in
     let most = c.most_of.ensures root are in

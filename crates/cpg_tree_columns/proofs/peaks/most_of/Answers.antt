@@ -1,3 +1,4 @@
+-- Proof of `most_of`, which returns the greatest number of the leaves; `None` if no leaf has one.
 use Rattle.std.proofs.Common.{ℕ, ◌∙◌, Option, arith, sym, ap}
 use Rattle.std.proofs.lemmas.List.{at_drop_all}
 use Rattle.cpg_tree_columns.specs.Greatest.{greater}

@@ -1,3 +1,4 @@
+-- Loops of `most_of`, which returns the greatest number of the leaves; `None` if no leaf has one.
 use Rattle.std.proofs.Common.{◌≡◌, drop}
 use Rattle.cpg_tree_columns.specs.Greatest.{greater}
 use Rattle.cpg_tree_columns.proofs.GreatestTimes.{most_in}

@@ -1,4 +1,4 @@
--- Proof of `row`: the row of an item.
+-- Proof of `row`, which returns the row of an item.
 use Rattle.std.proofs.Common.{◌≤◌, ap, arith, length}
 use Rattle.cpg_base.specs.Graph.{process_count}
 use Rattle.cpg_tree_columns.proofs.rows.row.Goals as goal

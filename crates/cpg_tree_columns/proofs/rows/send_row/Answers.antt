@@ -1,4 +1,4 @@
--- Proof of `send_row`: the row of a send, its columns by their least scenarios.
+-- Proof of `send_row`, which returns the row of a message or broadcast, its columns by their least scenarios.
 use Rattle.std.proofs.Common.{refl}
 use Rattle.cpg_tree_columns.specs.Columns.{columns_of_paths}
 use Rattle.cpg_tree_columns.specs.MadeRows.{AreEntriesOf}
@@ -22,7 +22,8 @@ returns-then-branch-clause-columns c =
     } in
     rw c.kept.ensures made
 
--- the columns are put into that order first, and then are the row
+-- the columns are listed of the tree and put in order by their least scenarios, so they are the item's entries and
+-- make the row
 pub returns-clause-columns : goal.returns-clause-columns
 returns-clause-columns c =
     let made : AreEntriesOf c.args.problem.now c.args.urgency.now c.args.tree c.in_ok-columns.columns.items = record {

@@ -1,5 +1,5 @@
--- Proof of `start_as_found`: how many columns the tree of a start has, if they are its row as they are found: they
--- stand by their least scenarios, and none of them touch.
+-- Proof of `start_as_found`, which returns how many columns the tree of a start has if these are already its row: they
+-- stand by their least scenarios, and merging would join none.
 use Rattle.std.proofs.Common.{ℕ, ◌≡◌, false, All, ◌∙◌, length, map, reverse, refl, sym, ap, subst, rules}
 use Rattle.std.proofs.lemmas.List.{length-map, length-reverse}
 use Rattle.std.proofs.lemmas.List.Elements.{All-weaker}

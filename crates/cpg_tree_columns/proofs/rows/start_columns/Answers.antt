@@ -1,4 +1,4 @@
--- Proof of `start_columns`: the columns of a start, merged.
+-- Proof of `start_columns`, which returns the columns that the tree of a start lists, merged.
 use Rattle.std.proofs.Common.{◌≡◌, false, All}
 use Rattle.std.proofs.lemmas.List.Elements.{All-weaker}
 use Rattle.cpg_cube.specs.Cube.{is_whole}

@@ -1,4 +1,4 @@
--- Loops of `bar_of`: the greatest of the numbers, or 0 if there is none.
+-- Loops of `bar_of`, which returns the greatest of the tops, or 0 if there is none.
 use Rattle.std.proofs.Common.{ℕ, ◌≡◌, Option, drop, fold, map, max, unwrap_or}
 use Rattle.cpg_tree_columns.specs.Tops.{bar_of}
 use Rattle.cpg_tree_columns.proofs.tops.bar_of.Given as goal

@@ -1,4 +1,5 @@
--- Proof of `past_tops`: how far the greatest number of each process is past the process's due, if it is past it.
+-- Proof of `past_tops`: returns, for each process, how far its top is past its due; `None` if it has none or isn't
+-- past it.
 use Rattle.std.proofs.Common.{None, get_or, rules}
 use Rattle.cpg_base.specs.Duration.{due}
 use Rattle.cpg_base.proofs.Lists.{map_below_push}

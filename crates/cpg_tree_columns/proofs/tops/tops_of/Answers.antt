@@ -1,4 +1,4 @@
--- Proof of `tops_of`: the greatest number of each tree, if it has one.
+-- Proof of `tops_of`, which returns the greatest number of each tree; `None` for a tree without numbers.
 use Rattle.std.proofs.Common.{ℕ, ◌<◌, ◌∙◌, Option, arith, length, sym}
 use Rattle.std.proofs.lemmas.List.{get_or_default}
 use Rattle.cpg_tree.specs.Tree.{TreeState}

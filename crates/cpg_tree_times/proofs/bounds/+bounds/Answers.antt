@@ -30,6 +30,7 @@ push_fork_bounds-returns-in-Value-clause-span g t c n are =
 pub push_fork_bounds-returns-in_ok-put-in-Cut-clause-bounds :
     goal.push_fork_bounds-returns-in_ok-put-in-Cut-clause-bounds
 push_fork_bounds-returns-in_ok-put-in-Cut-clause-bounds g t c n are =
+    -- what the top shows: the trees of both sides (0, 1), and that the lists are theirs (2, 3) and their fork's (4)
     let shows = c.in-Cut.ensures.shows in
     bounds_fork (g.R.Reading.number c.args.read.now) c.in-Cut.variable c.in-Cut.cut shows.0 shows.1 n c.args.items.now
     shows.4 are c.in_ok-low-in-Cut.low c.in_ok-high-in-Cut.high
@@ -42,6 +43,7 @@ push_fork_bounds-returns-in_ok-put-in-Cut-clause-bounds g t c n are =
 -- the span of a fork is made of those of its sides
 pub push_fork_bounds-returns-in_ok-put-in-Cut-clause-span : goal.push_fork_bounds-returns-in_ok-put-in-Cut-clause-span
 push_fork_bounds-returns-in_ok-put-in-Cut-clause-span g t c n are =
+    -- what the top shows: the trees of both sides (0, 1), and that the lists are theirs (2, 3) and their fork's (4)
     let shows = c.in-Cut.ensures.shows in
     span_fork (g.R.Reading.number c.args.read.now) c.in-Cut.variable c.in-Cut.cut shows.0 shows.1 n c.args.items.now
     shows.4 are c.in_ok-low-in-Cut.low c.in_ok-high-in-Cut.high

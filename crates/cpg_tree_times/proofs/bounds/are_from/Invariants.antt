@@ -1,4 +1,4 @@
--- Loops of `are_from`: whether each number of a tree is at least this.
+-- Loops of `are_from`: whether the number of each leaf of a tree is at least `least`.
 use Rattle.std.proofs.Common.{◌≡◌, drop}
 use Rattle.cpg_tree_times.specs.Greater.{are_from}
 use Rattle.cpg_tree_times.proofs.bounds.are_from.Given as goal

@@ -1,4 +1,5 @@
--- Proof of `is_at_least`: whether each number of a tree is at least each number of another.
+-- Proof of `is_at_least`: whether each number of a tree is at least each number of another, by the other's greatest
+-- number.
 use Rattle.std.proofs.Common.{Bool, true, false, ◌≡◌, ◌∙◌, refl, ap, sym}
 use Rattle.std.specs.Bool.{OnTrue}
 use Rattle.cpg_tree_times.specs.Greater.{are_from}

@@ -1,4 +1,4 @@
--- Loops of `most_from`: the greatest of a number and of the numbers of a tree.
+-- Loops of `most_from`, which returns the greatest of `number` and of the numbers of a tree's leaves.
 use Rattle.std.proofs.Common.{◌≡◌, drop}
 use Rattle.cpg_tree_times.specs.Greater.{most_from}
 use Rattle.cpg_tree_times.proofs.bounds.most_from.Given as goal

@@ -1,4 +1,5 @@
--- Proof of `sides`: the sides of a fork, by the spans of the whole.
+-- Proof of `sides`, which returns the two sides of a fork with their spans, given their lists and the spans of the
+-- whole.
 use Rattle.cpg_tree.specs.TreeNode.{Fork}
 use Rattle.cpg_tree_times.specs.Bounds.{bounds_in, span_in}
 use Rattle.cpg_tree_times.proofs.BoundLaws.{forks_are}

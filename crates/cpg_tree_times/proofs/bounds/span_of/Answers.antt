@@ -1,4 +1,4 @@
--- Proof of `span_of`: the least and the greatest number.
+-- Proof of `span_of`, which returns the span of a tree, without a look at its leaves if it has a fork.
 use Rattle.std.proofs.Common.{arith}
 use Rattle.cpg_tree_times.proofs.BoundLaws.{fork_bounded, span_last, span_leaf}
 use Rattle.cpg_tree_times.proofs.bounds.span_of.Goals as goal
@@ -6,6 +6,7 @@ use Rattle.cpg_tree_times.proofs.bounds.span_of.Goals as goal
 -- a fork has a span of its own, so the list of spans is not empty
 pub unreachable-requires : goal.unreachable-requires
 unreachable-requires g c =
+    -- what the top shows: the trees of both sides (0, 1), and that the lists are theirs (2, 3) and their fork's (4)
     let shows = c.in-Cut.ensures.shows in
     absurd (omega (
       arith,

@@ -1,5 +1,5 @@
--- Proof of `greater_where`: adds what is made of the greater number of two trees if a chooser is true, and otherwise
--- one value, in the scenarios of two spaces.
+-- Proof of `greater_where`, which adds the tree of what is made of the greater number of two trees if a chooser is
+-- true, and otherwise of the value `none`, for the scenarios of two spaces.
 use Rattle.std.proofs.Common.{ℕ, max, ◌∙◌, sym, ap}
 use Rattle.cpg_tree_times.specs.Asked.{SpacePair}
 use Rattle.cpg_tree.specs.Flat.{flat}
@@ -14,11 +14,13 @@ use Rattle.cpg_tree_times.proofs.choosing.+greater_where.Goals as goal
 -- the space is closed below the cut, so the answer for the chooser's side above is the answer for the fork
 pub returns-then-not-is_open_below-clause-made : goal.returns-then-not-is_open_below-clause-made
 returns-then-not-is_open_below-clause-made g t c =
+    -- z is an answer to x and y if it is what the function makes of the greater of their numbers
     let answers : g.row.T.Denot → g.row.U.Denot → g.row.V.Denot → Type 0 =
     λ x y z. g.F.Fn.post c.args.how.now.made.now (
       max (g.R.Reading.number c.args.how.now.read.now x) (g.S.Reading.number c.args.how.now.other_reading.now y),
       tt,
     ) z in
+    -- what the top shows: the trees of both sides (0, 1), and that the lists are theirs (2, 3) and their fork's (4)
     let shows = c.in-Cut.ensures.shows in
     of_answer c.greater_where.result _ _ c.greater_where.ensures.made
     (λ u made chooser n m are own others. where_side_above answers c.args.none c.args.spaces.now chooser
@@ -30,11 +32,13 @@ returns-then-not-is_open_below-clause-made g t c =
 -- the space is closed above the cut, so the answer for the chooser's side below is the answer for the fork
 pub returns-then-not-is_open_above-clause-made : goal.returns-then-not-is_open_above-clause-made
 returns-then-not-is_open_above-clause-made g t c =
+    -- z is an answer to x and y if it is what the function makes of the greater of their numbers
     let answers : g.row.T.Denot → g.row.U.Denot → g.row.V.Denot → Type 0 =
     λ x y z. g.F.Fn.post c.args.how.now.made.now (
       max (g.R.Reading.number c.args.how.now.read.now x) (g.S.Reading.number c.args.how.now.other_reading.now y),
       tt,
     ) z in
+    -- what the top shows: the trees of both sides (0, 1), and that the lists are theirs (2, 3) and their fork's (4)
     let shows = c.in-Cut.ensures.shows in
     of_answer c.greater_where-then-not-is_open_above.result _ _ c.greater_where-then-not-is_open_above.ensures.made
     (λ u made chooser n m are own others.
@@ -46,6 +50,7 @@ returns-then-not-is_open_above-clause-made g t c =
 -- the chooser is true, so the answer is what `greater_by` makes of the two trees
 pub returns-then-is_on-clause-made : goal.returns-then-is_on-clause-made
 returns-then-is_on-clause-made g t c =
+    -- z is an answer to x and y if it is what the function makes of the greater of their numbers
     let answers : g.row.T.Denot → g.row.U.Denot → g.row.V.Denot → Type 0 =
     λ x y z. g.F.Fn.post c.args.how.now.made.now (
       max (g.R.Reading.number c.args.how.now.read.now x) (g.S.Reading.number c.args.how.now.other_reading.now y),
@@ -59,6 +64,7 @@ returns-then-is_on-clause-made g t c =
 -- the chooser is false, so the one value is added
 pub returns-else-is_on-clause-made : goal.returns-else-is_on-clause-made
 returns-else-is_on-clause-made g t c =
+    -- z is an answer to x and y if it is what the function makes of the greater of their numbers
     let answers : g.row.T.Denot → g.row.U.Denot → g.row.V.Denot → Type 0 =
     λ x y z. g.F.Fn.post c.args.how.now.made.now (
       max (g.R.Reading.number c.args.how.now.read.now x) (g.S.Reading.number c.args.how.now.other_reading.now y),
@@ -73,12 +79,14 @@ returns-else-is_on-clause-made g t c =
 -- back, so that the space above the cut is that of the spaces given.
 pub returns-in_ok-greater_where-in-Cut-2-clause-made : goal.returns-in_ok-greater_where-in-Cut-2-clause-made
 returns-in_ok-greater_where-in-Cut-2-clause-made g t c =
+    -- z is an answer to x and y if it is what the function makes of the greater of their numbers
     let answers : g.row.T.Denot → g.row.U.Denot → g.row.V.Denot → Type 0 =
     λ x y z. g.F.Fn.post c.args.how.now.made.now (
       max (g.R.Reading.number c.args.how.now.read.now x) (g.S.Reading.number c.args.how.now.other_reading.now y),
       tt,
     ) z in
     let spaces : SpacePair = c.args.spaces.now in
+    -- what the top shows: the trees of both sides (0, 1), and that the lists are theirs (2, 3) and their fork's (4)
     let shows = c.in-Cut.ensures.shows in
     -- the fork joins what is made of both sides; here are the sides of the chooser
     of_answer c.fork.result _ _ c.fork.ensures.made

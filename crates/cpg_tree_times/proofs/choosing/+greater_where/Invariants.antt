@@ -1,5 +1,5 @@
--- Recursion of `greater_where`: adds what is made of the greater number of two trees if a chooser is true, and
--- otherwise one value, in the scenarios of two spaces.
+-- Recursion of `greater_where`, which adds the tree of what is made of the greater number of two trees if a chooser is
+-- true, and otherwise of the value `none`, for the scenarios of two spaces.
 use Rattle.std.proofs.Common.{length}
 use Rattle.cpg_tree_times.proofs.choosing.+greater_where.Given as goal
 

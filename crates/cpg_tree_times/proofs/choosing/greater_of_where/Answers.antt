@@ -10,9 +10,11 @@ use Rattle.cpg_tree_times.proofs.choosing.greater_of_where.Goals as goal
 -- the tree that is made fits the space of all scenarios, so its list is good
 pub of-requires : goal.of-requires
 of-requires g c =
+    -- the trees whose lists the function is given
     let n = c.items.ensures.flat in
     let a = c.items-own_items.ensures.flat in
     let b = c.items-other_items.ensures.flat in
+    -- the tree that is made, whose list is all that was added
     let r = c.in_ok-greater_where.ensures.made n.0 a.0 b.0 n.1 a.1 b.1 in
     let are = all_added c.new-items.result.items c.greater_where.new.out.items r.0 c.new-items.ensures.items r.1 in
     good_made c.faults-faults.result c.whole-space.result r.0 c.greater_where.new.out.items
@@ -21,11 +23,14 @@ of-requires g c =
 -- the facts about the lists become facts about the paths that callers see
 pub returns-clause-is : goal.returns-clause-is
 returns-clause-is g c =
+    -- the trees whose lists the function is given
     let n = c.items.ensures.flat in
     let a = c.items-own_items.ensures.flat in
     let b = c.items-other_items.ensures.flat in
+    -- the tree that is made, whose list is all that was added
     let r = c.in_ok-greater_where.ensures.made n.0 a.0 b.0 n.1 a.1 b.1 in
     let are = all_added c.new-items.result.items c.greater_where.new.out.items r.0 c.new-items.ensures.items r.1 in
+    -- z is an answer to x and y if it is what the function makes of the greater of their numbers
     let answers : g.row.T.Denot → g.row.U.Denot → g.row.V.Denot → Type 0 = λ x y z. g.F.Fn.post c.args.made.now
     (max (g.R.Reading.number c.args.read.now x) (g.S.Reading.number c.args.also.now y), tt) z in
     subst (IsJoinWhere answers c.args.none c.args.chooser.now c.args.tree.now c.args.other.now)
@@ -40,9 +45,11 @@ returns-clause-is g c =
 -- each fork of the tree that is made is on a variable of one of the three, so what passes for them passes for it
 pub returns-clause-pass : goal.returns-clause-pass
 returns-clause-pass g c test first second third =
+    -- the trees whose lists the function is given
     let n = c.items.ensures.flat in
     let a = c.items-own_items.ensures.flat in
     let b = c.items-other_items.ensures.flat in
+    -- the tree that is made, whose list is all that was added
     let r = c.in_ok-greater_where.ensures.made n.0 a.0 b.0 n.1 a.1 b.1 in
     let are = all_added c.new-items.result.items c.greater_where.new.out.items r.0 c.new-items.ensures.items r.1 in
     subst (λ (x : TreeState g.row.V.Denot). DoPathsPass test x.paths) (sym (c.of.ensures.is r.0 are))

@@ -1,4 +1,4 @@
--- Recursion of `bounded_part`: the part of a tree that all scenarios of a space come to.
+-- Recursion of `bounded_part`, which returns the part of a tree that all scenarios of a space come to, with its spans.
 use Rattle.std.proofs.Common.{length}
 use Rattle.cpg_tree_times.proofs.greater.+bounded_part.Given as goal
 

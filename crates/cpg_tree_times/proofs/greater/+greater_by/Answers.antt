@@ -1,4 +1,5 @@
--- Proof of `greater_by`: adds what is made of the greater number of two trees in the scenarios of two spaces.
+-- Proof of `greater_by`, which adds the tree of what is made of the greater number of two trees, for the scenarios of
+-- two spaces.
 use Rattle.std.proofs.Common.{arith, ℕ, ◌≡◌, ◌<◌, ◌≤◌, ◌∙◌, length, max, ap, sym, subst}
 use Rattle.cpg_base.specs.Scenario.{Scenario, number_of}
 use Rattle.cpg_tree_times.specs.Asked.{AreBothOpen, IsInner, IsWay, IsInBothSpaces, SpacePair, lowered, raised_back}
@@ -16,11 +17,13 @@ use Rattle.cpg_tree_times.proofs.greater.+greater_by.Goals as goal
 -- by their spans the first tree is at least the second's part everywhere, so its own values are added
 pub returns-then-is_at_least-clause-made : goal.returns-then-is_at_least-clause-made
 returns-then-is_at_least-clause-made g t c =
+    -- how leaves are read, and what is made of a number
     let number : g.row.T.Denot → ℕ = g.R.Reading.number c.args.how.now.read.now in
     let other_number : g.row.U.Denot → ℕ = g.S.Reading.number c.args.how.now.other_reading.now in
     let makes : ℕ → g.row.V.Denot → Type 0 = λ k z. g.F.Fn.post c.args.how.now.made.now (k, tt) z in
     of_answer c.at_least.result _ _ c.at_least.ensures.made
     (λ u made n m are others.
+    -- the part of the other tree that the space comes to
     let part = c.bounded_part-other.ensures.part m others in
     own_added number other_number makes c.args.spaces.now n m part.0 part.2 c.args.out.now.items
     c.at_least.new.out.items
@@ -32,11 +35,13 @@ returns-then-is_at_least-clause-made g t c =
 -- by their spans the second tree's part is at least the first everywhere, so its values are added
 pub returns-then-is_at_least-2-clause-made : goal.returns-then-is_at_least-2-clause-made
 returns-then-is_at_least-2-clause-made g t c =
+    -- how leaves are read, and what is made of a number
     let number : g.row.T.Denot → ℕ = g.R.Reading.number c.args.how.now.read.now in
     let other_number : g.row.U.Denot → ℕ = g.S.Reading.number c.args.how.now.other_reading.now in
     let makes : ℕ → g.row.V.Denot → Type 0 = λ k z. g.F.Fn.post c.args.how.now.made.now (k, tt) z in
     of_answer c.at_least-then-is_at_least-2.result _ _ c.at_least-then-is_at_least-2.ensures.made
     (λ u made n m are others.
+    -- the part of the other tree that the space comes to
     let part = c.bounded_part-other.ensures.part m others in
     other_added number other_number makes c.args.spaces.now n m part.0 part.2 c.args.out.now.items
     c.at_least-then-is_at_least-2.new.out.items
@@ -48,11 +53,13 @@ returns-then-is_at_least-2-clause-made g t c =
 -- the first tree is one value, so the greater of that and each value of the second's part is added
 pub returns-in-Value-clause-made : goal.returns-in-Value-clause-made
 returns-in-Value-clause-made g t c =
+    -- how leaves are read, and what is made of a number
     let number : g.row.T.Denot → ℕ = g.R.Reading.number c.args.how.now.read.now in
     let other_number : g.row.U.Denot → ℕ = g.S.Reading.number c.args.how.now.other_reading.now in
     let makes : ℕ → g.row.V.Denot → Type 0 = λ k z. g.F.Fn.post c.args.how.now.made.now (k, tt) z in
     of_answer c.at_least-in-Value.result _ _ c.at_least-in-Value.ensures.made
     (λ u made n m are others.
+    -- the part of the other tree that the space comes to
     let part = c.bounded_part-other.ensures.part m others in
     leaf_added number other_number makes c.args.spaces.now n m part.0 part.2 c.args.out.now.items
     c.at_least-in-Value.new.out.items c.in-Value.value c.number-number.result
@@ -62,13 +69,17 @@ returns-in-Value-clause-made g t c =
 -- all scenarios go above the cut, so the answer for the side above is the answer for the fork
 pub returns-in_ok-greater_by-in-Above-clause-made : goal.returns-in_ok-greater_by-in-Above-clause-made
 returns-in_ok-greater_by-in-Above-clause-made g t c n m are others =
+    -- how leaves are read, and what is made of a number
     let number : g.row.T.Denot → ℕ = g.R.Reading.number c.args.how.now.read.now in
     let other_number : g.row.U.Denot → ℕ = g.S.Reading.number c.args.how.now.other_reading.now in
     let makes : ℕ → g.row.V.Denot → Type 0 = λ k z. g.F.Fn.post c.args.how.now.made.now (k, tt) z in
     let spaces : SpacePair = c.args.spaces.now in
     let inner : SpacePair = c.way.new.self in
+    -- what the top shows: the trees of both sides (0, 1), and that the lists are theirs (2, 3) and their fork's (4)
     let shows = c.in-Cut.ensures.shows in
+    -- the part of the other tree that the space comes to
     let part = c.bounded_part-other.ensures.part m others in
+    -- no scenario is lost, and the spaces can be put back
     let way : IsInner spaces (λ s. c.in-Cut.cut < number_of s c.in-Cut.variable) inner ×
     (raised_back inner c.in-Cut.variable c.in-Above.lows ≡ spaces) =
     subst (IsWay spaces inner c.in-Cut.variable c.in-Cut.cut) c.in-Above.is c.way.ensures in
@@ -80,13 +91,17 @@ returns-in_ok-greater_by-in-Above-clause-made g t c n m are others =
 -- all scenarios go below the cut, so the answer for the side below is the answer for the fork
 pub returns-in_ok-greater_by-in-Below-clause-made : goal.returns-in_ok-greater_by-in-Below-clause-made
 returns-in_ok-greater_by-in-Below-clause-made g t c n m are others =
+    -- how leaves are read, and what is made of a number
     let number : g.row.T.Denot → ℕ = g.R.Reading.number c.args.how.now.read.now in
     let other_number : g.row.U.Denot → ℕ = g.S.Reading.number c.args.how.now.other_reading.now in
     let makes : ℕ → g.row.V.Denot → Type 0 = λ k z. g.F.Fn.post c.args.how.now.made.now (k, tt) z in
     let spaces : SpacePair = c.args.spaces.now in
     let inner : SpacePair = c.way.new.self in
+    -- what the top shows: the trees of both sides (0, 1), and that the lists are theirs (2, 3) and their fork's (4)
     let shows = c.in-Cut.ensures.shows in
+    -- the part of the other tree that the space comes to
     let part = c.bounded_part-other.ensures.part m others in
+    -- no scenario is lost, and the spaces can be put back
     let way : IsInner spaces (λ s. number_of s c.in-Cut.variable ≤ c.in-Cut.cut) inner ×
     (lowered inner c.in-Cut.variable c.in-Below.highs ≡ spaces) =
     subst (IsWay spaces inner c.in-Cut.variable c.in-Cut.cut) c.in-Below.is c.way.ensures in
@@ -100,11 +115,13 @@ returns-in_ok-greater_by-in-Below-clause-made g t c n m are others =
 -- that the spaces above the cut are those of the spaces given.
 pub returns-in_ok-greater_by-in-Both-2-clause-made : goal.returns-in_ok-greater_by-in-Both-2-clause-made
 returns-in_ok-greater_by-in-Both-2-clause-made g t c =
+    -- how leaves are read, and what is made of a number
     let number : g.row.T.Denot → ℕ = g.R.Reading.number c.args.how.now.read.now in
     let other_number : g.row.U.Denot → ℕ = g.S.Reading.number c.args.how.now.other_reading.now in
     let makes : ℕ → g.row.V.Denot → Type 0 = λ k z. g.F.Fn.post c.args.how.now.made.now (k, tt) z in
     let spaces : SpacePair = c.args.spaces.now in
     let met : SpacePair = c.way.new.self in
+    -- what the top shows: the trees of both sides (0, 1), and that the lists are theirs (2, 3) and their fork's (4)
     let shows = c.in-Cut.ensures.shows in
     -- scenarios go both ways at the fork, and the spaces are those given
     let way : AreBothOpen spaces c.in-Cut.variable c.in-Cut.cut × (met ≡ spaces) =
@@ -112,6 +129,7 @@ returns-in_ok-greater_by-in-Both-2-clause-made g t c =
     -- the fork joins what is made of both sides of the first tree with the part of the second
     of_answer c.fork.result _ _ c.fork.ensures.made
     (λ u forks n m are others.
+    -- the part of the other tree that the space comes to
     let part = c.bounded_part-other.ensures.part m others in
     added_fork (λ (x : g.row.T.Denot) (y : g.row.U.Denot) (z : g.row.V.Denot).
     makes (max (number x) (other_number y)) z) spaces c.in-Cut.variable c.in-Cut.cut shows.0 shows.1 n
@@ -135,11 +153,16 @@ returns-in_ok-greater_by-in-Both-2-clause-made g t c =
     (c.in_ok-greater_by-in-Both.ensures.made shows.0 part.0 (c.sides.ensures.below ∙ shows.2) part.1)
     (c.in_ok-greater_by-in-Both-2.ensures.made shows.1 part.0 (c.sides.ensures.above ∙ shows.3) part.1))
 
+-- The calls are given as tuples: the measure gets smaller; what `within` says of the spaces, the same for each call; the
+-- reading can be called, and its equality is that of values; and both trees have the spans of their forks.
+
 -- the call for the side above: its list is shorter, and it and the second tree's part have the spans of their forks
 pub greater_by-requires : goal.greater_by-requires
 greater_by-requires g t c κs within =
+    -- how leaves are read as numbers
     let number : g.row.T.Denot → ℕ = g.R.Reading.number c.args.how.now.read.now in
     let other_number : g.row.U.Denot → ℕ = g.S.Reading.number c.args.how.now.other_reading.now in
+    -- what the top shows: the trees of both sides (0, 1), and that the lists are theirs (2, 3) and their fork's (4)
     let shows = c.in-Cut.ensures.shows in
     let small : length c.sides.result.1.items.now < t =
     omega (arith, c.decreases, ap length c.sides.ensures.above, c.in-Cut.ensures.less.1) in
@@ -149,7 +172,7 @@ greater_by-requires g t c κs within =
     c.sides.result.1.items.now c.args.own.bounds.now
     c.sides.result.1.bounds.now c.requires.own shows.4 (c.sides.ensures.above ∙ shows.3)
     (λ e. (c.sides.ensures.bounds number c.in-Cut.variable c.in-Cut.cut shows.0 shows.1 shows.2 e).1) in
-    -- and so has the part of the second tree
+    -- the part of the second tree has the spans of its own forks
     let others : IsBounded other_number c.bounded_part-other.result.items.now c.bounded_part-other.result.bounds.now =
     part_bounded other_number c.args.spaces.now.walked c.args.other.items.now c.bounded_part-other.result.items.now
     c.args.other.bounds.now c.bounded_part-other.result.bounds.now
@@ -183,8 +206,10 @@ greater_by-requires g t c κs within =
 -- the call for the side below, if all scenarios go there: its list is shorter, and the spans are those of its forks
 pub greater_by-requires-in-Below : goal.greater_by-requires-in-Below
 greater_by-requires-in-Below g t c κs within =
+    -- how leaves are read as numbers
     let number : g.row.T.Denot → ℕ = g.R.Reading.number c.args.how.now.read.now in
     let other_number : g.row.U.Denot → ℕ = g.S.Reading.number c.args.how.now.other_reading.now in
+    -- what the top shows: the trees of both sides (0, 1), and that the lists are theirs (2, 3) and their fork's (4)
     let shows = c.in-Cut.ensures.shows in
     let small : length c.sides.result.0.items.now < t =
     omega (arith, c.decreases, ap length c.sides.ensures.below, c.in-Cut.ensures.less.0) in
@@ -194,7 +219,7 @@ greater_by-requires-in-Below g t c κs within =
     c.sides.result.0.items.now c.args.own.bounds.now
     c.sides.result.0.bounds.now c.requires.own shows.4 (c.sides.ensures.below ∙ shows.2)
     (λ e. (c.sides.ensures.bounds number c.in-Cut.variable c.in-Cut.cut shows.0 shows.1 shows.2 e).0) in
-    -- and so has the part of the second tree
+    -- the part of the second tree has the spans of its own forks
     let others : IsBounded other_number c.bounded_part-other.result.items.now c.bounded_part-other.result.bounds.now =
     part_bounded other_number c.args.spaces.now.walked c.args.other.items.now c.bounded_part-other.result.items.now
     c.args.other.bounds.now c.bounded_part-other.result.bounds.now
@@ -228,8 +253,10 @@ greater_by-requires-in-Below g t c κs within =
 -- the call for the side below, if scenarios go both ways: its list is shorter, and the spans are those of its forks
 pub greater_by-requires-in-Both : goal.greater_by-requires-in-Both
 greater_by-requires-in-Both g t c κs within =
+    -- how leaves are read as numbers
     let number : g.row.T.Denot → ℕ = g.R.Reading.number c.args.how.now.read.now in
     let other_number : g.row.U.Denot → ℕ = g.S.Reading.number c.args.how.now.other_reading.now in
+    -- what the top shows: the trees of both sides (0, 1), and that the lists are theirs (2, 3) and their fork's (4)
     let shows = c.in-Cut.ensures.shows in
     let small : length c.sides.result.0.items.now < t =
     omega (arith, c.decreases, ap length c.sides.ensures.below, c.in-Cut.ensures.less.0) in
@@ -239,7 +266,7 @@ greater_by-requires-in-Both g t c κs within =
     c.sides.result.0.items.now c.args.own.bounds.now
     c.sides.result.0.bounds.now c.requires.own shows.4 (c.sides.ensures.below ∙ shows.2)
     (λ e. (c.sides.ensures.bounds number c.in-Cut.variable c.in-Cut.cut shows.0 shows.1 shows.2 e).0) in
-    -- and so has the part of the second tree
+    -- the part of the second tree has the spans of its own forks
     let others : IsBounded other_number c.bounded_part-other.result.items.now c.bounded_part-other.result.bounds.now =
     part_bounded other_number c.args.spaces.now.walked c.args.other.items.now c.bounded_part-other.result.items.now
     c.args.other.bounds.now c.bounded_part-other.result.bounds.now
@@ -273,8 +300,10 @@ greater_by-requires-in-Both g t c κs within =
 -- the call for the side above, if scenarios go both ways: its list is shorter, and the spans are those of its forks
 pub greater_by-requires-in-Both-2 : goal.greater_by-requires-in-Both-2
 greater_by-requires-in-Both-2 g t c κs within =
+    -- how leaves are read as numbers
     let number : g.row.T.Denot → ℕ = g.R.Reading.number c.args.how.now.read.now in
     let other_number : g.row.U.Denot → ℕ = g.S.Reading.number c.args.how.now.other_reading.now in
+    -- what the top shows: the trees of both sides (0, 1), and that the lists are theirs (2, 3) and their fork's (4)
     let shows = c.in-Cut.ensures.shows in
     let small : length c.sides.result.1.items.now < t =
     omega (arith, c.decreases, ap length c.sides.ensures.above, c.in-Cut.ensures.less.1) in
@@ -284,7 +313,7 @@ greater_by-requires-in-Both-2 g t c κs within =
     c.sides.result.1.items.now c.args.own.bounds.now
     c.sides.result.1.bounds.now c.requires.own shows.4 (c.sides.ensures.above ∙ shows.3)
     (λ e. (c.sides.ensures.bounds number c.in-Cut.variable c.in-Cut.cut shows.0 shows.1 shows.2 e).1) in
-    -- and so has the part of the second tree
+    -- the part of the second tree has the spans of its own forks
     let others : IsBounded other_number c.bounded_part-other.result.items.now c.bounded_part-other.result.bounds.now =
     part_bounded other_number c.args.spaces.now.walked c.args.other.items.now c.bounded_part-other.result.items.now
     c.args.other.bounds.now c.bounded_part-other.result.bounds.now
@@ -325,6 +354,7 @@ pub returns-in_ok-greater_by-in-Both-2-clause-back : goal.returns-in_ok-greater_
 returns-in_ok-greater_by-in-Both-2-clause-back g t c =
     let spaces : SpacePair = c.args.spaces.now in
     let met : SpacePair = c.way.new.self in
+    -- both spaces are open on both sides, and are as before
     let way : AreBothOpen spaces c.in-Cut.variable c.in-Cut.cut × (met ≡ spaces) =
     subst (IsWay spaces met c.in-Cut.variable c.in-Cut.cut) c.in-Both.is c.way.ensures in
     of_answer c.fork.result _ _ c.fork.ensures.long

@@ -1,4 +1,5 @@
--- Recursion of `greater_by`: adds what is made of the greater number of two trees in the scenarios of two spaces.
+-- Recursion of `greater_by`, which adds the tree of what is made of the greater number of two trees, for the scenarios
+-- of two spaces.
 use Rattle.std.proofs.Common.{length}
 use Rattle.cpg_tree_times.proofs.greater.+greater_by.Given as goal
 

@@ -8,6 +8,7 @@ use Rattle.cpg_tree_times.proofs.greater.at_least.Goals as goal
 pub returns-clause-made : goal.returns-clause-made
 returns-clause-made g c =
     of_answer c.fill_items.result _ _ c.fill_items.ensures.made
+    -- p: the tree that was added, how its list stands in the new one, and what is known of it; only `value` is said otherwise
     (λ u made n are.
     let p = made n are in (
       p.0,

@@ -1,5 +1,5 @@
--- Proof of `at_least_everywhere`: adds what is made of a value or the tree's number, whichever is greater, for all
--- scenarios.
+-- Proof of `at_least_everywhere`, which adds the tree of what is made of `value` or a tree's number, whichever is
+-- greater, for all scenarios.
 use Rattle.std.proofs.Common.{rules, ◌∙◌, ◌++◌, List, ap}
 use Rattle.cpg_tree.specs.declared.item.TreeItem.{TreeItem}
 use Rattle.cpg_tree.specs.Flat.{flat}
@@ -10,6 +10,7 @@ use Rattle.cpg_tree_times.proofs.greater.at_least_everywhere.Goals as goal
 pub returns-clause-made : goal.returns-clause-made
 returns-clause-made g c =
     of_answer c.map_items.result _ _ c.map_items.ensures.made
+    -- p: the tree that was added, how its list stands in the new one, and what is known of it; only `value` is said otherwise
     (λ u made n are.
     let p = made n are in (
       p.0,

@@ -1,4 +1,4 @@
--- Proof of `greater_by_bounds`: does what `greater_items` does, by the spans of the forks of both trees.
+-- Proof of `greater_by_bounds`, which does what `greater_items` does, by the spans of the forks of both trees.
 use Rattle.std.proofs.Common.{ℕ, ◌∙◌, ◌++◌, List, drop, take, ap}
 use Rattle.cpg_tree.specs.declared.item.TreeItem.{TreeItem}
 use Rattle.cpg_tree.specs.Flat.{flat}
@@ -10,6 +10,7 @@ use Rattle.cpg_tree_times.proofs.greater.greater_by_bounds.Goals as goal
 -- what `greater_by` makes with one space both asked for and walked is made in that space
 pub returns-clause-made : goal.returns-clause-made
 returns-clause-made g c =
+    -- how leaves are read, and what is made of a number
     let number : g.row.T.Denot → ℕ = g.R.Reading.number c.args.how.now.read.now in
     let other_number : g.row.U.Denot → ℕ = g.S.Reading.number c.args.how.now.other_reading.now in
     let makes : ℕ → g.row.V.Denot → Type 0 = λ k z. g.F.Fn.post c.args.how.now.made.now (k, tt) z in

@@ -1,5 +1,5 @@
--- Proof of `greater_items`: adds what is made of the greater number of two trees in the scenarios of a space that the
--- forks of both fit.
+-- Proof of `greater_items`, which adds the tree of what is made of the greater number of two trees, for the scenarios
+-- of a space that both trees fit.
 use Rattle.std.proofs.Common.{ℕ, ◌∙◌, sym}
 use Rattle.cpg_tree.specs.TreeNode.{Leaf}
 use Rattle.cpg_tree.proofs.Flats.{flat-same}
@@ -10,6 +10,7 @@ use Rattle.cpg_tree_times.proofs.greater.greater_items.Goals as goal
 -- the first tree is one value, so the greater of that and each value of the second is added
 pub returns-in-Value-clause-made : goal.returns-in-Value-clause-made
 returns-in-Value-clause-made g c =
+    -- how leaves are read, and what is made of a number
     let number : g.row.T.Denot → ℕ = g.R.Reading.number c.args.how.now.read.now in
     let other_number : g.row.U.Denot → ℕ = g.S.Reading.number c.args.how.now.other_reading.now in
     let makes : ℕ → g.row.V.Denot → Type 0 = λ k z. g.F.Fn.post c.args.how.now.made.now (k, tt) z in
@@ -22,6 +23,7 @@ returns-in-Value-clause-made g c =
 -- the second tree is one value, so the greater of that and each value of the first is added
 pub returns-in-Value-top_of-clause-made : goal.returns-in-Value-top_of-clause-made
 returns-in-Value-top_of-clause-made g c =
+    -- how leaves are read, and what is made of a number
     let number : g.row.T.Denot → ℕ = g.R.Reading.number c.args.how.now.read.now in
     let other_number : g.row.U.Denot → ℕ = g.S.Reading.number c.args.how.now.other_reading.now in
     let makes : ℕ → g.row.V.Denot → Type 0 = λ k z. g.F.Fn.post c.args.how.now.made.now (k, tt) z in
@@ -35,6 +37,7 @@ returns-in-Value-top_of-clause-made g c =
 -- the first tree is at least the second everywhere, so its own values are added
 pub returns-then-is_at_least-clause-made : goal.returns-then-is_at_least-clause-made
 returns-then-is_at_least-clause-made g c =
+    -- how leaves are read, and what is made of a number
     let number : g.row.T.Denot → ℕ = g.R.Reading.number c.args.how.now.read.now in
     let other_number : g.row.U.Denot → ℕ = g.S.Reading.number c.args.how.now.other_reading.now in
     let makes : ℕ → g.row.V.Denot → Type 0 = λ k z. g.F.Fn.post c.args.how.now.made.now (k, tt) z in
@@ -47,6 +50,7 @@ returns-then-is_at_least-clause-made g c =
 -- the second tree is at least the first everywhere, so its own values are added
 pub returns-then-is_at_least-2-clause-made : goal.returns-then-is_at_least-2-clause-made
 returns-then-is_at_least-2-clause-made g c =
+    -- how leaves are read, and what is made of a number
     let number : g.row.T.Denot → ℕ = g.R.Reading.number c.args.how.now.read.now in
     let other_number : g.row.U.Denot → ℕ = g.S.Reading.number c.args.how.now.other_reading.now in
     let makes : ℕ → g.row.V.Denot → Type 0 = λ k z. g.F.Fn.post c.args.how.now.made.now (k, tt) z in

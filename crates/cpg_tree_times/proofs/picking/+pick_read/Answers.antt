@@ -1,5 +1,5 @@
--- Proof of `pick_read`: adds the numbers of one of two trees in the scenarios of a space: those of the first, as it
--- is read, if a chooser is true.
+-- Proof of `pick_read`, which adds the tree of the numbers of `on`, as they are read, if the chooser, whose list is
+-- `items`, is true, and otherwise of `off`, for the scenarios of a space.
 use Rattle.std.proofs.Common.{ℕ, Bool, ◌∙◌, sym, ap, arith, rules}
 use Rattle.cpg_tree.specs.TreeNode.{Leaf}
 use Rattle.cpg_tree.specs.Flat.{flat}
@@ -15,10 +15,13 @@ use Rattle.cpg_tree_times.proofs.picking.+pick_read.Goals as goal
 -- the space is closed below the cut, so what the chooser's side above picks is what the fork picks
 pub returns-then-not-is_open_below-clause-made : goal.returns-then-not-is_open_below-clause-made
 returns-then-not-is_open_below-clause-made g t c =
+    -- how leaves are read as numbers
     let number : g.row.T.Denot → ℕ = g.R.Reading.number c.args.read.now in
+    -- what the top shows: the trees of both sides (0, 1), and that the lists are theirs (2, 3) and their fork's (4)
     let shows = c.in-Cut.ensures.shows in
     of_answer c.pick_read.result _ _ c.pick_read.ensures.made
     (λ u made n a b are ons offs.
+    -- the parts of both trees that the space comes to
     let on = c.part_in-on.ensures.part a ons in
     let off = c.part_in-off.ensures.part b offs in
     picks_whole c.args.space.now n (read_by number a) b (read_by number on.0) off.0 c.args.out.now.items
@@ -31,10 +34,13 @@ returns-then-not-is_open_below-clause-made g t c =
 -- the space is closed above the cut, so what the chooser's side below picks is what the fork picks
 pub returns-then-not-is_open_above-clause-made : goal.returns-then-not-is_open_above-clause-made
 returns-then-not-is_open_above-clause-made g t c =
+    -- how leaves are read as numbers
     let number : g.row.T.Denot → ℕ = g.R.Reading.number c.args.read.now in
+    -- what the top shows: the trees of both sides (0, 1), and that the lists are theirs (2, 3) and their fork's (4)
     let shows = c.in-Cut.ensures.shows in
     of_answer c.pick_read-then-not-is_open_above.result _ _ c.pick_read-then-not-is_open_above.ensures.made
     (λ u made n a b are ons offs.
+    -- the parts of both trees that the space comes to
     let on = c.part_in-on.ensures.part a ons in
     let off = c.part_in-off.ensures.part b offs in
     picks_whole c.args.space.now n (read_by number a) b
@@ -50,10 +56,12 @@ returns-then-not-is_open_above-clause-made g t c =
 -- the chooser is true, so the first tree is added as it is read: at least 0, its numbers are what they are
 pub returns-then-is_on-clause-made : goal.returns-then-is_on-clause-made
 returns-then-is_on-clause-made g t c =
+    -- how leaves are read as numbers
     let number : g.row.T.Denot → ℕ = g.R.Reading.number c.args.read.now in
     -- what is added is the first tree's part, as it is read
     of_answer c.at_least.result _ _ c.at_least.ensures.made
     (λ u made n a b are ons offs.
+    -- the parts of both trees that the space comes to
     let on = c.part_in-on.ensures.part a ons in
     let off = c.part_in-off.ensures.part b offs in
     picks_whole c.args.space.now n (read_by number a) b (read_by number on.0) off.0 c.args.out.now.items
@@ -80,9 +88,11 @@ returns-then-is_on-clause-made g t c =
 -- the chooser is false, so the second tree is added for the space
 pub returns-else-is_on-clause-made : goal.returns-else-is_on-clause-made
 returns-else-is_on-clause-made g t c =
+    -- how leaves are read as numbers
     let number : g.row.T.Denot → ℕ = g.R.Reading.number c.args.read.now in
     of_answer c.within_items.result _ _ c.within_items.ensures.made
     (λ u made n a b are ons offs.
+    -- the parts of both trees that the space comes to
     let on = c.part_in-on.ensures.part a ons in
     let off = c.part_in-off.ensures.part b offs in
     picks_whole c.args.space.now n (read_by number a) b (read_by number on.0) off.0 c.args.out.now.items
@@ -111,11 +121,14 @@ returns-in_ok-pick_read-in-Cut-2-clause-back g t c =
 -- above the cut is that of the space given.
 pub returns-in_ok-pick_read-in-Cut-2-clause-made : goal.returns-in_ok-pick_read-in-Cut-2-clause-made
 returns-in_ok-pick_read-in-Cut-2-clause-made g t c =
+    -- how leaves are read as numbers
     let number : g.row.T.Denot → ℕ = g.R.Reading.number c.args.read.now in
+    -- what the top shows: the trees of both sides (0, 1), and that the lists are theirs (2, 3) and their fork's (4)
     let shows = c.in-Cut.ensures.shows in
     -- the fork joins what is picked on both sides, from the parts of the two trees
     of_answer c.fork.result _ _ c.fork.ensures.made
     (λ u forks n a b are ons offs.
+    -- the parts of both trees that the space comes to
     let on = c.part_in-on.ensures.part a ons in
     let off = c.part_in-off.ensures.part b offs in
     picks_whole c.args.space.now n (read_by number a) b (read_by number on.0) off.0 c.args.out.now.items

@@ -1,5 +1,5 @@
--- Recursion of `pick_read`: adds the numbers of one of two trees in the scenarios of a space: those of the first, as
--- it is read, if a chooser is true.
+-- Recursion of `pick_read`, which adds the tree of the numbers of `on`, as they are read, if the chooser, whose list is
+-- `items`, is true, and otherwise of `off`, for the scenarios of a space.
 use Rattle.std.proofs.Common.{length}
 use Rattle.cpg_tree_times.proofs.picking.+pick_read.Given as goal
 

@@ -9,9 +9,11 @@ use Rattle.cpg_tree_times.proofs.picking.pick_later.Goals as goal
 -- the tree that is made fits the space of all scenarios, so its list is good
 pub of-requires : goal.of-requires
 of-requires c =
+    -- the trees whose lists the function is given
     let n = c.items.ensures.flat in
     let a = c.items-on.ensures.flat in
     let b = c.items-off.ensures.flat in
+    -- the tree that is made, whose list is all that was added
     let r = c.in_ok-pick_read.ensures.made n.0 a.0 b.0 n.1 a.1 b.1 in
     let are = all_added c.new-made.result.items c.pick_read.new.out.items r.0 c.new-made.ensures.items r.1 in
     good_made c.faults-faults.result c.whole-space.result r.0 c.pick_read.new.out.items
@@ -20,9 +22,11 @@ of-requires c =
 -- the facts about the lists become facts about the paths that callers see, with the first tree's times a delay later
 pub returns-clause-is : goal.returns-clause-is
 returns-clause-is c =
+    -- the trees whose lists the function is given
     let n = c.items.ensures.flat in
     let a = c.items-on.ensures.flat in
     let b = c.items-off.ensures.flat in
+    -- the tree that is made, whose list is all that was added
     let r = c.in_ok-pick_read.ensures.made n.0 a.0 b.0 n.1 a.1 b.1 in
     let are = all_added c.new-made.result.items c.pick_read.new.out.items r.0 c.new-made.ensures.items r.1 in
     pick_shown c.args.chooser.now (later_by c.args.delay c.args.times.now) c.args.no.now n.0
@@ -38,9 +42,11 @@ returns-clause-is c =
 -- each fork of the tree that is made is on a variable of one of the three, so what passes for them passes for it
 pub returns-clause-pass : goal.returns-clause-pass
 returns-clause-pass c test on_self on_times on_no =
+    -- the trees whose lists the function is given
     let n = c.items.ensures.flat in
     let a = c.items-on.ensures.flat in
     let b = c.items-off.ensures.flat in
+    -- the tree that is made, whose list is all that was added
     let r = c.in_ok-pick_read.ensures.made n.0 a.0 b.0 n.1 a.1 b.1 in
     let are = all_added c.new-made.result.items c.pick_read.new.out.items r.0 c.new-made.ensures.items r.1 in
     pick_passes c.args.chooser.now (later_by c.args.delay c.args.times.now) c.args.no.now n.0

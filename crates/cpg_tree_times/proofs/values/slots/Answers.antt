@@ -1,4 +1,5 @@
--- Proof of `slots`: the first slots at the times of a tree or later that are free.
+-- Proof of `slots`, which returns a tree with the first slot at the time of `end` or later that isn't before `free`;
+-- none where there is no time or it is `LATE` or later.
 use Rattle.std.proofs.Common.{◌≡◌}
 use Rattle.cpg_tree.specs.Tree.{IsJoin}
 use Rattle.cpg_tree.proofs.Forks.{of_answer}
@@ -6,8 +7,8 @@ use Rattle.cpg_tree_times.specs.Values.{slot_if, slot_from}
 use Rattle.cpg_tree_times.proofs.SlotTrees.{slots_joined}
 use Rattle.cpg_tree_times.proofs.values.slots.Goals as goal
 
--- the slots that are asked for, the later of these and the free ones, and then those where there is an end are the
--- first free slots
+-- three steps make the first free slots: the slots asked for, the later of these and the free ones, and those only
+-- where there is an end
 pub returns-clause-is : goal.returns-clause-is
 returns-clause-is c =
     of_answer c.asked.result (IsJoin (λ x y z. z ≡ slot_if y x) c.args.end.now c.in_ok-slots.slots)

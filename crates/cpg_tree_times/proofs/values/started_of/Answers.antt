@@ -1,5 +1,5 @@
--- Proof of `started_of`: the times of a tree later by a delay, those of another one, or a release, whichever are later,
--- as starts in all scenarios.
+-- Proof of `started_of`, which returns a tree that has a start in every scenario: the latest of the time of `tree`
+-- with `delay` added, that of `other`, each 0 where its tree has none, and `release`.
 use Rattle.std.proofs.Common.{◌≡◌, max, Some, rules}
 use Rattle.cpg_tree.specs.Tree.{IsJoin}
 use Rattle.cpg_tree.proofs.Forks.{of_answer}

@@ -1,4 +1,5 @@
--- Proof of `started_or_where`: the starts that `started_or` has where a tree is true, and no start elsewhere.
+-- Proof of `started_or_where`, which returns a tree with the starts of `started_or` where `active` is true, and no
+-- start elsewhere.
 use Rattle.std.proofs.Common.{◌≡◌, max, None, Some, rules}
 use Rattle.cpg_tree.specs.Tree.{IsJoinWhere}
 use Rattle.cpg_tree.proofs.Forks.{of_answer}

@@ -1,5 +1,5 @@
--- Proof of `best_parts`: the best number of parts of a process: the least from 1 to 255 for which an execution with
--- the greatest number of faults lasts least.
+-- Proof of `best_parts`: returns the best number of parts of a process: the least from 1 to 255 with which an
+-- execution with all k faults is shortest.
 use Rattle.std.proofs.Common.{◌≡◌, ◌∙◌, get_or, sym, ap, ap₂, subst}
 use Rattle.std.proofs.lemmas.List.{get_or_default}
 use Rattle.cpg_base.specs.Graph.{process_at}
@@ -12,6 +12,7 @@ pub returns-clause-best : goal.returns-clause-best
 returns-clause-best c =
     let p = process_at c.args.problem.now c.args.process in
     let faults = c.args.problem.now.faults in
+    -- what is found is the best number of the process with this number
     let is : c.best_of.result ≡ best_of p faults =
     c.best_of.ensures
     ∙ ap₂ best_of (c.index-processes-process.is ∙

@@ -1,4 +1,5 @@
--- Proof of `in_parts_each`: each process in the number of parts at its place.
+-- Proof of `in_parts_each`: returns a copy of each process that is cut into the number of parts at its place in
+-- `parts`.
 use Rattle.std.proofs.lemmas.Slice.Zip.{either_empty_from_Zip}
 use Rattle.std.specs.Slice.Iter.{iter_rest}
 use Rattle.cpg_tune.specs.Retuned.{in_parts_each}

@@ -1,4 +1,5 @@
--- Loops of `in_parts_each`: each process in the number of parts at its place.
+-- Loops of `in_parts_each`: returns a copy of each process that is cut into the number of parts at its place in
+-- `parts`.
 use Rattle.std.proofs.Common.{◌≡◌, ◌++◌}
 use Rattle.std.specs.Slice.Iter.{iter_rest}
 use Rattle.cpg_tune.specs.Retuned.{in_parts_each}

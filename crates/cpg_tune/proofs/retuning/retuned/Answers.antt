@@ -1,4 +1,5 @@
--- Proof of `retuned`: the graph with another fault number, and each process in the number of parts at its place.
+-- Proof of `retuned`: returns a copy of the graph with another fault number, and each process cut into the number of
+-- parts at its place.
 use Rattle.std.proofs.Common.{rules, ◌≡◌, ◌∙◌, None, IfSome, ap, subst, sym}
 use Rattle.cpg_base.specs.Graph.{Graph, process_count}
 use Rattle.cpg_base.specs.Limits.{IsOrderWithin}
@@ -10,6 +11,7 @@ use Rattle.cpg_tune.proofs.retuning.retuned.Goals as goal
 -- the retuned graph without its order is within the limits
 pub of-retuned-requires : goal.of-retuned-requires
 of-retuned-requires c =
+    -- the retuned graph, still without its order
     let made : Graph = record {
       faults = c.args.faults;
       deadline = c.deadline.result;
@@ -22,6 +24,7 @@ of-retuned-requires c =
     } in
     let is : made ≡ record (retuned c.args.problem.now c.args.parts.now c.args.faults) { order = None } =
     search rules in
+    -- with its order it would be within the limits, so without it too
     let whole = retuned_within c.args.problem.now c.args.parts.now c.args.faults c.nodes.ensures.within c.requires.parts
     c.requires.faults in
     rw is (orderless_within (retuned c.args.problem.now c.args.parts.now c.args.faults) whole)
@@ -44,7 +47,7 @@ with_order-requires c =
     let is : made ≡ record (retuned g c.args.parts.now c.args.faults) { order = None } = search rules in
     let count : process_count c.of-retuned.result ≡ process_count (retuned g c.args.parts.now c.args.faults) =
     ap process_count (c.of-retuned.ensures ∙ is) in
-    -- the order has each process once, of which there are as many
+    -- the order fits as many processes as before
     let whole =
     retuned_within g c.args.parts.now c.args.faults c.nodes.ensures.within c.requires.parts c.requires.faults in
     subst (λ n. IfSome c.in_ok-order.order (λ list. IsOrderWithin n list.items)) (sym count)

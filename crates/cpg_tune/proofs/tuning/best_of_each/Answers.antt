@@ -1,4 +1,4 @@
--- Proof of `best_of_each`: the best parts of each process.
+-- Proof of `best_of_each`: returns the best number of parts of each process, by number.
 use Rattle.std.proofs.Common.{rules}
 use Rattle.cpg_tune.proofs.AsBefore.{best_parts_push}
 use Rattle.cpg_tune.proofs.tuning.best_of_each.Goals as goal

@@ -1,4 +1,4 @@
--- Loops of `best_of_each`: the best parts of each process.
+-- Loops of `best_of_each`: returns the best number of parts of each process, by number.
 use Rattle.std.proofs.Common.{◌≡◌, take}
 use Rattle.cpg_tune.specs.Best.{best_parts}
 use Rattle.cpg_tune.proofs.tuning.best_of_each.Given as goal

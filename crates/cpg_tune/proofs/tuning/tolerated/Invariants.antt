@@ -1,4 +1,4 @@
--- Loops of `tolerated`: the greatest fault number whose row is accepted.
+-- Loops of `tolerated`: returns the greatest fault number whose row is accepted, and `None` exactly if no row is.
 use Rattle.std.proofs.Common.{◌≡◌, drop}
 use Rattle.cpg_tune.specs.Tuned.{tolerated_from, tolerated}
 use Rattle.cpg_tune.proofs.tuning.tolerated.Given as goal

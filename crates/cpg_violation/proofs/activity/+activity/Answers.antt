@@ -1,4 +1,4 @@
--- Proof of `least_where` and `least_at`: the least scenario of a cube in which a tree comes to what is wanted.
+-- Proof of `least_where` and `least_at`: the least scenario of a cube in which a guard's process is active, or isn't.
 use Rattle.std.proofs.Common.{rules, ◌≡◌, subst, Some, List, map, Bor}
 use Rattle.cpg_cube.specs.declared.literal.Literal.{Literal}
 use Rattle.cpg_cube.specs.Fit.{IsKnown}
@@ -23,7 +23,7 @@ pub least_at-earlier-requires-clause-order : goal.least_at-earlier-requires-clau
 least_at-earlier-requires-clause-order t c =
     rw (c.order-order.ensures.order, c.problem-problem.ensures.problem) (long_order c.order-order.ensures.admitted)
 
--- the guard is a test, so the earlier of the answers of its two arms is the answer
+-- each scenario goes to one side of the test, so the earlier of the answers of the two sides is the least of all
 pub least_at-returns-in_ok-second-in-Test : goal.least_at-returns-in_ok-second-in-Test
 least_at-returns-in_ok-second-in-Test t c =
     let g = c.args.admitted.now.graph in
@@ -34,7 +34,7 @@ least_at-returns-in_ok-second-in-Test t c =
     (rw c.value_literal-off.ensures at c.in_ok-first-in-Test.ensures)
     (rw c.value_literal-on.ensures at c.in_ok-second-in-Test.ensures))
 
--- the cube with the literal is known to the graph
+-- the cube stays on variables of the graph when the literal narrows it
 pub least_where-least_at-requires : goal.least_where-least_at-requires
 least_where-least_at-requires t c =
     let g = c.args.admitted.now.graph in
@@ -43,7 +43,7 @@ least_where-least_at-requires t c =
     (known-narrowed g c.args.literal c.args.cube.now c.requires.literal c.requires.cube) in
     (search rules, (c.requires.tree, (part, c.requires.list)))
 
--- the part has exactly the scenarios of the cube in which the literal holds
+-- `least_at` was asked of the part, which has exactly the scenarios of the cube in which the literal holds
 pub least_where-returns : goal.least_where-returns
 least_where-returns t c =
     where_holds c.args.admitted.now.graph c.args.admitted.now.order (map seen c.args.by.now) c.args.wanted

@@ -1,8 +1,7 @@
--- Recursion of `may_meet`: whether a scenario may match two lists of literals, both by rising variables: not if they
--- ask for different numbers of a variable.
+-- Recursion of `may_meet`: whether a scenario may match both of two lists of literals, whose variables rise.
 use Rattle.std.proofs.Common.{◌+◌, length}
 use Rattle.cpg_violation.proofs.apart.+may_meet.Given as goal
 
--- each call leaves out the first literal of at least one of the two cubes
+-- each call leaves out the first literal of at least one of the two lists
 abbrev pub decreases-may_meet : goal.decreases-may_meet
 decreases-may_meet l = length l.first.now + length l.second.now

@@ -1,4 +1,5 @@
--- Proof of `is_never`: whether a tree comes to an activation, or else to none, as wanted, in no scenario of a space.
+-- Proof of `is_never`: whether a guard's process is active in no scenario of a space, if `wanted` is true, or inactive
+-- in none, if it is false.
 use Rattle.std.proofs.lemmas.Bool.{OnTrue_at}
 use Rattle.cpg_violation.proofs.GuardLaws.{step_on, step_off, step_both}
 use Rattle.cpg_violation.proofs.guards.+is_never.Goals as goal

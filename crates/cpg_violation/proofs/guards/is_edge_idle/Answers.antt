@@ -1,4 +1,5 @@
--- Proof of `is_edge_idle`: whether an edge is live in no scenario of a space.
+-- Proof of `is_edge_idle`: whether an edge is live in no scenario of a space: its source never has the asked value, or
+-- is never active.
 use Rattle.std.proofs.lemmas.Bool.{OnTrue_at}
 use Rattle.cpg_base.specs.Activity.{active, takes, value_of}
 use Rattle.cpg_base.specs.Graph.{edge_at, source}

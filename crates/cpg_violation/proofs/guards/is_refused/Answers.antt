@@ -1,5 +1,4 @@
--- Proof of `is_refused`: whether the source of an edge has the value that the edge asks for in no scenario of a
--- space.
+-- Proof of `is_refused`: whether in no scenario of a space the source of an edge has the value that the edge asks for.
 use Rattle.std.proofs.Common.{◌≡◌, ◌∙◌, Some, sym}
 use Rattle.cpg_base.specs.Graph.{condition_of, edge_at, source}
 use Rattle.cpg_tree.proofs.Passes.{of_true}

@@ -18,7 +18,7 @@ is_never-requires c =
     ) in
     (c.guards.result.now.conditions, few, c.guard_of.ensures.below)
 
--- the guard never comes to inactivity in the space, so the process is active in each of its scenarios
+-- the guard of the process says inactive in no scenario of the space, so the process is active in each
 pub returns : goal.returns
 returns c =
     let tree : c.guard_of.result.now ≡ tree_of c.args.admitted.now.guards c.args.process =

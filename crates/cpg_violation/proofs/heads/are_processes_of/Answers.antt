@@ -1,4 +1,4 @@
--- Proof of `are_processes_of`: whether the processes are the graph's.
+-- Proof of `are_processes_of`: whether a head says of the processes what the graph does.
 use Rattle.std.proofs.Common.{length, ap, sym, refl, ◌∙◌}
 use Rattle.std.proofs.lemmas.List.FromFn.{length-map-range_with_len}
 use Rattle.cpg_base.specs.Graph.{process_count}

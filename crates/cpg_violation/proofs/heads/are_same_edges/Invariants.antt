@@ -1,4 +1,4 @@
--- Loops of `are_same_edges`: whether two lists of edges have the same ends.
+-- Loops of `are_same_edges`: whether the edges of two lists have the same ends, place by place.
 use Rattle.std.proofs.Common.{◌≡◌, take}
 use Rattle.cpg_violation.proofs.heads.are_same_edges.Given as goal
 

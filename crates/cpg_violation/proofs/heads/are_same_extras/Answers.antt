@@ -1,5 +1,4 @@
--- Proof of `are_same_extras`: whether the head says of the processes what the graph does in the parts that version 2
--- adds, if it has them.
+-- Proof of `are_same_extras`: whether a head has the graph's releases and own deadlines, which only version 2 has.
 use Rattle.std.proofs.Common.{◌≤◌, List, length, ap, arith, subst, IfSome, ◌∙◌, get_or, refl}
 use Rattle.cpg_base.specs.declared.process.Process.{Process}
 use Rattle.cpg_head.specs.GraphHead.{extra_of}

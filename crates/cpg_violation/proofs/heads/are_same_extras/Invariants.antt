@@ -1,5 +1,4 @@
--- Loops of `are_same_extras`: whether the head says of the processes what the graph does in the parts that version 2
--- adds, if it has them.
+-- Loops of `are_same_extras`: whether a head has the graph's releases and own deadlines, which only version 2 has.
 use Rattle.std.proofs.Common.{◌≡◌, IfSome, map, take}
 use Rattle.cpg_head.specs.GraphHead.{extra_of}
 use Rattle.cpg_violation.proofs.heads.are_same_extras.Given as goal

@@ -1,4 +1,4 @@
--- Loops of `are_same_processes`: whether two lists of processes of heads are the same.
+-- Loops of `are_same_processes`: whether two lists of processes of heads are the same, place by place.
 use Rattle.std.proofs.Common.{◌≡◌, take}
 use Rattle.cpg_violation.proofs.heads.are_same_processes.Given as goal
 

@@ -1,4 +1,5 @@
--- Proof of `longest`: how long an execution takes at most in the scenarios of a space.
+-- Proof of `longest`: how long an execution of a process takes at most in the scenarios of a space: with the most
+-- faults that the space leaves it.
 use Rattle.std.proofs.Common.{◌≤◌, ◌<◌, arith}
 use Rattle.cpg_base.specs.Scenario.{fault_of}
 use Rattle.cpg_base.proofs.NumbersOf.{number_of-fault}

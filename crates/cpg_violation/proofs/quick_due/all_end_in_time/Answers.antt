@@ -1,4 +1,4 @@
--- Proof of `all_end_in_time`: whether an execution ends by its process's due whichever of these columns starts it.
+-- Proof of `all_end_in_time`: whether an execution ends by its process's due, whichever of these columns starts it.
 use Rattle.std.proofs.Common.{ℕ, ◌≡◌, ◌≤◌, ◌+◌, true, arith}
 use Rattle.std.proofs.lemmas.Bool.{OnTrue_at}
 use Rattle.cpg_base.specs.Duration.{duration, due}
@@ -11,7 +11,7 @@ use Rattle.cpg_violation.proofs.SureLaws.{each_all, each_more}
 use Rattle.cpg_violation.proofs.TimeLaws.{by_due}
 use Rattle.cpg_violation.proofs.quick_due.all_end_in_time.Goals as goal
 
--- it ends in time wherever the column matches
+-- an execution that column `d` starts ends by the due wherever the column matches
 abbrev Ends : Graph → ℕ → Column → Type 0
 Ends g p d = (s : Scenario) → IsScenario g s → matches d.cube s ≡ true → d.time + duration g p (fault_of s p) ≤ due g p
 
@@ -20,6 +20,7 @@ pub loop-column-preserved-then-saturating_add-due : goal.loop-column-preserved-t
 loop-column-preserved-then-saturating_add-due c =
     let g = c.args.problem.now in
     let p = c.args.process in
+    -- the sum didn't saturate, as a due is far below the greatest number
     let end : c.column-item.result.time + c.longest-most.result ≤ c.due-due.result = by_due g c.faults.ensures.within p
     (c.column-item.result.time + c.longest-most.result) c.saturating_add.result c.due-due.result
     c.saturating_add.ensures c.due-due.ensures c.if-saturating_add-due.true in
@@ -40,7 +41,7 @@ loop-column-preserved c =
     c.column-item.result c.loop-column-test.true c.column-item.is c.loop-column.invariant
     (OnTrue_at c.if-not-ends_in_time.false c.ends_in_time.ensures)
 
--- by no column the execution ends too late
+-- the loop has gone over all columns
 pub returns : goal.returns
 returns c = each_all (Ends c.args.problem.now c.args.process) c.args.columns.now c.loop-column.column-index
     c.loop-column-test.false c.loop-column.invariant

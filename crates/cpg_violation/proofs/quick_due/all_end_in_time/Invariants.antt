@@ -1,4 +1,4 @@
--- Loops of `all_end_in_time`: whether an execution ends by its process's due whichever of these columns starts it.
+-- Loops of `all_end_in_time`: whether an execution ends by its process's due, whichever of these columns starts it.
 use Rattle.std.proofs.Common.{◌≡◌, ◌≤◌, ◌+◌, All, true, take}
 use Rattle.cpg_base.specs.Duration.{duration, due}
 use Rattle.cpg_base.specs.Scenario.{Scenario, IsScenario, fault_of}

@@ -1,4 +1,5 @@
--- Proof of `ends_in_time`: whether an execution that a column starts ends by its process's due.
+-- Proof of `ends_in_time`: whether an execution that a column starts ends by its process's due in every scenario that
+-- the column matches.
 use Rattle.std.proofs.Common.{◌≤◌, ◌+◌, arith}
 use Rattle.cpg_violation.proofs.SpaceLaws.{lies_in, not_none}
 use Rattle.cpg_violation.proofs.SureLaws.{on_le}
@@ -17,6 +18,7 @@ pub returns : goal.returns
 returns c = on_le c.saturating_add-end.result c.due.result (λ e s law m.
     let g = c.args.problem.now in
     let p = c.args.process in
+    -- the scenario lies in the space, and the sum didn't saturate, as a due is far below the greatest number
     let lies = lies_in g c.faults.result c.faults.ensures.faults s law c.args.column.now.cube c.literals.result.now
     c.literals.ensures.literals m c.of.result c.in-Some.space c.in-Some.is
     c.of.ensures.lies in

@@ -1,4 +1,4 @@
--- Proof of `is_sure`: whether a row keeps the rule.
+-- Proof of `is_sure`: whether V9 is known to hold at an item.
 use Rattle.std.proofs.Common.{◌≡◌, ◌≤◌, ◌+◌, All, true, subst}
 use Rattle.cpg_base.specs.Duration.{duration, due}
 use Rattle.cpg_base.specs.Scenario.{Scenario, IsScenario, fault_of}

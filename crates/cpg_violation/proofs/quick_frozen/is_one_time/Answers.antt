@@ -1,4 +1,4 @@
--- Proof of `is_one_time`: whether all these columns are at one time, also those that match in no scenario.
+-- Proof of `is_one_time`: whether all these columns have one time, also those that match in no scenario.
 use Rattle.std.proofs.Common.{◌≡◌}
 use Rattle.cpg_cube.specs.declared.column.Column.{Column}
 use Rattle.cpg_violation.proofs.SureLaws.{each_all}

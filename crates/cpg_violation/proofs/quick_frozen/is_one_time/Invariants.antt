@@ -1,4 +1,4 @@
--- Loops of `is_one_time`: whether all these columns are at one time, also those that match in no scenario.
+-- Loops of `is_one_time`: whether all these columns have one time, also those that match in no scenario.
 use Rattle.std.proofs.Common.{◌≡◌, All, take}
 use Rattle.cpg_violation.proofs.quick_frozen.is_one_time.Given as goal
 

@@ -1,4 +1,4 @@
--- Proof of `sifted`: these places, parted at most `depth` times.
+-- Proof of `sifted`: a sieve of these places, with at most `depth` cuts below one another.
 use Rattle.std.proofs.Common.{rules, ◌≡◌, Option, subst}
 use Rattle.std.specs.Prelude.{IfSome}
 use Rattle.cpg_violation.specs.declared.sieve.SieveSides.{SieveSides}
@@ -6,9 +6,10 @@ use Rattle.cpg_violation.specs.Parts.{ArePartsOf}
 use Rattle.cpg_violation.proofs.SieveLaws.{sifts_cut}
 use Rattle.cpg_violation.proofs.sieve.+sifted.Goals as goal
 
--- the places of both sides are sifted, so the cut sifts all
+-- each side sifts its places, and no place that a scenario needs is lost, so the cut sifts all
 pub returns : goal.returns
 returns t c =
+    -- the boxes hold the two sieves, and the sides are those of the cut
     let low : c.in_ok-below-2.below.value ≡ c.in_ok-below.below = search rules in
     let high : c.in_ok-above-2.above.value ≡ c.in_ok-above.above = search rules in
     let parts : ArePartsOf c.args.columns.now c.as_slice.result.now c.in-Some.sides = subst

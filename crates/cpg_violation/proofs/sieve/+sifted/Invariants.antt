@@ -1,6 +1,6 @@
--- Recursion of `sifted`: these places, parted at most `depth` times.
+-- Recursion of `sifted`: a sieve of these places, with at most `depth` cuts below one another.
 use Rattle.cpg_violation.proofs.sieve.+sifted.Given as goal
 
--- each call may go one level less deep
+-- the sides of a cut may have one cut less below one another
 abbrev pub decreases-sifted : goal.decreases-sifted
 decreases-sifted l = l.depth

@@ -1,4 +1,4 @@
--- Proof of `meeting`: those of these places whose columns may match some scenario together with a cube.
+-- Proof of `meeting`: those of these places whose columns may match a scenario together with a cube.
 use Rattle.std.proofs.Common.{rules, ◌≡◌, ◌∷◌, ◌++◌, [], get_or}
 use Rattle.cpg_violation.proofs.ApartLaws.{meets_push, meets_skip, meets_all}
 use Rattle.cpg_violation.proofs.sieve.meeting.Goals as goal

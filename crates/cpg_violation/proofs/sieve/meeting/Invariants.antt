@@ -1,4 +1,4 @@
--- Loops of `meeting`: those of these places whose columns may match some scenario together with a cube.
+-- Loops of `meeting`: those of these places whose columns may match a scenario together with a cube.
 use Rattle.std.proofs.Common.{◌≡◌, ◌<◌, ℕ, Contains, length, true, take}
 use Rattle.cpg_base.specs.Scenario.{Scenario}
 use Rattle.cpg_cube.specs.Cube.{matches}

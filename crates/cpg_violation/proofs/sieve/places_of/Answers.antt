@@ -1,4 +1,4 @@
--- Proof of `places_of`: the places of all columns.
+-- Proof of `places_of`: the places of all columns, from 0 on.
 use Rattle.std.proofs.Common.{◌≡◌, Contains, arith, subst, inl, inr, [], ◌∷◌, ◌++◌}
 use Rattle.std.proofs.lemmas.Bool.{cases_lt}
 use Rattle.std.proofs.lemmas.List.Elements.{Contains-append_left, Contains-push}

@@ -1,4 +1,4 @@
--- Loops of `places_of`: the places of all columns.
+-- Loops of `places_of`: the places of all columns, from 0 on.
 use Rattle.std.proofs.Common.{◌<◌, ℕ, Contains}
 use Rattle.cpg_violation.proofs.sieve.places_of.Given as goal
 

@@ -1,9 +1,9 @@
--- Proof of `pairs`: the words two by two, each pair a period and a graph.
+-- Proof of `pairs`, which reads the words two by two, each pair a period and a graph.
 use Rattle.std.proofs.Common.{◌∙◌, sym}
 use Rattle.cpg_words.proofs.Pairing.{pairs_step, pairs_odd}
 use Rattle.cpg_words.proofs.forms.pairs.Goals as goal
 
--- one more pair is read, and all pairs stay the same
+-- one more pair is read from the words left, so the pairs of all words stay the same
 pub loop-left-preserved : goal.loop-left-preserved
 loop-left-preserved c = pairs_step c.loop-left.left.now _ c.loop-left.pairs.items c.push.new.self.items
     (record { period = c.in-Some.period; graph = c.in_ok-graph.graph }) _

@@ -1,4 +1,4 @@
--- Loops of `pairs`: the words two by two, each pair a period and a graph.
+-- Loops of `pairs`, which reads the words two by two, each pair a period and a graph.
 use Rattle.std.proofs.Common.{◌≡◌, length}
 use Rattle.cpg_words.specs.Parts.{texts}
 use Rattle.cpg_words.specs.Forms.{pairs_of}

@@ -1,4 +1,4 @@
--- Loops of `with_forms`: the line with these subcommands added.
+-- Loops of `with_forms`, which returns the line with these subcommands added.
 use Rattle.std.proofs.Common.{◌≡◌, drop, fold, map}
 use Rattle.clap.specs.Words.{app_of}
 use Rattle.cpg_words.specs.Line.{with_command}

@@ -1,4 +1,5 @@
--- Proof of `number`: the number that 1 to 20 decimal digits write, if it is below 2^64; None for every other text.
+-- Proof of `number`, which returns the number that 1 to 20 decimal digits write, if it is below 2^64; `None` for every
+-- other text.
 use Rattle.std.proofs.Common.{◌∙◌, sym, ℕ, Ok, Err}
 use Rattle.cpg_words.proofs.Numbers.{digits_all, number_parsed}
 use Rattle.cpg_words.proofs.number.number.Goals as goal

@@ -1,4 +1,5 @@
--- Proof of `asked`: the command that the subcommand found by `clap` asks for.
+-- Proof of `asked`, which returns the command that a subcommand found by `clap` asks for; `Bad` only if it has other
+-- words than its form.
 use Rattle.std.proofs.Common.{List, ap₂, codes, refl}
 use Rattle.clap.specs.Words.{found_of}
 use Rattle.cpg_words.specs.Parts.{Text}

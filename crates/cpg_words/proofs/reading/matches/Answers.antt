@@ -1,4 +1,4 @@
--- Proof of `matches`: what `clap` finds in the words.
+-- Proof of `matches`, which returns what `clap` finds in the words; `Bad` only if it refuses them.
 use Rattle.std.proofs.Common.{map, string_bytes, ◌∙◌}
 use Rattle.cpg_words.proofs.Asks.{all_texts, ok_asks, bad_asks}
 use Rattle.cpg_words.proofs.reading.matches.Goals as goal

@@ -1,4 +1,4 @@
--- Proof of `read_words`: the command that the words ask for, by the rule of this crate.
+-- Proof of `read_words`, which returns the command that the words ask for, by the rule of this crate.
 use Rattle.std.proofs.Common.{◌∙◌, ap, sym}
 use Rattle.cpg_words.specs.Matches.{command_at}
 use Rattle.cpg_words.proofs.Asks.{answered, answered_bad, answers_as, entered_rows}

@@ -1,5 +1,5 @@
--- Proof of `Conditions::of`: the conditions of this many processes, by number; `None` exactly if there are more than
--- 32.
+-- Proof of `Conditions::of`: returns the conditions of this many processes with these edges, and `None` exactly if
+-- there are more than 32.
 use Rattle.std.proofs.Common.{◌≡◌, ◌∙◌, ◌∷◌, [], sym, ap, false, get_or, length, filter, length-append, arith}
 use Rattle.cpg_base.specs.Numbers.{numbers_below}
 use Rattle.cpg_base.proofs.Lists.{filter_below_takes, filter_below_skips}
@@ -9,7 +9,7 @@ use Rattle.cpg_base.proofs.conditions.Conditions.of.Goals as goal
 use Rattle.cpg_base.proofs.conditions.Conditions.of.Goals.{then-found-process+else-count-eq-MOST_CONDITIONS}
 use Rattle.cpg_base.proofs.conditions.Conditions.of.Goals.{else-found-process}
 
--- 32 conditions were found before this process, which has one more
+-- 32 processes before this one have a condition, and so has this one: more than 32 in all
 pub returns-then-count-eq-MOST_CONDITIONS-clause-many :
     goal.returns-then-count-eq-MOST_CONDITIONS-clause-many
 returns-then-count-eq-MOST_CONDITIONS-clause-many c =

@@ -1,5 +1,5 @@
--- Proof of `Lengths::full`: the longest executions of a scenario: for each process, its duration with its fault count
--- in the scenario.
+-- Proof of `Lengths::full`: returns the longest executions of a scenario: for each process, its duration with its
+-- fault count in the scenario.
 use Rattle.std.proofs.Common.{◌∙◌, ap}
 use Rattle.cpg_base.specs.Duration.{duration}
 use Rattle.cpg_base.specs.Scenario.{fault_of}

@@ -1,5 +1,5 @@
--- Loops of `Lengths::full`: the longest executions of a scenario: for each process, its duration with its fault count
--- in the scenario.
+-- Loops of `Lengths::full`: returns the longest executions of a scenario: for each process, its duration with its
+-- fault count in the scenario.
 use Rattle.std.proofs.Common.{◌≡◌, map}
 use Rattle.cpg_base.specs.Numbers.{numbers_below}
 use Rattle.cpg_base.specs.Duration.{duration}

@@ -1,11 +1,11 @@
--- Proof of `Order::at`: the process at a place, counted from 0.
+-- Proof of `Order::at`: returns the process at a place, counted from 0.
 use Rattle.std.proofs.Common.{◌<◌, ◌∙◌, sym, ap, length, arith, subst}
 use Rattle.std.proofs.lemmas.List.{get_or_default}
 use Rattle.cpg_base.specs.Order.{place}
 use Rattle.cpg_base.proofs.Standing.{process_within, place_at}
 use Rattle.cpg_base.proofs.order.Order.at.Goals as goal
 
--- at each place of an order stands one of its processes
+-- an order has only numbers below its length
 pub returns-clause-within : goal.returns-clause-within
 returns-clause-within c =
     let h : c.args.at < length c.self.inside.processes.items =
@@ -15,7 +15,7 @@ returns-clause-within c =
     let w = process_within c.self.inside.processes.items c.self.invariant.lawful c.args.at (omega arith) in
     omega (arith, c.index.ensures))
 
--- the place of the process at a place is that place
+-- no process stands twice, so the place of the process at a place is that place
 pub returns-clause-back : goal.returns-clause-back
 returns-clause-back c =
     let h : c.args.at < length c.self.inside.processes.items =

@@ -1,10 +1,10 @@
--- Proof of `Order::place`: the place of a process, counted from 0.
+-- Proof of `Order::place`: returns the place of a process, counted from 0.
 use Rattle.std.proofs.Common.{◌<◌, ◌∙◌, sym, ap, subst, get_or, length, arith}
 use Rattle.std.proofs.lemmas.List.{get_or_default}
 use Rattle.cpg_base.proofs.Standing.{at_place}
 use Rattle.cpg_base.proofs.order.Order.place.Goals as goal
 
--- at the place of a process stands the process
+-- each process is in the order, and the kept place is the one at which it stands
 pub returns-clause-there : goal.returns-clause-there
 returns-clause-there c =
     let h : c.args.process < length c.self.inside.processes.items =

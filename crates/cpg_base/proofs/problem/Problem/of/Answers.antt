@@ -1,4 +1,4 @@
--- Proof of `Problem::of`: the graph of these parts, which are known to be within the limits.
+-- Proof of `Problem::of`: returns the graph of these parts, without an order to compile under.
 use Rattle.std.proofs.Common.{◌≡◌, None, ◌<◌, rules, ◌∙◌, ap₂, length, filter, arith}
 use Rattle.cpg_base.specs.Numbers.{numbers_below}
 use Rattle.cpg_base.specs.Conditions.{has_conditional_output}
@@ -6,7 +6,7 @@ use Rattle.cpg_base.specs.Graph.{Graph, disjunctions}
 use Rattle.cpg_base.proofs.Found.{conditions_found}
 use Rattle.cpg_base.proofs.problem.Problem.of.Goals as goal
 
--- the conditions that are found are those of the graph, of which there are at most 32
+-- `None` for the conditions would mean more than 32, but they are those of the graph, of which there are at most 32
 pub unreachable-requires : goal.unreachable-requires
 unreachable-requires c =
     -- the graph of the arguments
@@ -31,7 +31,7 @@ unreachable-requires c =
     let over : 32 < length (disjunctions g) = rw found at many in
     omega (arith, c.requires.few_conditions, over)
 
--- the graph was judged before, and the conditions that are found are its own
+-- The graph keeps its invariant: it is required to be within the limits, and the conditions that are found are its own.
 pub invariant_of-result : goal.invariant_of-result
 invariant_of-result c =
     -- the graph of the arguments

@@ -5,7 +5,7 @@ use Rattle.cpg_base.proofs.Items.{process_of_below}
 use Rattle.cpg_base.proofs.Found.{condition_back}
 use Rattle.cpg_base.proofs.problem.Problem.process_of.Goals as goal
 
--- the condition of a condition's process is that condition
+-- conditions are numbered by their places in a list without repeats, so the process's condition is this one
 pub returns-clause-back : goal.returns-clause-back
 returns-clause-back c =
     let same : c.processes.result.now ≡ disjunctions c.args.self.now =
@@ -13,7 +13,7 @@ returns-clause-back c =
     ap (λ ps. condition_of c.args.self.now (get_or ps c.args.condition 0)) same
     ∙ condition_back c.args.self.now c.args.condition c.requires
 
--- the process of a condition is a process of the graph
+-- the list of those with a condition has only processes of the graph
 pub returns-clause-within : goal.returns-clause-within
 returns-clause-within c =
     let same : c.processes.result.now ≡ disjunctions c.args.self.now =

@@ -1,11 +1,11 @@
--- Proof of `Problem::round`: the length of a round of the bus, in time units.
+-- Proof of `Problem::round`: the length of a round of the bus, in time units: of all slots together.
 use Rattle.std.proofs.Common.{◌≡◌, ap, arith}
 use Rattle.std.specs.List.{sum_by}
 use Rattle.std.proofs.lemmas.List.Sums.{sum_by-le}
 use Rattle.cpg_base.specs.Graph.{Slot}
 use Rattle.cpg_base.proofs.problem.Problem.round.Goals as goal
 
--- there are at most 16 slots, each no longer than the limit
+-- the sum doesn't overflow: there are at most 16 slots, each of at most 10^9 time units
 pub round_of-requires : goal.round_of-requires
 round_of-requires c =
     let within = c.self.invariant.0 in

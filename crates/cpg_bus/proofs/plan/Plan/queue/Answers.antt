@@ -1,4 +1,4 @@
--- Proof of `Plan::queue`: the items that a process sends.
+-- Proof of `Plan::queue`: returns the items that a process sends, as its node's queue has them.
 use Rattle.std.proofs.Common.{◌<◌, ◌∙◌, [], ap, length, get_or, arith}
 use Rattle.std.proofs.lemmas.List.{get_or_default}
 use Rattle.std.proofs.lemmas.List.FromFn.{length-map-range_with_len}
@@ -22,6 +22,7 @@ index-queue-requires c =
 pub returns : goal.returns
 returns c =
     let is = ap (λ p. p.queues) (c.self.view_is ∙ c.requires.plan) in
+    -- the process has a place among the queues
     let long : c.args.process < length c.self.inside.queues.items =
     omega (
       arith,

@@ -1,4 +1,4 @@
--- Proof of `Plan::share`: the share of a node that has a slot.
+-- Proof of `Plan::share`: returns the share of a node that has a slot.
 use Rattle.std.proofs.Common.{◌<◌, ◌∙◌, None, sym, ap, length, get_or, arith}
 use Rattle.std.proofs.lemmas.Bool.{cond-true}
 use Rattle.std.proofs.lemmas.List.{get_or_default}

@@ -1,5 +1,5 @@
--- Proof of `Hearing::add_literal`: adds the bounds of a column's literal that the node's own ends may leave open at its
--- time.
+-- Proof of `Hearing::add_literal`: adds to `bounds` those of a column's literal that the node's own ends leave open
+-- where the column matches, at its time.
 use Rattle.std.proofs.Common.{◌||◌, ◌∙◌, not, ap, sym}
 use Rattle.std.proofs.Math.Bool.{or-false}
 use Rattle.cpg_base.proofs.Lists.{from_all}
@@ -12,13 +12,14 @@ use Rattle.cpg_check_heard.proofs.Bounded.{heard_is, literal_more}
 use Rattle.cpg_check_heard.proofs.Endings.{ended_heard}
 use Rattle.cpg_check_heard.proofs.hearing.Hearing.add_literal.Goals as goal
 
--- the literal's process has ended, so the literal is heard and adds nothing that is untold
+-- the literal's process has ended on the node, so the literal is heard, and `bounds` stay as they are
 pub returns-then-has_ended-clause-unheard : goal.returns-then-has_ended-clause-unheard
 returns-then-has_ended-clause-unheard c = λ s law m.
     let g = c.args.self.now.admitted.now.graph in
     let tables = c.args.self.now.tables.now.nodes in
     let l = c.args.literal.now in
     let old = is_one_untold g tables c.args.node c.args.column.now.time c.args.bounds.now.items s in
+    -- its process is active, as the column matches, and its number there is within the literal
     let heard = ended_heard g tables c.requires.hearing.admitted.well_formed.few_processes c.requires.hearing.rules s
     law c.args.node c.args.column.now.time l c.requires.variable
     c.if-has_ended.ensures
@@ -26,7 +27,7 @@ returns-then-has_ended-clause-unheard c = λ s law m.
     (from_all (holds s) c.args.column.now.cube l m c.requires.literal) in
     sym (ap (λ x. old || x) heard ∙ or-false old)
 
--- the literal is unheard exactly if its low or its high is untold, which were added if they may be
+-- the literal is unheard exactly if its low or its high is untold, and the two calls took account of one each
 pub returns-clause-unheard : goal.returns-clause-unheard
 returns-clause-unheard c = λ s law m.
     let g = c.args.self.now.admitted.now.graph in
@@ -34,6 +35,7 @@ returns-clause-unheard c = λ s law m.
     let node = c.args.node in
     let time = c.args.column.now.time in
     let l = c.args.literal.now in
+    -- what each call says of its bound
     let one = rw c.low_of.ensures at c.in_ok-add_open.ensures.untold s law m in
     let two = rw c.high_of.ensures at c.in_ok-add_open-2.ensures.untold s law m in
     literal_more (is_one_untold g tables node time c.args.bounds.now.items s)

@@ -1,5 +1,5 @@
--- Proof of `Hearing::is_open`: whether a node may not have been told a bound by a time by its own ends alone, somewhere
--- that a cube matches.
+-- Proof of `Hearing::is_open`: whether a bound is open for a node by its own ends: somewhere that a cube matches, no
+-- end has told it by a time.
 use Rattle.std.proofs.Common.{◌<◌, ◌||◌, ◌∙◌, ap}
 use Rattle.std.specs.List.{list_any}
 use Rattle.cpg_base.specs.Graph.{process_count, process_of_variable}
@@ -13,7 +13,7 @@ use Rattle.cpg_check_heard.proofs.Sides.{variable_within}
 use Rattle.cpg_check_heard.proofs.Untolds.{fewer_left, own_told}
 use Rattle.cpg_check_heard.proofs.hearing.Hearing.is_open.Goals as goal
 
--- if the own ends' parts leave nothing of the cube, the bound is told wherever it matches
+-- if the parts in which the own ends tell the bound leave nothing of the cube, the bound is told wherever that matches
 pub returns : goal.returns
 returns c =
     let g = c.args.self.now.admitted.now.graph in
@@ -23,6 +23,8 @@ returns c =
     let few = c.requires.hearing.admitted.well_formed.few_processes in
     let within : process_of_variable g (variable_of b) < process_count g =
     variable_within g (variable_of b) few c.requires.variable in
+    -- the list was empty at first, so it matches just where an own end tells the bound, which is part of all that is
+    -- heard
     fewer_left c.in_ok-left.left
     (λ closed s i m. own_told (is_free g.faults b) (list_any (λ d. matches d s) told)
     (own_tells g tables c.args.node c.args.time b s) (are_told_by g tables c.args.time b (heard_by g c.args.node) s)

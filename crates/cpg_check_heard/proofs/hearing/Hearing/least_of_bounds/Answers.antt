@@ -1,5 +1,5 @@
 -- Proof of `Hearing::least_of_bounds`: the least scenario that a column matches and in which a node hasn't been told
--- one of these bounds by its time, if there is one.
+-- one of these bounds by its time.
 use Rattle.std.proofs.Common.{not}
 use Rattle.cpg_cube.specs.Cube.{matches}
 use Rattle.cpg_violation.proofs.Columnwise.{first_any_more}
@@ -12,7 +12,7 @@ pub earlier-found-requires-clause-order : goal.earlier-found-requires-clause-ord
 earlier-found-requires-clause-order c =
     rw (c.order-order.ensures.order, c.problem-problem.ensures.problem) (long_order c.order-order.ensures.admitted)
 
--- the earlier of the answer so far and the next bound's is the first of one bound more
+-- the earlier of the answer so far and the next bound's is the least for one bound more
 pub loop-bound-preserved : goal.loop-bound-preserved
 loop-bound-preserved c =
     let g = c.args.self.now.admitted.now.graph in

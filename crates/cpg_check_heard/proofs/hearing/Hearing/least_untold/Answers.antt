@@ -1,5 +1,5 @@
 -- Proof of `Hearing::least_untold`: the least scenario that a column matches and in which a node hasn't been told a
--- bound by its time, if there is one.
+-- bound by its time.
 use Rattle.std.proofs.Common.{rules, ◌≡◌, ◌<◌, ◌||◌, false, sym, ap, ◌∙◌}
 use Rattle.std.specs.List.{list_any}
 use Rattle.cpg_base.specs.Graph.{process_count, process_of_variable}
@@ -66,10 +66,10 @@ returns c =
     ap (λ xs. own_tells g tables c.args.node c.args.column.now.time b s
     || are_told_by g tables c.args.column.now.time b xs s) (sym c.requires.items))) left
 
--- the columns are columns of the graph that may tell the bound
+-- the columns are on variables of the graph, and can tell each bound
 pub tells_one_whole-requires-clause-arrivals : goal.tells_one_whole-requires-clause-arrivals
 tells_one_whole-requires-clause-arrivals c = rw c.problem-problem.ensures.problem c.requires.arrivals.each
 
--- so they are for the parts
+-- so `add_told` may be called on them, too
 pub add_told-requires-clause-arrivals : goal.add_told-requires-clause-arrivals
 add_told-requires-clause-arrivals c = rw c.problem-problem.ensures.problem c.requires.arrivals.each

@@ -1,5 +1,5 @@
--- Proof of `Hearing::open_bounds`: the bounds of a column's literals that the node's own ends may leave open at its
--- time.
+-- Proof of `Hearing::open_bounds`: the bounds of a column's literals that the node's own ends leave open where the
+-- column matches, at its time.
 use Rattle.std.proofs.Common.{◌<◌, ◌||◌, ◌∙◌, ap, sym, arith, length, get_or}
 use Rattle.std.proofs.lemmas.List.Elements.{Contains-get_or}
 use Rattle.std.proofs.lemmas.List.Folds.{list_any_more}
@@ -16,7 +16,7 @@ add_literal-requires-clause-literal c =
     rw c.literals-literal-items.ensures.literals
     (Contains-get_or cube i (record { variable = 0; low = 0; high = 0 }) within)
 
--- with the next literal's open bounds, one literal more is heard exactly if no bound is untold
+-- with the open bounds of the next literal, one bound is untold exactly if one of one literal more is unheard
 pub loop-literal-preserved : goal.loop-literal-preserved
 loop-literal-preserved c =
     let g = c.args.self.now.admitted.now.graph in

@@ -1,5 +1,5 @@
--- Loops of `Hearing::open_bounds`: the bounds of a column's literals that the node's own ends may leave open at its
--- time.
+-- Loops of `Hearing::open_bounds`: the bounds of a column's literals that the node's own ends leave open where the
+-- column matches, at its time.
 use Rattle.std.proofs.Common.{◌≡◌, true, All, take}
 use Rattle.std.specs.List.{list_any}
 use Rattle.cpg_base.specs.Graph.{IsVariable}
@@ -10,8 +10,8 @@ use Rattle.cpg_check_heard.specs.Bounds.{variable_of}
 use Rattle.cpg_check_heard.specs.Unheard.{is_literal_unheard, is_one_untold}
 use Rattle.cpg_check_heard.proofs.hearing.Hearing.open_bounds.Given as goal
 
--- After each literal. `known`: each bound is of a variable of the graph. `unheard`: in the scenarios of the column
--- one of the bounds is not told exactly if one of the literals so far is unheard.
+-- After each literal. `known`: each bound is of a variable of the graph. `unheard`: where the column matches, one of
+-- the bounds is untold exactly if one of the literals so far is unheard.
 abbrev pub invariant-loop-literal : goal.invariant-loop-literal
 invariant-loop-literal l = record {
   known : All (λ (b : LiteralBound). IsVariable l.self.admitted.now.graph (variable_of b)) l.bounds.items;

@@ -1,4 +1,4 @@
--- Proof of `Hearing::ranks`: the rows that a node hears, those with long cubes first.
+-- Proof of `Hearing::ranks`: the rows of these items, all of which a node hears: those with long cubes first.
 use Rattle.std.proofs.Common.{◌<◌, List, All, Contains, arith, get_or, sym, subst}
 use Rattle.std.proofs.lemmas.List.Elements.{All-push}
 use Rattle.std.proofs.lemmas.List.Sorted.{All-permutation}
@@ -17,14 +17,14 @@ index-row-requires c =
     heard_below g c.args.node x (c.requires.items c.loop-item.item-index 0 c.loop-item-test.true) in
     omega (arith, below, c.requires.hearing.telling_rows.count)
 
--- the item of one rank more is among those that the node hears
+-- the node hears the item of the rank that is added
 pub loop-item-preserved : goal.loop-item-preserved
 loop-item-preserved c =
     let P = λ (r : RowRank). Contains (heard_by c.args.self.now.admitted.now.graph c.args.node) r.item in
     subst (All P) (sym {A = List RowRank} c.in_ok-push.ensures.items) (All-push P c.loop-item.ranks.items _
     c.loop-item.invariant (c.requires.items c.loop-item.item-index 0 c.loop-item-test.true))
 
--- so are all items, in whatever order they are sorted
+-- sorting the ranks changes only their order
 pub returns : goal.returns
 returns c =
     let P = λ (r : RowRank). Contains (heard_by c.args.self.now.admitted.now.graph c.args.node) r.item in

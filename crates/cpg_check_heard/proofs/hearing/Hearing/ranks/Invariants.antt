@@ -1,4 +1,4 @@
--- Loops of `Hearing::ranks`: the rows that a node hears, those with long cubes first.
+-- Loops of `Hearing::ranks`: the rows of these items, all of which a node hears: those with long cubes first.
 use Rattle.std.proofs.Common.{All, Contains}
 use Rattle.cpg_table.specs.Shape.{heard_by}
 use Rattle.cpg_check_heard.specs.declared.frames.RowRank.{RowRank}

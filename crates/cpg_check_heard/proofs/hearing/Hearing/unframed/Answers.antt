@@ -1,5 +1,5 @@
--- Proof of `Hearing::unframed`: those of some bounds that single frames may leave open at a column's time, somewhere
--- that the column matches.
+-- Proof of `Hearing::unframed`: those of some bounds that no single frame is found to tell by a column's time wherever
+-- the column matches.
 use Rattle.std.proofs.Common.{◌≤◌, ◌∙◌, [], Contains, not, sym}
 use Rattle.std.proofs.lemmas.List.Elements.{All-nil, All-push}
 use Rattle.cpg_base.specs.Graph.{process_count}
@@ -9,18 +9,18 @@ use Rattle.cpg_check_heard.proofs.Framed.{frame_told}
 use Rattle.cpg_check_heard.proofs.Sides.{variable_within}
 use Rattle.cpg_check_heard.proofs.hearing.Hearing.unframed.Goals as goal
 
--- the one item that is asked about is among those that the node hears
+-- the node hears the item of the rank
 pub arrivals-requires-clause-items : goal.arrivals-requires-clause-items
 arrivals-requires-clause-items c =
     let P = Contains (heard_by c.args.self.now.admitted.now.graph c.args.node) in
     All-push P [] _ (All-nil P) (c.requires.ranks c.loop-rank.rank-index _ c.loop-rank-test.true)
 
--- the columns that may have come are columns of the graph
+-- the arrivals are on variables of the graph, and can tell each bound
 pub left_open-requires-clause-arrivals : goal.left_open-requires-clause-arrivals
 left_open-requires-clause-arrivals c =
     rw (c.problem-problem.ensures.problem, c.as_slice.ensures.value) c.in_ok-arrivals.ensures.each
 
--- the bounds that the next row's frames tell wherever the column matches are told, so they needn't be left
+-- what the next row's frames tell wherever the column matches is told, so leaving it out changes no answer there
 pub loop-rank-preserved : goal.loop-rank-preserved
 loop-rank-preserved c =
     let g = c.args.self.now.admitted.now.graph in

@@ -1,5 +1,5 @@
--- Loops of `Hearing::unframed`: those of some bounds that single frames may leave open at a column's time, somewhere
--- that the column matches.
+-- Loops of `Hearing::unframed`: those of some bounds that no single frame is found to tell by a column's time wherever
+-- the column matches.
 use Rattle.std.proofs.Common.{◌≡◌, true, All}
 use Rattle.cpg_base.specs.Graph.{IsVariable}
 use Rattle.cpg_base.specs.Scenario.{Scenario, IsScenario}
@@ -9,8 +9,8 @@ use Rattle.cpg_check_heard.specs.Bounds.{variable_of}
 use Rattle.cpg_check_heard.specs.Unheard.{is_one_untold}
 use Rattle.cpg_check_heard.proofs.hearing.Hearing.unframed.Given as goal
 
--- After each rank. `known`: each bound left is of a variable of the graph. `untold`: in the scenarios of the column
--- one of the bounds left is not told exactly if one of all the bounds isn't.
+-- After each rank. `known`: each bound that is left is of a variable of the graph. `untold`: where the column matches,
+-- one that is left is untold exactly if one of those at first is.
 abbrev pub invariant-loop-rank : goal.invariant-loop-rank
 invariant-loop-rank l = record {
   known : All (λ (b : LiteralBound). IsVariable l.self.admitted.now.graph (variable_of b)) l.left.items;

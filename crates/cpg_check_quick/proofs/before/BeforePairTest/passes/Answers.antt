@@ -1,4 +1,5 @@
--- Proof of `passes`: whether an item is over by the time of another's column, from the columns at a place of each.
+-- Proof of `passes`: whether the test passes at a place of the other item and one of the item itself, in all scenarios
+-- of a space.
 use Rattle.std.proofs.Common.{ℕ, Option, subst, sym}
 use Rattle.std.specs.Prelude.{IfSome}
 use Rattle.cpg_cube.specs.declared.column.Column.{Column}
@@ -8,7 +9,7 @@ use Rattle.cpg_check_quick.specs.SpannedRows.{IsOverAt}
 use Rattle.cpg_check_quick.proofs.OrderLaws.{told_at}
 use Rattle.cpg_check_quick.proofs.before.BeforePairTest.passes.Goals as goal
 
--- the column that was looked up is the one at the place, and the other item is over from it by its time
+-- the column that was looked up is the other item's at the first place, and the item is over by its time
 pub returns : goal.returns
 returns c = of_true c.is_over_from.result c.is_over_from.ensures (λ all s lies.
     subst (λ (o : Option ℕ). IfSome o

@@ -1,4 +1,4 @@
--- Proof of `passes_with_any`: whether an item is over by the time of another's column, even by its last column.
+-- Proof of `passes_with_any`: whether the test passes at a place of the other item whatever the item's own place is.
 use Rattle.std.proofs.Common.{inl, ℕ, Option, subst, sym}
 use Rattle.std.specs.Prelude.{IfSome}
 use Rattle.cpg_cube.specs.declared.column.Column.{Column}
@@ -8,7 +8,7 @@ use Rattle.cpg_check_quick.specs.SpannedRows.{IsOverAt}
 use Rattle.cpg_check_quick.proofs.OrderLaws.{told_at}
 use Rattle.cpg_check_quick.proofs.before.BeforePairTest.passes_with_any.Goals as goal
 
--- the item is over by the time of the column at the place, by its last column, whatever the second place is
+-- even begun by its last column, the item is over by the time of the column at the first place
 pub returns : goal.returns
 returns c = of_true c.has_come.result c.has_come.ensures.come (λ early second s.
     subst (λ (o : Option ℕ).

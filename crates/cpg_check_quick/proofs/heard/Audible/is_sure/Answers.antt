@@ -1,4 +1,4 @@
--- Proof of `Audible::is_sure`: whether a row keeps the rule.
+-- Proof of `Audible::is_sure`: whether V4 is known to hold at an item, which has these columns.
 use Rattle.std.proofs.Common.{◌≡◌, All, get_or, true, false, ap, ◌∙◌, subst}
 use Rattle.std.proofs.lemmas.Bool.{OnTrue_at}
 use Rattle.std.proofs.lemmas.List.Elements.{All-contains}

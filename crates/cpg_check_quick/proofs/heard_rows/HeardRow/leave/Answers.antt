@@ -1,11 +1,11 @@
--- Proof of `HeardRow::leave`: lists the same literals as `leave_each`.
+-- Proof of `HeardRow::leave`: writes to `left` what `leave_each` does.
 use Rattle.std.proofs.Common.{◌≡◌, ◌⊎◌, List, Some, inl, inr, subst}
 use Rattle.cpg_cube.specs.declared.literal.Literal.{Literal}
 use Rattle.cpg_check_quick.specs.HeardRows.{IsToldIn}
 use Rattle.cpg_check_quick.proofs.HeardRowLaws.{told_alone}
 use Rattle.cpg_check_quick.proofs.heard_rows.HeardRow.leave.Goals as goal
 
--- the column is at the only place, so what it tells is told at all places
+-- the column is at the only place, so what it tells is told at each place
 pub returns-in_ok-leave_by-in-Some-clause-told : goal.returns-in_ok-leave_by-in-Some-clause-told
 returns-in_ok-leave_by-in-Some-clause-told c m h = elim (c.in_ok-leave_by-in-Some.ensures.told m h) [
   | inl kept ↦ inl kept

@@ -1,5 +1,5 @@
--- Proof of `HeardRow::leave_by`: lists those of the wanted literals that the frames of one column don't tell, which has
--- these literals: both go by rising variable.
+-- Proof of `HeardRow::leave_by`: writes to `left`, in place of what is there, those of the wanted literals that the
+-- frame of one column isn't found to tell.
 use Rattle.std.proofs.Common.{◌≡◌, ◌⊎◌, Some, Contains, subst, sym}
 use Rattle.std.proofs.lemmas.Bool.{OnTrue_at}
 use Rattle.std.proofs.lemmas.List.{take_all}
@@ -8,7 +8,7 @@ use Rattle.cpg_check_quick.specs.HeardRows.{IsToldIn}
 use Rattle.cpg_check_quick.proofs.InputLaws.{others_among, others_push, others_skip}
 use Rattle.cpg_check_quick.proofs.heard_rows.HeardRow.leave_by.Goals as goal
 
--- what stands where there is no literal
+-- the default of `get_or`, which is never reached
 abbrev any : Literal
 any = record { variable = 0; low = 0; high = 0 }
 
@@ -22,7 +22,7 @@ loop-literal-preserved-then-tells_by c = record {
       (OnTrue_at c.if-tells_by.true c.tells_by.ensures) c.loop-literal.invariant.told;
 }
 
--- the next wanted literal is left
+-- the next wanted literal is kept, so each wanted literal so far is told or left
 pub loop-literal-preserved : goal.loop-literal-preserved
 loop-literal-preserved c = rw c.in_ok-push.ensures.items (record {
   among = others_among (λ (m : Literal). (c.args.self.now.value ≡ Some m.variable) ⊎ IsToldIn c.args.own.now m)
@@ -33,7 +33,7 @@ loop-literal-preserved c = rw c.in_ok-push.ensures.items (record {
       c.loop-literal-test.true c.loop-literal.invariant.told;
 })
 
--- the loop has gone over all of them, so what holds of those so far holds of all
+-- the loop has gone over all literals, so it holds of each
 pub returns-clause-told : goal.returns-clause-told
 returns-clause-told c = λ m h. c.loop-literal.invariant.told m (subst (λ xs. Contains xs m)
     (sym (take_all c.loop-literal.literal-index c.args.wanted.now c.loop-literal-test.false)) h)

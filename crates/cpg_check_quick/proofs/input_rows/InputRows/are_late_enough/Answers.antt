@@ -1,5 +1,5 @@
--- Proof of `InputRows::are_late_enough`: whether each of these columns is no earlier than a release, nor than these
--- inputs.
+-- Proof of `InputRows::are_late_enough`: whether each of these columns is no earlier than a release, and each of these
+-- inputs is there by then wherever the column matches and the input is live.
 use Rattle.std.proofs.Common.{arith}
 use Rattle.std.proofs.lemmas.Bool.{OnTrue_at}
 use Rattle.std.proofs.lemmas.List.Elements.{All-contains}
@@ -20,7 +20,7 @@ loop-column-preserved c =
           (OnTrue_at c.if-not-are_there.false c.are_there.ensures tables w rules) k;
     })
 
--- the loop has gone over all of them, so what holds of those so far holds of all
+-- the loop has gone over all columns, so it holds of each
 pub returns : goal.returns
 returns c =
     λ tables w rules. each_all (IsLateEnough c.args.self.now.admitted.now.graph tables c.args.edges.now c.args.release)

@@ -1,5 +1,5 @@
--- Proof of `InputRows::are_there`: whether these inputs are there by the time of a column wherever it matches and they
--- are live.
+-- Proof of `InputRows::are_there`: whether each of these inputs is there by the time of a column wherever the column
+-- matches and the input is live.
 use Rattle.std.proofs.Common.{true≢false, sym, ◌∙◌}
 use Rattle.std.proofs.lemmas.Bool.{OnTrue_at}
 use Rattle.cpg_tree.proofs.Forks.{from_false, from_true}
@@ -7,7 +7,7 @@ use Rattle.cpg_tree.proofs.Passes.{of_true}
 use Rattle.cpg_check_quick.proofs.InputLaws.{inputs_there}
 use Rattle.cpg_check_quick.proofs.input_rows.InputRows.are_there.Goals as goal
 
--- each input is over by the column's time in each scenario, so it is there
+-- what each input comes by is over by the column's time in each scenario, so the input is there wherever it is live
 pub returns-then-are_early : goal.returns-then-are_early
 returns-then-are_early c = λ tables w rules. inputs_there c.args.self.now.admitted.now.graph tables rules
     c.problem-problem.ensures.admitted.well_formed c.args.column.now c.args.edges.now
@@ -24,7 +24,7 @@ returns-then-not-narrow_to c = λ tables w rules. inputs_there c.args.self.now.a
     (from_false c.narrow_to.result c.if-not-narrow_to.true c.narrow_to.ensures.none) in
     absurd (true≢false (sym m ∙ none s (w.frames.everywhere.lies s law))))
 
--- the inputs are over in the space of the scenarios that the column matches, so they are there
+-- the space has all scenarios that the column matches, and what each live input comes by is over there
 pub returns : goal.returns
 returns c = of_true c.are_over.result c.are_over.ensures (λ over tables w rules.
     inputs_there c.args.self.now.admitted.now.graph tables rules c.problem-problem.ensures.admitted.well_formed

@@ -1,4 +1,5 @@
--- Proof of `InputRows::is_after_producer`: whether the producer of a send is always over before each of its columns.
+-- Proof of `InputRows::is_after_producer`: whether the producer of a send has ended by the time of the send, wherever a
+-- column of each matches.
 use Rattle.std.proofs.Common.{ap, ◌∙◌, subst, arith}
 use Rattle.cpg_base.specs.Graph.{producer}
 use Rattle.cpg_tree.proofs.Passes.{of_true}
@@ -6,7 +7,7 @@ use Rattle.cpg_check_quick.specs.Order.{IsBefore, execution, frame}
 use Rattle.cpg_check_quick.proofs.OrderLaws.{row_at}
 use Rattle.cpg_check_quick.proofs.input_rows.InputRows.is_after_producer.Goals as goal
 
--- the producer's execution comes before the columns of the item
+-- the producer's execution is over by the item's columns, as `precede` says of the only item in the list
 pub returns : goal.returns
 returns c = of_true c.precede.result c.precede.ensures (λ all tables w.
     let g = c.args.self.now.admitted.now.graph in

@@ -1,5 +1,5 @@
--- Proof of `InputRows::is_from_before`: whether an input of a process comes from the same node, from a process that is
--- always over before.
+-- Proof of `InputRows::is_from_before`: whether an input of a process comes from the same node, and its source is known
+-- to be over always before the process begins.
 use Rattle.std.proofs.Common.{◌≡◌, false, ap, sym, ◌∙◌, subst}
 use Rattle.cpg_base.specs.Graph.{is_message, source}
 use Rattle.cpg_tree.proofs.Passes.{of_true}

@@ -1,4 +1,4 @@
--- Proof of `InputRows::is_over`: whether what an input comes from is over by a time in those scenarios of a space in
+-- Proof of `InputRows::is_over`: whether what an input comes by is over by a time in those scenarios of a space in
 -- which the input is live.
 use Rattle.std.proofs.Common.{true≢false, sym, ◌∙◌}
 use Rattle.std.proofs.lemmas.Bool.{OnTrue_at, and_parts}
@@ -8,7 +8,7 @@ use Rattle.cpg_tree.proofs.Passes.{of_true}
 use Rattle.cpg_check_quick.proofs.InputRowLaws.{input_over}
 use Rattle.cpg_check_quick.proofs.input_rows.InputRows.is_over.Goals as goal
 
--- the source of the edge isn't active in the space, so the edge isn't live there
+-- the source never has the value that the edge asks for in the space, so the edge is live nowhere there
 pub returns-then-is_refused : goal.returns-then-is_refused
 returns-then-is_refused c = λ tables s w law lies on.
     let g = c.args.self.now.admitted.now.graph in
@@ -16,7 +16,7 @@ returns-then-is_refused c = λ tables s w law lies on.
     absurd (true≢false (sym (and_parts (active g s.values (source g c.args.edge)) _ on).1
     ∙ OnTrue_at c.if-is_refused.true refused s lies))
 
--- the row of the input is over by the time in each scenario of the space
+-- the row is that of what the input comes by, which is over by the time in each scenario of the space
 pub returns-in-Some : goal.returns-in-Some
 returns-in-Some c = of_true c.is_over.result c.is_over.ensures
     (λ over tables s w law lies on. input_over (c.in-Some.ensures tables w) c.args.time s

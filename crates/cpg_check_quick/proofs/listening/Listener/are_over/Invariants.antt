@@ -1,5 +1,5 @@
--- Loops of `Listener::are_over`: whether the processes of the variables of all these literals are on the node, and over
--- by a time in the scenarios of a space.
+-- Loops of `Listener::are_over`: whether the process of each of these literals is on the node, and over by a time in
+-- the scenarios of a space.
 use Rattle.std.proofs.Common.{List, All, take}
 use Rattle.cpg_base.specs.Scenario.{Scenario, IsScenario}
 use Rattle.cpg_cube.specs.declared.literal.Literal.{Literal}
@@ -10,8 +10,7 @@ use Rattle.cpg_check_quick.specs.Order.{execution}
 use Rattle.cpg_check_quick.specs.Sequences.{AreSequences}
 use Rattle.cpg_check_quick.proofs.listening.Listener.are_over.Given as goal
 
--- in each scenario of the space, each literal so far is on a variable of a process on the listener's own node that is
--- over by `time`
+-- in each scenario of the space, the process of each literal so far is on the listener's node and over by `time`
 abbrev pub invariant-loop-literal : goal.invariant-loop-literal
 invariant-loop-literal l = (tables : List NodeTable) (s : Scenario) →
     AreSequences (execution l.self.admitted.now.graph) l.self.admitted.now.graph tables l.self.sequences.now →

@@ -1,5 +1,5 @@
 -- Proof of `Listener::hears`: whether the node has heard all literals of one of the item's columns by its time,
--- wherever it matches: the low of each and its high, which different items may have told.
+-- wherever it matches: the low and the high of each, which different items may have told.
 use Rattle.std.proofs.Common.{◌≡◌, true, true≢false, List, flat_map, sym, ◌∙◌, subst}
 use Rattle.cpg_cube.specs.Cube.{matches}
 use Rattle.cpg_cube.specs.declared.literal.Literal.{Literal}
@@ -15,14 +15,15 @@ use Rattle.cpg_check_quick.proofs.BoundLaws.{all_wider, column_heard}
 use Rattle.cpg_check_quick.proofs.OwnLaws.{known_heard, left_heard}
 use Rattle.cpg_check_quick.proofs.listening.Listener.hears.Goals as goal
 
--- no scenario of the space matches the column, so there is nothing to show
+-- no scenario matches the column, so there is nothing to show
 pub returns-then-not-narrow_to : goal.returns-then-not-narrow_to
 returns-then-not-narrow_to c = λ tables x is rules k l h s law m.
     let none = rw c.literals-literals.ensures.literals at
     (from_false c.narrow_to.result c.if-not-narrow_to.true c.narrow_to.ensures.none) in
     absurd (true≢false (sym m ∙ none s (is.sequences.rows.everywhere.lies s law)))
 
--- each bound of the column is told by a frame, or is on a variable of a process that is over; so all are heard
+-- each low and high of the column's literals is told by a frame, or is on a variable of a process that is over; so all
+-- literals are heard
 pub returns : goal.returns
 returns c = of_true c.are_over.result c.are_over.ensures (λ over tables x is rules k.
     let g = c.args.self.now.admitted.now.graph in
@@ -41,7 +42,7 @@ returns c = of_true c.are_over.result c.are_over.ensures (λ over tables x is ru
     let listed : wanted ≡ flat_map (unknown_bounds g.faults known) column.cube =
     rw (c.literals-literals.ensures.literals, c.faults.ensures.faults, c.problem-problem.ensures.problem) at
     c.in_ok-list_unknown.ensures in
-    -- each bound is as wide as some literal of the column
+    -- some literal of the column implies each of them
     let wider : AreToldIn column.cube wanted = all_wider g tables node column known wanted listed in
     let told : AreLeft g tables (home g x) column wanted left = subst (λ n. AreLeft g tables n column wanted left)
     is.node (c.in_ok-listen.ensures g tables is.heard_rows wider lies) in

@@ -1,4 +1,5 @@
--- Proof of `Listener::hears_all`: whether it has heard all literals of all of the item's columns.
+-- Proof of `Listener::hears_all`: whether the node has heard all literals of each of these columns of the item by its
+-- time, wherever it matches.
 use Rattle.std.proofs.Common.{Contains, List, subst, sym}
 use Rattle.std.proofs.lemmas.Bool.{OnTrue_at}
 use Rattle.cpg_cube.specs.declared.column.Column.{Column}
@@ -16,7 +17,7 @@ loop-column-preserved c =
     (subst (λ (cs : List Column). Contains cs c.column-item.result) all
     (c.loop-column.column-index, c.loop-column-test.true, sym c.column-item.is)))
 
--- the loop has gone over all of them, so what holds of those so far holds of all
+-- the loop has gone over all columns, so it holds of each
 pub returns : goal.returns
 returns c =
     λ tables x is rules all. each_all (IsAllHeard c.args.self.now.admitted.now.graph tables c.args.self.now.node)

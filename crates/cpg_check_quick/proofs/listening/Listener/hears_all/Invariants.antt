@@ -1,4 +1,5 @@
--- Loops of `Listener::hears_all`: whether it has heard all literals of all of the item's columns.
+-- Loops of `Listener::hears_all`: whether the node has heard all literals of each of these columns of the item by its
+-- time, wherever it matches.
 use Rattle.std.proofs.Common.{ℕ, ◌≡◌, List, All, take}
 use Rattle.cpg_table.specs.Table.{NodeTable, columns_of}
 use Rattle.cpg_violation.specs.Violation.{AllHold, row_rules}

@@ -1,5 +1,5 @@
--- Proof of `Listener::is_told_by`: whether the frame of an item's column at a place tells all of a column that the node
--- doesn't know: the column begins with that one's literals.
+-- Proof of `Listener::is_told_by`: whether the frame of a heard row's column at a place has told, by the time of
+-- `column`, all of its literals that aren't on known variables: `column` begins with the literals of that column.
 use Rattle.std.proofs.Common.{◌≡◌, false, true, ◌≤◌, ◌+◌, List, Contains, get_or, length, drop, take, ap, sym, ◌∙◌}
 use Rattle.std.proofs.Common.{subst}
 use Rattle.std.proofs.lemmas.Bool.{OnTrue_at}
@@ -14,7 +14,7 @@ use Rattle.cpg_check_quick.proofs.OwnLaws.{known_heard}
 use Rattle.cpg_check_quick.proofs.HeardRowLaws.{begun_heard}
 use Rattle.cpg_check_quick.proofs.listening.Listener.is_told_by.Goals as goal
 
--- the column's cube begins with the literals of the frame's column, so the frame tells them
+-- the column begins with the literals of the frame's column, which the frame tells; the others are on known variables
 pub returns : goal.returns
 returns c = of_true c.begin_with.result
     (rw (c.literals.ensures.literals, c.literals-2.ensures.literals) at c.begin_with.ensures)
@@ -24,12 +24,12 @@ returns c = of_true c.begin_with.result
     let column = c.args.column.now in
     let own = c.in-Some.own.now in
     let few = c.problem-problem.ensures.admitted.limits.few_processes in
-    -- the frame's column is one of the item's
+    -- the frame's column is one of the heard item's
     let there : Contains (columns_of tables c.args.heard_row.now.item) own =
     subst (λ (cs : List Column). Contains cs own) speaks.columns
     (c.args.place, c.in-Some.ensures.lookup.3.0, sym c.in-Some.ensures.lookup.1) in
     let rest : List Literal = drop (length own.cube) column.cube in
-    -- the first literals are told by the frame, and the others are on known variables
+    -- `known_heard` is for the literals behind the first ones
     begun_heard speaks column own there (OnTrue_at c.if-not-has_come.false c.has_come.ensures.come) begins.first (λ l h.
     subst (λ n. IsHeardIn g tables n column l) (sym is.node)
     (known_heard g tables rules x is.item few column k known is.known l

@@ -1,5 +1,5 @@
--- Loops of `Listener::listen`: keeps those of the wanted literals, each as wide as one of a column, that the node
--- hasn't been told by others by the column's time wherever that matches, in a space that has all these scenarios.
+-- Loops of `Listener::listen`: keeps those of the wanted literals that no heard row is found to tell by a column's time
+-- wherever that matches.
 use Rattle.std.proofs.Common.{◌≡◌, List, All, true}
 use Rattle.cpg_base.specs.Graph.{Graph}
 use Rattle.cpg_base.specs.Scenario.{Scenario, IsScenario}

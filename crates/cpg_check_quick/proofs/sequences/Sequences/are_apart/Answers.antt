@@ -6,7 +6,7 @@ use Rattle.cpg_check_quick.specs.Order.{IsApart}
 use Rattle.cpg_check_quick.proofs.OrderLaws.{row_at, known_apart}
 use Rattle.cpg_check_quick.proofs.sequences.Sequences.are_apart.Goals as goal
 
--- the items that the order says nothing about are apart by their rows, so all are
+-- the items of which the sequence says nothing are apart by their rows, so all are
 pub returns-in-Some : goal.returns-in-Some
 returns-in-Some c = of_true c.are_apart.result c.are_apart.ensures (λ all g tables lasts are.
     let row = row_at are.rows c.args.other c.in-Some.row.now c.deref.result.now c.deref.ensures.value

@@ -1,12 +1,12 @@
--- Proof of `Sequences::is_before`: whether of two items of a node the first is known to be over by the second's time,
--- wherever a column of each matches.
+-- Proof of `Sequences::is_before`: whether the first of two items of a node is known to be over by the time of the
+-- second, wherever a column of each matches.
 use Rattle.std.proofs.Common.{subst}
 use Rattle.cpg_tree.proofs.Passes.{of_true}
 use Rattle.cpg_check_quick.proofs.OrderLaws.{before_in, order_at}
 use Rattle.cpg_check_quick.specs.Order.{StandsBefore}
 use Rattle.cpg_check_quick.proofs.sequences.Sequences.is_before.Goals as goal
 
--- an order has both items, and the first stands before the second in it
+-- each item of the node's order is over before each later one, and the first comes before the second
 pub returns-in-Some : goal.returns-in-Some
 returns-in-Some c = of_true c.stands_before.result c.stands_before.ensures (λ stands g tables lasts are.
     before_in lasts g tables c.in-Some.order.now.items c.args.first c.args.second

@@ -1,4 +1,5 @@
--- Loops of `Sequences::untold`: those of these items of a node that the order doesn't show to be apart from another.
+-- Loops of `Sequences::untold`: those of these items of a node that aren't known to be apart from another by the
+-- sequence of the node's items.
 use Rattle.std.proofs.Common.{ℕ, ◌⊎◌, List, All, Contains, take}
 use Rattle.cpg_base.specs.Graph.{Graph}
 use Rattle.cpg_base.specs.Scenario.{Scenario}

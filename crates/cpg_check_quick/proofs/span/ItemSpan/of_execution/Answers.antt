@@ -1,10 +1,10 @@
--- Proof of `ItemSpan::of_execution`: how long the executions of a process last at most, by its faults.
+-- Proof of `ItemSpan::of_execution`: how long an execution of a process lasts at most, by its faults.
 use Rattle.std.proofs.Common.{◌∙◌, ap, arith, min, refl}
 use Rattle.cpg_base.specs.Duration.{duration}
 use Rattle.cpg_check_quick.proofs.OrderLaws.{span_of}
 use Rattle.cpg_check_quick.proofs.span.ItemSpan.of_execution.Goals as goal
 
--- each length is the duration with that many faults, or with as many as there may be
+-- each length is the duration with that many faults, or with the graph's most if that is fewer
 pub returns : goal.returns
 returns c =
     let g = c.args.problem.now in

@@ -9,7 +9,7 @@ use Rattle.cpg_check_quick.proofs.OrderLaws.{apart_all}
 use Rattle.cpg_violation.proofs.SureLaws.{each_all, each_more}
 use Rattle.cpg_check_quick.proofs.spanned_rows.SpannedRows.are_apart.Goals as goal
 
--- the items are apart from the next column, too
+-- wherever the next column matches, each item is apart from the other, too
 pub loop-column-preserved : goal.loop-column-preserved
 loop-column-preserved c = λ g tables lasts x s are is law.
     each_more (λ (d : Column). matches d.cube s ≡ true → All (λ y. IsApartAt tables (lasts y s) y (lasts x s) d.time s)
@@ -18,7 +18,7 @@ loop-column-preserved c = λ g tables lasts x s are is law.
     (c.loop-column.invariant g tables lasts x s are is law)
     (OnTrue_at c.if-not-are_apart_at.false c.are_apart_at.ensures g tables lasts x s are is law)
 
--- the loop has gone over all of them, so what holds of those so far holds of all
+-- the loop has gone over all columns, so it holds of each
 pub returns : goal.returns
 returns c = λ g tables lasts x are is.
     apart_all lasts g tables x c.args.other.now.columns.now c.args.items.now is.columns (λ s law.

@@ -10,8 +10,8 @@ use Rattle.cpg_check_quick.specs.SpannedRows.{AreSpannedRows, IsSpannedRow}
 use Rattle.cpg_check_quick.specs.Order.{IsApartAt}
 use Rattle.cpg_check_quick.proofs.spanned_rows.SpannedRows.are_apart.Given as goal
 
--- in each scenario, each column so far that matches is apart from the items: each item is over by the column's time,
--- or begins no earlier than the other one, begun at that time, is over
+-- in each scenario, for each column so far that matches: each of the items is over by its time, or begins only when the
+-- other one, begun at that time, is over
 abbrev pub invariant-loop-column : goal.invariant-loop-column
 invariant-loop-column l = (g : Graph) (tables : List NodeTable) (lasts : ℕ → Scenario → ℕ) (x : ℕ) (s : Scenario) →
     AreSpannedRows lasts g tables l.self → IsSpannedRow g tables (lasts x) x l.other →

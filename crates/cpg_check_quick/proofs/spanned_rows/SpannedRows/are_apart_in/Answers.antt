@@ -1,5 +1,5 @@
--- Proof of `SpannedRows::are_apart_in`: whether each of these items and another, which is at a time, are apart in the
--- scenarios of a space.
+-- Proof of `SpannedRows::are_apart_in`: whether each of these items and another, which begins at `time`, are apart in
+-- the scenarios of a space.
 use Rattle.std.proofs.Common.{get_or}
 use Rattle.std.proofs.lemmas.Bool.{OnTrue_at}
 use Rattle.std.proofs.lemmas.List.Elements.{All-more}
@@ -8,7 +8,7 @@ use Rattle.cpg_check_quick.proofs.OrderLaws.{row_at}
 use Rattle.cpg_violation.proofs.SureLaws.{each_all}
 use Rattle.cpg_check_quick.proofs.spanned_rows.SpannedRows.are_apart_in.Goals as goal
 
--- the next item is apart from the other at its time, by the row that was looked up
+-- the next item is apart from the other, too: the row that was looked up is that item's
 pub loop-item-preserved : goal.loop-item-preserved
 loop-item-preserved c =
     λ g tables lasts x s are is law lies. All-more (λ y. IsApartAt tables (lasts y s) y (lasts x s) c.args.time s)
@@ -20,7 +20,7 @@ loop-item-preserved c =
     c.deref.ensures.value c.in-Some.ensures.lookup.3.0 c.in-Some.ensures.lookup.1) is law
     lies)
 
--- the loop has gone over all of them, so what holds of those so far holds of all
+-- the loop has gone over all items, so it holds of each
 pub returns : goal.returns
 returns c =
     λ g tables lasts x s are is law lies. each_all (λ y. IsApartAt tables (lasts y s) y (lasts x s) c.args.time s)

@@ -1,5 +1,5 @@
--- Proof of `SpannedRows::are_early`: whether each of these items is over by a time in every scenario, by its last
--- column.
+-- Proof of `SpannedRows::are_early`: whether each of these items is over by a time even if it begins by its last column
+-- and lasts longest.
 use Rattle.std.proofs.Common.{get_or}
 use Rattle.std.proofs.lemmas.Bool.{OnTrue_at}
 use Rattle.std.proofs.lemmas.List.Elements.{All-more}
@@ -8,7 +8,7 @@ use Rattle.cpg_check_quick.proofs.OrderLaws.{row_at}
 use Rattle.cpg_violation.proofs.SureLaws.{each_all}
 use Rattle.cpg_check_quick.proofs.spanned_rows.SpannedRows.are_early.Goals as goal
 
--- the next item is over by the time, by its last column
+-- the next item is over by the time, too: the row that was looked up is that item's
 pub loop-item-preserved : goal.loop-item-preserved
 loop-item-preserved c = λ g tables lasts s are law. All-more (λ y. IsOverBy tables (lasts y s) y c.args.time s)
     c.args.items.now c.loop-item.item-index 0 c.loop-item-test.true
@@ -18,7 +18,7 @@ loop-item-preserved c = λ g tables lasts s are law. All-more (λ y. IsOverBy ta
     (row_at are (get_or c.args.items.now c.loop-item.item-index 0) c.in-Some.row.now c.deref.result.now
     c.deref.ensures.value c.in-Some.ensures.lookup.3.0 c.in-Some.ensures.lookup.1) law)
 
--- the loop has gone over all of them, so what holds of those so far holds of all
+-- the loop has gone over all items, so it holds of each
 pub returns : goal.returns
 returns c = λ g tables lasts s are law. each_all (λ y. IsOverBy tables (lasts y s) y c.args.time s) c.args.items.now
     c.loop-item.item-index c.loop-item-test.false

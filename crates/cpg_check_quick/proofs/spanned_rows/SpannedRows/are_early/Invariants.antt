@@ -1,5 +1,5 @@
--- Loops of `SpannedRows::are_early`: whether each of these items is over by a time in every scenario, by its last
--- column.
+-- Loops of `SpannedRows::are_early`: whether each of these items is over by a time even if it begins by its last column
+-- and lasts longest.
 use Rattle.std.proofs.Common.{ℕ, List, All, take}
 use Rattle.cpg_base.specs.Graph.{Graph}
 use Rattle.cpg_base.specs.Scenario.{Scenario, IsScenario}

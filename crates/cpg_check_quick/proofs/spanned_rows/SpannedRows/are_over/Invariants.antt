@@ -1,5 +1,5 @@
--- Loops of `SpannedRows::are_over`: whether each of these items is over by a time in the scenarios of a space, by the
--- columns that match there.
+-- Loops of `SpannedRows::are_over`: whether each of these items is over by a time in the scenarios of a space, by
+-- whichever columns match there.
 use Rattle.std.proofs.Common.{ℕ, List, All, take}
 use Rattle.cpg_base.specs.Graph.{Graph}
 use Rattle.cpg_base.specs.Scenario.{Scenario, IsScenario}

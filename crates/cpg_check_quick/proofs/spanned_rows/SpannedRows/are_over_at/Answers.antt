@@ -11,14 +11,14 @@ pub returns-then-are_early : goal.returns-then-are_early
 returns-then-are_early c =
     λ g tables lasts s are law m. OnTrue_at c.if-are_early.true c.are_early.ensures g tables lasts s are law
 
--- no scenario of the space matches the column, so there is nothing to show
+-- no scenario matches the column, so there is nothing to show
 pub returns-then-not-narrow_to : goal.returns-then-not-narrow_to
 returns-then-not-narrow_to c = λ g tables lasts s are law m.
     let none = rw c.literals.ensures.literals at
     (from_false c.narrow_to.result c.if-not-narrow_to.true c.narrow_to.ensures.none) in
     absurd (true≢false (sym m ∙ none s (are.everywhere.lies s law)))
 
--- the space is narrowed to the column, in which each item is over
+-- the space has all scenarios that the column matches, and there each item is over
 pub returns : goal.returns
 returns c = of_true c.are_over.result c.are_over.ensures (λ all g tables lasts s are law m.
     let fits = rw c.literals.ensures.literals at

@@ -1,5 +1,5 @@
--- Proof of `SpannedRows::come_before`: whether each of these items is over before another, which has these columns:
--- wherever a column of each matches.
+-- Proof of `SpannedRows::come_before`: whether each of these items is over by the time of another, which has these
+-- columns, wherever a column of each matches.
 use Rattle.std.proofs.Common.{◌≡◌, All, true}
 use Rattle.std.proofs.lemmas.Bool.{OnTrue_at}
 use Rattle.cpg_cube.specs.Cube.{matches}
@@ -9,7 +9,7 @@ use Rattle.cpg_check_quick.proofs.OrderLaws.{over_all}
 use Rattle.cpg_violation.proofs.SureLaws.{each_all, each_more}
 use Rattle.cpg_check_quick.proofs.spanned_rows.SpannedRows.come_before.Goals as goal
 
--- the items are over by the time of the next column, too
+-- wherever the next column matches, the items are over by its time, too
 pub loop-column-preserved : goal.loop-column-preserved
 loop-column-preserved c = λ g tables lasts s are law.
     each_more
@@ -19,7 +19,7 @@ loop-column-preserved c = λ g tables lasts s are law.
     (c.loop-column.invariant g tables lasts s are law)
     (OnTrue_at c.if-not-are_over_at.false c.are_over_at.ensures g tables lasts s are law)
 
--- the loop has gone over all of them, so what holds of those so far holds of all
+-- the loop has gone over all columns, so it holds of each
 pub returns : goal.returns
 returns c = λ g tables lasts x are same. over_all lasts g tables x c.args.columns.now c.args.items.now same (λ s law.
     each_all

@@ -1,5 +1,5 @@
--- Loops of `SpannedRows::come_before`: whether each of these items is over before another, which has these columns:
--- wherever a column of each matches.
+-- Loops of `SpannedRows::come_before`: whether each of these items is over by the time of another, which has these
+-- columns, wherever a column of each matches.
 use Rattle.std.proofs.Common.{ℕ, ◌≡◌, List, All, take, true}
 use Rattle.cpg_base.specs.Graph.{Graph}
 use Rattle.cpg_base.specs.Scenario.{Scenario, IsScenario}

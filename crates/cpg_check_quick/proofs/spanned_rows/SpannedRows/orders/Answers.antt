@@ -1,9 +1,8 @@
--- Proof of `SpannedRows::orders`: puts each group of items into an order in which each item is over before any later
--- one begins.
+-- Proof of `SpannedRows::orders`: for each of these groups of items what `in_sequence` answers.
 use Rattle.cpg_check_quick.proofs.OrderLaws.{orders_more}
 use Rattle.cpg_check_quick.proofs.spanned_rows.SpannedRows.orders.Goals as goal
 
--- one more order is pushed, whose items are in sequence
+-- the order that is added is in sequence, too
 pub loop-group-preserved : goal.loop-group-preserved
 loop-group-preserved c = λ g tables lasts are present. rw c.in_ok-push.ensures.items
     (orders_more lasts g tables c.loop-group.orders.items c.in_ok-order.order

@@ -1,5 +1,4 @@
--- Loops of `SpannedRows::orders`: puts each group of items into an order in which each item is over before any later
--- one begins.
+-- Loops of `SpannedRows::orders`: for each of these groups of items what `in_sequence` answers.
 use Rattle.std.proofs.Common.{ℕ, List, All}
 use Rattle.cpg_base.specs.Graph.{Graph}
 use Rattle.cpg_base.specs.Scenario.{Scenario}
@@ -10,7 +9,7 @@ use Rattle.cpg_check_quick.specs.SpannedRows.{AreSpannedRows}
 use Rattle.cpg_check_quick.specs.Order.{IsInSequence}
 use Rattle.cpg_check_quick.proofs.spanned_rows.SpannedRows.orders.Given as goal
 
--- if the rule Present holds, each order listed so far is in sequence: each of its items is over before each later one
+-- if V3 holds, each order so far is in sequence: each of its items is over before each later one
 abbrev pub invariant-loop-group : goal.invariant-loop-group
 invariant-loop-group l = (g : Graph) (tables : List NodeTable) (lasts : ℕ → Scenario → ℕ) →
     AreSpannedRows lasts g tables l.self → Holds g tables Rule.Present →

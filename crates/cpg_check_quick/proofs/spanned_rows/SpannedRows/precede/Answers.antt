@@ -1,14 +1,14 @@
--- Proof of `SpannedRows::precede`: whether each of these items is over before another, by the other's tree, if it has
--- one: wherever a column of each matches.
+-- Proof of `SpannedRows::precede`: whether each of these items is over by the time of another, wherever a column of
+-- each matches.
 use Rattle.cpg_tree.proofs.Passes.{of_true}
 use Rattle.cpg_check_quick.proofs.spanned_rows.SpannedRows.precede.Goals as goal
 
--- the other item has no tree, so its columns are gone over
+-- the row has no tree, and `come_before` has gone over its columns
 pub returns-in_default : goal.returns-in_default
 returns-in_default c = of_true c.come_before.result c.come_before.ensures
     (λ all g tables lasts long x are is. all g tables lasts x are is.columns)
 
--- the other item has a tree, along which each item ends before it
+-- the row has a tree, and `end_before` has gone down it
 pub returns : goal.returns
 returns c = of_true c.end_before.result c.end_before.ensures
     (λ all g tables lasts long x are is. all g tables lasts long x are is c.in-Some.is)

@@ -1,5 +1,5 @@
--- Proof of `DueTimeJudge::least`: the least scenario in which the execution that a column starts ends past its due, if
--- there is one.
+-- Proof of `DueTimeJudge::least`: the least scenario in which the execution that a column starts ends after its
+-- process's due.
 use Rattle.std.proofs.Common.{◌≡◌, ◌<◌, ◌&&◌, arith, ap, length}
 use Rattle.cpg_base.specs.Duration.{due}
 use Rattle.cpg_base.specs.Graph.{process_count}

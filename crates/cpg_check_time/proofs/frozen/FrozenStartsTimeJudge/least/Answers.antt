@@ -1,5 +1,5 @@
 -- Proof of `FrozenStartsTimeJudge::least`: the least scenario that a column of an item matches, if its time isn't the
--- frozen one of the item.
+-- one that the item has to have.
 use Rattle.std.proofs.Common.{◌∙◌, arith, sym, ap, length}
 use Rattle.std.proofs.lemmas.List.FromFn.{length-map-range_with_len}
 use Rattle.cpg_base.specs.Graph.{item_count}

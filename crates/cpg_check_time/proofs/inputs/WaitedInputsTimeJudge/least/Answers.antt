@@ -1,4 +1,5 @@
--- Proof of `least`: the least scenario in which a column matches and an input of its process isn't there.
+-- Proof of `least`: the least scenario in which a column of an item is earlier than the release of its process or
+-- something that the item waits for.
 use Rattle.std.proofs.Common.{◌≡◌, ◌<◌, ◌≤◌, ◌==◌, ◌∙◌, length, Contains, All, arith, sym, ap, subst}
 use Rattle.std.specs.List.{list_any}
 use Rattle.std.proofs.lemmas.List.Elements.{All-weaker, All-contains_itself}
@@ -24,7 +25,7 @@ least_delay-requires-clause-item c =
           c.requires.item,
     )
 
--- so the delay is the execution of a process that there is
+-- so the delay is an execution of a process of the graph
 pub least_delay-requires-clause-delay : goal.least_delay-requires-clause-delay
 least_delay-requires-clause-delay c =
     let is : c.producer-process.result ≡ producer c.args.admitted.now.graph c.args.item =

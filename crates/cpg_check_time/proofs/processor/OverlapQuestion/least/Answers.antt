@@ -1,4 +1,4 @@
--- Proof of `least`: the least scenario in which the executions that two columns start overlap, if there is one.
+-- Proof of `OverlapQuestion::least`: the least scenario in which the executions that two columns start overlap.
 use Rattle.cpg_check_time.proofs.ProcessorLaws.{overlap_after, overlap_before}
 use Rattle.cpg_check_time.proofs.processor.OverlapQuestion.least.Goals as goal
 

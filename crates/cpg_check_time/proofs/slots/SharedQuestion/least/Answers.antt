@@ -1,4 +1,4 @@
--- Proof of `least`: the least scenario in which two columns of one time both match, if there is one.
+-- Proof of `SharedQuestion::least`: the least scenario in which two columns match that have one time.
 use Rattle.cpg_check_time.proofs.SlotLaws.{share_where}
 use Rattle.cpg_check_time.proofs.slots.SharedQuestion.least.Goals as goal
 

@@ -1,4 +1,5 @@
--- Proof of `least`: the least scenario in which a column has a slot that another item of its node has too.
+-- Proof of `least`: the least scenario in which a column of an item breaks V7: it isn't at the start of a slot of the
+-- node, or shares its slot with a lower item of the node.
 use Rattle.std.proofs.Common.{◌≡◌, ◌==◌, ◌∙◌, true, false, sym, eqb-true, true≢false, eq-eqb}
 use Rattle.cpg_base.specs.Bus.{next_slot}
 use Rattle.cpg_base.specs.Graph.{home, is_sent}
@@ -12,6 +13,7 @@ pub returns-then-not-is_slot_start : goal.returns-then-not-is_slot_start
 returns-then-not-is_slot_start c =
     let g = c.args.admitted.now.graph in
     let problem = c.problem-problem.ensures.problem in
+    -- the item is sent, no slot starts at the time, and `least` is the least scenario that the column matches
     let sent : is_sent g c.args.item ≡ true = rw (← problem) (sym c.if-not-is_sent.ensures) in
     let no : (next_slot g (home g c.args.item) c.args.column.now.time == c.args.column.now.time) ≡ false =
     rw (← problem, ← c.home.ensures.home) (sym c.if-not-is_slot_start.ensures) in
@@ -20,7 +22,7 @@ returns-then-not-is_slot_start c =
     first_no_start g c.args.admitted.now.order c.args.tables.now.nodes c.args.item c.args.column.now sent
     (λ e. true≢false (sym (eq-eqb _ _ e) ∙ no)) c.in_ok-least.least first
 
--- the column is at the start of a slot, so it breaks V7 exactly if a lower item shares that
+-- the column is at the start of a slot, so it breaks V7 exactly if a lower item shares that slot
 pub returns : goal.returns
 returns c =
     let g = c.args.admitted.now.graph in

@@ -1,4 +1,5 @@
--- Proof of `Cluster::choose`: asks the nodes from the given one on, round the circle, until one takes its turn.
+-- Proof of `Cluster::choose`, which asks the nodes from `first` on, round the circle, until one takes its turn or
+-- all have been asked.
 use Rattle.std.proofs.Common.{◌≡◌, ◌+◌, refl, sym, ap, arith, length, subst}
 use Rattle.std.proofs.lemmas.List.{length-map}
 use Rattle.cpg_cluster.specs.Playing.{Playing}

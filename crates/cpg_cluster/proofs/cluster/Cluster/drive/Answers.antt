@@ -1,4 +1,4 @@
--- Proof of `Cluster::drive`: asks nodes until every node is done.
+-- Proof of `Cluster::drive`, which asks nodes until every node is done.
 use Rattle.std.proofs.Common.{◌/◌, ◌%◌, ◌^◌, ◌*◌, ◌+◌, ◌≡◌, ◌<◌, ◌≤◌, refl, sym, ap, ◌∙◌, arith, length, subst, List}
 use Rattle.std.proofs.Common.{true}
 use Rattle.std.specs.Prelude.{is_some}
@@ -15,7 +15,7 @@ use Rattle.cpg_cluster.proofs.Dues.{whole_play}
 use Rattle.cpg_cluster.proofs.Drives.{driving_none, driving_done, takes_at, left_at, done_at, most_at, drive_step}
 use Rattle.cpg_cluster.proofs.cluster.Cluster.drive.Goals as goal
 
--- before the first choice nothing has been driven
+-- before the first choice, the state and the number are the given ones and no node has waited
 pub loop-self-init : goal.loop-self-init
 loop-self-init c = record {
   same = refl;
@@ -52,7 +52,7 @@ some c = omega (
   length-map c.self-in-loop-self.inside.members.items (λ (m : Member). m.node.dispatcher.table),
 )
 
--- the choice leaves fewer instants, and at most 16 of its asks wait
+-- In the choice some node takes its turn, as one isn't done, and this leaves fewer instants.
 nearer : (c : goal.After-choose-waits) → remaining c.choose-waits.new.self.cluster < remaining c.loop-self.self.cluster
 nearer c =
     let n = c.self-in-loop-self.inside in
@@ -62,7 +62,7 @@ nearer c =
     (subst (λ n. (c.next_number-drawn.result / 2 ^ 33) % c.len-nodes.result < n) (count c)
     (mod-lt (c.next_number-drawn.result / 2 ^ 33) (some c))))
 
--- each choice uses up an instant and makes at most 16 nodes wait
+-- the choice uses up an instant, and at most 16 nodes wait in it, as there are no more
 spent : (c : goal.After-choose-waits) →
     c.loop-self.waits + c.choose-waits.result + 16 * remaining c.choose-waits.new.self.cluster
     ≤ 16 * remaining c.args.self.now.cluster
@@ -78,7 +78,7 @@ spent c = omega (
   c.self.invariant.few,
 )
 
--- a choice makes at most 16 nodes wait, and there are few choices, since each leaves fewer instants
+-- the count of waits doesn't overflow: it is at most 16 times the instants that were left at the start, which are few
 pub overflow_add-waits : goal.overflow_add-waits
 overflow_add-waits c =
     let n = c.self.inside in
@@ -89,11 +89,12 @@ overflow_add-waits c =
           c.self.view_is c.self.invariant.playing c.self.invariant.few,
     )
 
--- someone takes a turn in each choice, which uses up an instant
+-- the loop ends, as each choice uses up an instant
 pub loop-self-smaller : goal.loop-self-smaller
 loop-self-smaller c = nearer c
 
--- a choice of the next number takes the drive one choice further
+-- The choice is the one that the next number makes, so the drive is one choice longer. It was needed, as some node
+-- wasn't done.
 pub loop-self-preserved : goal.loop-self-preserved
 loop-self-preserved c =
     let n = c.self-in-loop-self.inside in

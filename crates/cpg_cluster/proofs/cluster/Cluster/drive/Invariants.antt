@@ -1,11 +1,12 @@
--- Loops of `Cluster::drive`: asks nodes until every node is done.
+-- Loops of `Cluster::drive`, which asks nodes until every node is done.
 use Rattle.std.proofs.Common.{◌≡◌, ◌≤◌, ◌+◌, ◌*◌}
 use Rattle.cpg_cluster.specs.Driving.{remaining}
 use Rattle.cpg_cluster.proofs.Drives.{IsDriving}
 use Rattle.cpg_cluster.proofs.cluster.Cluster.drive.Given as goal
 
--- `same`: a choice changes the cluster alone. `driving`: the choices so far lead from the first cluster to this one.
--- `spent`: the waits so far are at most 16 for each instant that is used up, which bounds their sum.
+-- `same`: only the state of the nodes has changed. `driving`: the choices so far lead from the first state to this one,
+-- and each was needed. `spent`: the waits so far are at most 16 for each instant that is used up, which bounds their
+-- sum.
 abbrev pub invariant-loop-self : goal.invariant-loop-self
 invariant-loop-self l = record {
   same : l.self ≡ record l.fn.self { cluster = l.self.cluster };

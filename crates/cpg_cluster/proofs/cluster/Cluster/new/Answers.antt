@@ -1,11 +1,12 @@
--- Proof of `Cluster::new`: all nodes before their first turns, with each execution as long as planned.
+-- Proof of `Cluster::new`, which returns all nodes before their first turns, with each execution as long as planned,
+-- and with all the room that a play needs.
 use Rattle.std.proofs.Common.{sym, subst, ap, ◌∙◌, List, ℕ}
 use Rattle.cpg_base.specs.Scenario.{full_lengths}
 use Rattle.cpg_cluster.specs.Correct.{IsWorld}
 use Rattle.cpg_cluster.proofs.Opening.{full_world}
 use Rattle.cpg_cluster.proofs.cluster.Cluster.new.Goals as goal
 
--- the full lengths of a scenario are lawful
+-- with its full lengths, which are the durations, a scenario is a world
 pub with_lengths-requires-clause-world : goal.with_lengths-requires-clause-world
 with_lengths-requires-clause-world c =
     let g = c.args.admitted.now.graph in

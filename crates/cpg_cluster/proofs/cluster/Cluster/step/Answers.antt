@@ -1,4 +1,4 @@
--- Proof of `Cluster::step`: asks a node.
+-- Proof of `Cluster::step`, which asks a node to take the turn of its next instant.
 use Rattle.std.proofs.Common.{set, ◌≡◌, ◌<◌, ◌≤◌, arith, sym, ap, ◌∙◌, ℕ, length, filter, get_or, List, Some, subst}
 use Rattle.std.specs.Prelude.{All}
 use Rattle.std.specs.Vec.{vec_capacity}
@@ -43,7 +43,7 @@ waited_on-requires-clause-indexed c =
       length-map n.members.items (λ (m : Member). m.node.dispatcher.table),
     )))
 
--- A node that waits.
+-- The node waits on another. Helpers of this case end in `-w`.
 
 -- the node is one of the members
 within-w : (c : goal.In-Some-waited_on) → c.args.node < length c.self.inside.members.items
@@ -59,7 +59,7 @@ within-w c = omega (
 comes-w : (c : goal.In-Some-waited_on) → next c.index-member.result.now.node.dispatcher ≡ Some c.in-Some.time
 comes-w c = sym c.next.ensures.next ∙ c.in-Some.is
 
--- the node that it waits on is its answer
+-- By the members, the least node that it waits on gives its answer in the state: it waits on that node.
 waits : (c : goal.In-Some-waited_on) →
     Waits c.in-Some-waited_on.on ≡ answer c.self.inside.problem (cluster_of c.self.inside.members.items) c.args.node
 waits c =
@@ -95,7 +95,7 @@ returns-in-Some-waited_on-clause-nearer c e = let x : Waits c.in-Some-waited_on.
     waits c ∙ ap (λ (p : Playing). answer p.graph p.cluster c.args.node) c.self.view_is ∙ e in
     cc
 
--- A node that takes its turn.
+-- The node takes its turn. Helpers end in `-f` where frames are gathered, and in `-t` where the turn is taken.
 
 -- the node is one of the members
 within-f : (c : goal.After-gather_frames-arg-3-1) → c.args.node < length c.self.inside.members.items
@@ -111,7 +111,7 @@ within-f c = omega (
 comes-f : (c : goal.After-gather_frames-arg-3-1) → next c.index-member.result.now.node.dispatcher ≡ Some c.in-Some.time
 comes-f c = sym c.next.ensures.next ∙ c.in-Some.is
 
--- what a node hears is of items that there are
+-- a node hears only items of the graph
 pub gather_frames-requires-clause-items : goal.gather_frames-requires-clause-items
 gather_frames-requires-clause-items c =
     let n = c.self.inside in
@@ -173,7 +173,7 @@ same-t : (c : goal.After-as_slice-4) → c.index_mut-member.result.now ≡ c.ind
 same-t c = c.index_mut-member.ensures.value ∙ get_or_default c.self.inside.members.items c.args.node
     c.index_mut-member.result.now c.index-member.result.now (within-t c) ∙ sym c.index-member.ensures
 
--- so it is of the member that is changed
+-- so the time is the next instant of the member that is changed
 mut-t : (c : goal.After-as_slice-4) → next c.index_mut-member.result.now.node.dispatcher ≡ Some c.in-Some.time
 mut-t c = ap (λ (m : Member). next m.node.dispatcher) (same-t c) ∙ comes-t c
 
@@ -269,7 +269,7 @@ take_turn-requires-clause-acts_fit c =
     c.args.node c.index_mut-member.result.now c.index_mut-member.ensures.value
     (within-t c) c.in-Some.time (mut-t c) c.as_slice-4.result.now (frames-t c) (took-t c)
 
--- After the turn.
+-- After the turn. Helpers end in `-a`.
 
 -- the node is one of the members
 within-a : (c : goal.After-self-1) → c.args.node < length c.self.inside.members.items
@@ -290,7 +290,7 @@ same-a : (c : goal.After-self-1) → c.index_mut-member.result.now ≡ c.index-m
 same-a c = c.index_mut-member.ensures.value ∙ get_or_default c.self.inside.members.items c.args.node
     c.index_mut-member.result.now c.index-member.result.now (within-a c) ∙ sym c.index-member.ensures
 
--- so it is of the member that is changed
+-- so the time is the next instant of the member that is changed
 mut-a : (c : goal.After-self-1) → next c.index_mut-member.result.now.node.dispatcher ≡ Some c.in-Some.time
 mut-a c = ap (λ (m : Member). next m.node.dispatcher) (same-a c) ∙ comes-a c
 
@@ -385,7 +385,7 @@ returns-clause-nearer c e =
     (took-a c) c.take_turn.new.member c.take_turn.ensures.node c.take_turn.ensures.acts c.take_turn.ensures.noted
     c.take_turn.ensures.ends c.take_turn.ensures.reports c.take_turn.ensures.same c.take_turn.ensures.room)
 
--- What the answers tell.
+-- What follows from an answer.
 
 -- a node with the least next instant takes its turn
 pub returns-in-Some-waited_on-clause-least : goal.returns-in-Some-waited_on-clause-least

@@ -1,4 +1,5 @@
--- Proof of `Cluster::with_lengths`: all nodes before their first turns.
+-- Proof of `Cluster::with_lengths`, which returns all nodes before their first turns, with all the room that a play
+-- needs.
 use Rattle.std.proofs.Common.{◌≡◌, ◌≤◌, ◌<◌, arith, sym, ◌∙◌, ℕ, length, List, subst, rules}
 use Rattle.std.specs.Prelude.{All}
 use Rattle.std.specs.Vec.{vec_capacity}
@@ -14,14 +15,14 @@ use Rattle.cpg_cluster.specs.declared.member.Member.{Member}
 use Rattle.cpg_cluster.proofs.Opening.{hears_items, play_is, playing_open, fits_open, correct_open}
 use Rattle.cpg_cluster.proofs.cluster.Cluster.with_lengths.Goals as goal
 
--- what the nodes of valid tables hear is of items that there are
+-- the nodes of valid tables hear only items of the graph
 pub open_members-requires : goal.open_members-requires
 open_members-requires c =
     subst (λ (g : Graph). (i : ℕ) → i < length c.args.tables.nodes → HearsItems g (table_at c.args.tables.nodes i))
     (sym c.problem.ensures.problem)
     (hears_items c.args.admitted.now.graph c.args.tables.nodes c.requires.valid)
 
--- the parts are those of the call
+-- the play with the copies of the graph, the scenario and the lengths is the play with those that the caller gave
 parts : (c : goal.In_ok-lengths) →
     play_of c.in_ok-problem.problem
     (record { scenario = c.in_ok-scenario.scenario; lengths = c.in_ok-lengths.lengths }) c.in_ok-members.members.items
@@ -38,7 +39,7 @@ open' c =
     subst (λ (g : Graph). AreOpen g c.args.tables.nodes (length c.args.tables.nodes) c.in_ok-members.members.items)
     c.problem.ensures.problem c.in_ok-members.ensures.members
 
--- the tables are those of the graph, as the contract asks
+-- the tables are lawful for the graph, as the caller requires
 of : (c : goal.In_ok-lengths) → AreTablesOf (head_of c.args.admitted.now.graph) c.args.tables.nodes
 of c = c.requires.tables
 
@@ -67,13 +68,13 @@ invariant_of-result c =
           omega (arith, few, room);
     }
 
--- the play of these members is the one before the first turn
+-- the play of members before their first turns is the one before the first turn
 pub returns-clause-opened : goal.returns-clause-opened
 returns-clause-opened c = parts c ∙ play_is c.args.admitted.now.graph c.args.tables.nodes
     (record { scenario = c.args.scenario.now; lengths = c.args.lengths.now }) c.problem.ensures.admitted.limits
     (of c) c.in_ok-members.members.items (open' c)
 
--- valid tables play correctly
+-- valid tables play correctly, in this and in all other worlds
 pub returns-clause-correct : goal.returns-clause-correct
 returns-clause-correct c = correct_open c.args.admitted.now.graph c.args.tables.nodes c.problem.ensures.admitted.limits
     (of c) c.problem.ensures.admitted.well_formed c.requires.valid

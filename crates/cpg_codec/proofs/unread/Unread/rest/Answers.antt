@@ -3,7 +3,7 @@ use Rattle.std.proofs.Common.{◌≡◌, ◌∙◌, List, ℕ, ap, drop, rules}
 use Rattle.cpg_io.proofs.Writes.{rest_of}
 use Rattle.cpg_codec.proofs.unread.Unread.rest.Goals as goal
 
--- the rest of the slice is what comes after the bytes that are read, which is how the value is seen
+-- the slice from `read` on has the bytes after the first `read`, and an `Unread` is seen as these
 pub returns : goal.returns
 returns c =
     let same : c.deref.result.now ≡ c.self.inside.bytes.items = search rules in

@@ -1,4 +1,5 @@
--- Proof of `Ground::add_over`: adds what is beyond the ranges of literals: the numbers there needn't be matched.
+-- Proof of `Ground::add_over`, which adds a cube for the numbers outside the range of each literal of the cube to be
+-- covered: scenarios there needn't be covered, so they count as matched.
 use Rattle.std.proofs.Common.{◌∷◌, [], arith}
 use Rattle.std.proofs.lemmas.Bool.{both_ways, and_parts}
 use Rattle.cpg_cover.specs.Fewest.{beyond, holds_at, is_any_at, matches_at}

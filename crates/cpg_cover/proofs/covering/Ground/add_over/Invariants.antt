@@ -1,4 +1,5 @@
--- Loops of `Ground::add_over`: adds what is beyond the ranges of literals: the numbers there needn't be matched.
+-- Loops of `Ground::add_over`, which adds a cube for the numbers outside the range of each literal of the cube to be
+-- covered: scenarios there needn't be covered, so they count as matched.
 use Rattle.std.proofs.Common.{◌≡◌, ℕ, true}
 use Rattle.cpg_cover.specs.Fewest.{IsNarrow, beyond, is_any_at}
 use Rattle.cpg_cover.proofs.covering.Ground.add_over.Given as goal

@@ -1,5 +1,5 @@
--- Proof of `Ground::asked`: what literals ask beyond the lows, but for those that hold everywhere; `None` if one can't
--- hold.
+-- Proof of `Ground::asked`, which returns what literals ask of the numbers beyond the lows, without those that hold
+-- everywhere in the cube; `None` if one holds nowhere.
 use Rattle.std.proofs.Common.{rules, ◌≡◌, get_or, true, arith}
 use Rattle.cpg_cube.specs.Bounds.{spans}
 use Rattle.cpg_cube.specs.declared.literal.Literal.{Literal}
@@ -15,11 +15,13 @@ loop-literal-preserved c s on t =
     let ls = c.args.literals.now in
     let at = c.loop-literal.literal-index in
     elim c.if-not-spans.branch [
+      -- it doesn't span the variable: what it asks beyond the low is the last of those asked, and holds
       | then-not-spans+in-Some+in_ok-push w ↦
           let r = all_before_last (holds_at (beyond low s)) c.loop-literal.asked.items w.in-Some.beyond
           (rw (w.asked-is, w.in_ok-push.ensures.items) at t) in
           all_one_more (holds_at s) ls at _ (omega arith) (c.loop-literal.invariant s on r.0)
           (w.in-Some.ensures s (on.lows _) r.1)
+      -- it spans the variable, so it holds by itself
       | else-not-spans w ↦
           let blank : Literal = record { variable = 0; low = 0; high = 0 } in
           let l = get_or ls at blank in

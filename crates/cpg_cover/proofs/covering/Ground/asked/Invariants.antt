@@ -1,5 +1,5 @@
--- Loops of `Ground::asked`: what literals ask beyond the lows, but for those that hold everywhere; `None` if one can't
--- hold.
+-- Loops of `Ground::asked`, which returns what literals ask of the numbers beyond the lows, without those that hold
+-- everywhere in the cube; `None` if one holds nowhere.
 use Rattle.std.proofs.Common.{◌≡◌, ℕ, take, true}
 use Rattle.cpg_cover.specs.Fewest.{IsOn, beyond, matches_at}
 use Rattle.cpg_cover.proofs.covering.Ground.asked.Given as goal

@@ -1,4 +1,4 @@
--- Loops of `Ground::cubes`: what the cubes of a list ask beyond the lows.
+-- Loops of `Ground::cubes`, which returns the cubes of what the cubes of a list ask beyond the lows.
 use Rattle.std.proofs.Common.{◌≡◌, ℕ, take, true}
 use Rattle.std.specs.List.{list_any}
 use Rattle.cpg_cover.specs.Fewest.{IsOn, beyond, is_any_at, matches_at}

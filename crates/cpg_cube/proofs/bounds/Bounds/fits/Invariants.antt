@@ -1,4 +1,5 @@
--- Loops of `Bounds::fits`: whether all literals touch the ranges, with no more faults than are left.
+-- Loops of `Bounds::fits`: whether all literals share a number with the ranges here, and ask together for no more than
+-- `room` faults beyond the lows.
 use Rattle.std.proofs.Common.{◌≡◌, drop}
 use Rattle.std.specs.Prelude.{is_some}
 use Rattle.cpg_cube.specs.Bounds.{budget_left, touches, more_asked}

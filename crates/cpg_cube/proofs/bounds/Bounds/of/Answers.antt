@@ -1,4 +1,4 @@
--- Proof of `Bounds::of`: the ranges of a cube.
+-- Proof of `Bounds::of`, which returns the ranges of a cube, given as its literals.
 use Rattle.std.proofs.Common.{rules, arith}
 use Rattle.cpg_cube.proofs.BoundSteps.{bounds_whole, bounds_push}
 use Rattle.cpg_cube.proofs.bounds.Bounds.of.Goals as goal

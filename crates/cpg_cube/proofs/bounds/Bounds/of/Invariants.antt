@@ -1,4 +1,4 @@
--- Loops of `Bounds::of`: the ranges of a cube.
+-- Loops of `Bounds::of`, which returns the ranges of a cube, given as its literals.
 use Rattle.std.proofs.Common.{◌≡◌, take, length}
 use Rattle.cpg_cube.specs.Bounds.{AreBounds}
 use Rattle.cpg_cube.proofs.bounds.Bounds.of.Given as goal

@@ -1,4 +1,4 @@
--- Proof of `Bounds::raise`: raises the least numbers to those of a cube, if they are greater.
+-- Proof of `Bounds::raise`, which raises each low to that of a cube, if the cube's is greater.
 use Rattle.std.proofs.Common.{rules, arith}
 use Rattle.cpg_cube.proofs.BoundSteps.{raised_push}
 use Rattle.cpg_cube.proofs.bounds.Bounds.raise.Goals as goal

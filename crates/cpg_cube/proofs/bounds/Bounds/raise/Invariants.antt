@@ -1,4 +1,4 @@
--- Loops of `Bounds::raise`: raises the least numbers to those of a cube, if they are greater.
+-- Loops of `Bounds::raise`, which raises each low to that of a cube, if the cube's is greater.
 use Rattle.std.proofs.Common.{◌≡◌, take, length}
 use Rattle.cpg_cube.specs.Bounds.{AreRaised}
 use Rattle.cpg_cube.proofs.bounds.Bounds.raise.Given as goal

@@ -1,4 +1,4 @@
--- Proof of `Bounds::write_faults`: writes the least number of each process's variable as its fault count.
+-- Proof of `Bounds::write_faults`, which writes the low of each process's variable to `least`, as its fault count.
 use Rattle.std.proofs.Common.{ap₂, arith, get_or}
 use Rattle.std.proofs.lemmas.List.FromFn.{fill_by_all}
 use Rattle.cpg_base.specs.Scenario.{Scenario}

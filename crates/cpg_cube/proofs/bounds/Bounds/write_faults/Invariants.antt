@@ -1,4 +1,4 @@
--- Loops of `Bounds::write_faults`: writes the least number of each process's variable as its fault count.
+-- Loops of `Bounds::write_faults`, which writes the low of each process's variable to `least`, as its fault count.
 use Rattle.std.proofs.Common.{◌≡◌, ◌<◌, ℕ, get_or, length}
 use Rattle.cpg_cube.proofs.bounds.Bounds.write_faults.Given as goal
 

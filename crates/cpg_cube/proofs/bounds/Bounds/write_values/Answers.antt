@@ -1,5 +1,5 @@
--- Proof of `Bounds::write_values`: writes the value of each condition: true if the least number of its variable is
--- above 0.
+-- Proof of `Bounds::write_values`, which writes the value of each condition to `least`: true if the low of its variable
+-- is above 0.
 use Rattle.std.proofs.Common.{ap₂, arith, get_or, false}
 use Rattle.std.specs.Prelude.{nat_lt}
 use Rattle.std.proofs.lemmas.List.FromFn.{fill_by_all}

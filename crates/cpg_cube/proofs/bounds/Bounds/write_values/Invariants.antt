@@ -1,5 +1,5 @@
--- Loops of `Bounds::write_values`: writes the value of each condition: true if the least number of its variable is
--- above 0.
+-- Loops of `Bounds::write_values`, which writes the value of each condition to `least`: true if the low of its variable
+-- is above 0.
 use Rattle.std.proofs.Common.{◌≡◌, ◌<◌, ℕ, get_or, length, false}
 use Rattle.std.specs.Prelude.{nat_lt}
 use Rattle.cpg_base.specs.Graph.{value_variable}

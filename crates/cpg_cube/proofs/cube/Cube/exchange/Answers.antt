@@ -1,4 +1,5 @@
--- Proof of `Cube::exchange`: becomes what it was before it was narrowed, narrowed by another literal on the variable.
+-- Proof of `Cube::exchange`, which undoes a narrowing and narrows the cube by another literal on the same variable
+-- instead.
 use Rattle.std.proofs.Common.{◌≤◌, ◌≡◌, ◌∙◌, List, Some, length, length-set, arith, refl, sym, ap, subst}
 use Rattle.std.specs.Prelude.{slice_set}
 use Rattle.std.specs.List.{refill}
@@ -17,6 +18,7 @@ returns-then-left-clause-none c =
 pub invariant_of-self : goal.invariant_of-self
 invariant_of-self c =
     let xs = c.self.inside.literals.items in
+    -- the list after the literal is written through the borrowed slice
     let written : slice_set c.as_mut_slice.result.now c.args.narrowed.place c.left-left.result
     ≡ slice_set xs c.args.narrowed.place c.left-left.result = rw c.as_mut_slice.ensures.value refl in
     let filled : refill (length xs) xs (slice_set c.as_mut_slice.result.now c.args.narrowed.place c.left-left.result)
@@ -31,6 +33,7 @@ invariant_of-self c =
 pub returns-clause-narrowed : goal.returns-clause-narrowed
 returns-clause-narrowed c =
     let xs = c.self.inside.literals.items in
+    -- the list after the literal is written through the borrowed slice
     let written : slice_set c.as_mut_slice.result.now c.args.narrowed.place c.left-left.result
     ≡ slice_set xs c.args.narrowed.place c.left-left.result = rw c.as_mut_slice.ensures.value refl in
     let filled : refill (length xs) xs (slice_set c.as_mut_slice.result.now c.args.narrowed.place c.left-left.result)
@@ -46,6 +49,7 @@ returns-clause-narrowed c =
 pub returns-clause-undo : goal.returns-clause-undo
 returns-clause-undo c =
     let xs = c.self.inside.literals.items in
+    -- the list after the literal is written through the borrowed slice
     let written : slice_set c.as_mut_slice.result.now c.args.narrowed.place c.left-left.result
     ≡ slice_set xs c.args.narrowed.place c.left-left.result = rw c.as_mut_slice.ensures.value refl in
     let filled : refill (length xs) xs (slice_set c.as_mut_slice.result.now c.args.narrowed.place c.left-left.result)

@@ -1,4 +1,4 @@
--- Proof of `Cube::is_within`: whether the cube lies within another.
+-- Proof of `Cube::is_within`, which does what `within` does.
 use Rattle.std.proofs.Common.{rules, ◌≡◌, ◌∙◌, sym, None, Some}
 use Rattle.cpg_cube.specs.Fit.{IsCube, asked_of_literal, is_open}
 use Rattle.cpg_cube.specs.Bounds.{AreBounds, budget_left}
@@ -10,7 +10,9 @@ pub returns-in_default-clause-exact : goal.returns-in_default-clause-exact
 returns-in_default-clause-exact c =
     let g = c.args.problem.now in
     let a = c.args.self.now in
+    -- this cube is a cube of the graph: its variables rise, and each is one of the graph's
     let is_a : IsCube g a = record { rising = c.literals.ensures.rising; known = c.requires.first } in
+    -- its literals ask for more than k faults, or one of them can't hold
     let none : budget_left (is_open g.faults) asked_of_literal g.faults a ≡ None = search rules in
     sym (within_where_unmet g c.faults.ensures.within a is_a c.args.other.now (met_from_none g.faults a none))
 
@@ -20,8 +22,10 @@ returns-clause-exact c =
     let g = c.args.problem.now in
     let a = c.args.self.now in
     let b = c.args.other.now in
+    -- both lists of literals are cubes of the graph
     let is_a : IsCube g a = record { rising = c.literals.ensures.rising; known = c.requires.first } in
     let is_b : IsCube g b = record { rising = c.literals-literals.ensures.rising; known = c.requires.second } in
+    -- the faults that this cube leaves, and its bounds
     let some : budget_left (is_open g.faults) asked_of_literal g.faults a ≡ Some c.in-Some.left = search rules in
     let are : AreBounds a c.of-bounds.result.low c.of-bounds.result.high = search rules in
     (rw c.literals-literals.ensures.literals at c.span_all.ensures)

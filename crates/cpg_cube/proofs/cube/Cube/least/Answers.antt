@@ -1,5 +1,5 @@
--- Proof of `Cube::least`: the least scenario that the cube matches, which is the least in every order of the processes;
--- `None` exactly if it matches none.
+-- Proof of `Cube::least`, which returns the least scenario that the cube matches, which is the least along every order
+-- of the processes; `None` exactly if it matches none within the problem's faults.
 use Rattle.std.proofs.Common.{rules, ◌≡◌, true, false}
 use Rattle.cpg_cube.specs.Fit.{IsCube, is_met}
 use Rattle.cpg_cube.proofs.CubeLows.{lows-least}
@@ -10,6 +10,7 @@ use Rattle.cpg_cube.proofs.cube.Cube.least.Goals as goal
 pub returns-then-not-is_met-clause-first : goal.returns-then-not-is_met-clause-first
 returns-then-not-is_met-clause-first c order =
     let g = c.args.problem.now in
+    -- this cube is a cube of the graph: its variables rise, and each is one of the graph's
     let is : IsCube g c.args.self.now = record { rising = c.is_met.ensures.rising; known = c.requires.known } in
     let met : is_met g.faults c.args.self.now ≡ false = search rules in
     unmatched g c.faults.ensures.within c.args.self.now is met
@@ -18,6 +19,7 @@ returns-then-not-is_met-clause-first c order =
 pub returns-clause-first : goal.returns-clause-first
 returns-clause-first c order =
     let g = c.args.problem.now in
+    -- this cube is a cube of the graph: its variables rise, and each is one of the graph's
     let is : IsCube g c.args.self.now = record { rising = c.is_met.ensures.rising; known = c.requires.known } in
     let met : is_met g.faults c.args.self.now ≡ true = search rules in
     rw c.in_ok-least.ensures (lows-least g c.faults.ensures.within.few_processes c.args.self.now is met order)

@@ -1,4 +1,4 @@
--- Proof of `Cube::lows`: the scenario in which each variable is the least number of its range.
+-- Proof of `Cube::lows`, which returns the scenario in which each variable has the low of its range.
 use Rattle.std.proofs.Common.{◌∙◌, get_or}
 use Rattle.cpg_cube.specs.Cube.{low_in}
 use Rattle.cpg_cube.proofs.Meeting.{same_scenario}

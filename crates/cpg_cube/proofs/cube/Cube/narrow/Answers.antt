@@ -1,4 +1,5 @@
--- Proof of `Cube::narrow`: becomes what `with` answers, and `None` exactly if that is none: then it stays as it is.
+-- Proof of `Cube::narrow`, which becomes what `with` answers, and returns how to undo that; `None` exactly if `with`
+-- answers `None`.
 use Rattle.cpg_cube.proofs.Narrow.{rising-narrowed}
 use Rattle.cpg_cube.proofs.cube.Cube.narrow.Goals as goal
 

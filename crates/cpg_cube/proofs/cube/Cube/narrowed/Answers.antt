@@ -1,4 +1,4 @@
--- Proof of `Cube::narrowed`: the cube with a literal more, met with the one on its variable.
+-- Proof of `Cube::narrowed`, which returns the cube narrowed by a literal, even if that leaves its variable no number.
 use Rattle.cpg_cube.proofs.Narrow.{rising-narrowed}
 use Rattle.cpg_cube.proofs.cube.Cube.narrowed.Goals as goal
 

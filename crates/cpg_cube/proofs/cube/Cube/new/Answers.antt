@@ -1,4 +1,4 @@
--- Proof of `Cube::new`: the cube of these literals, and `None` exactly if their variables don't rise.
+-- Proof of `Cube::new`, which returns the cube of these literals; `None` exactly if their variables don't rise.
 use Rattle.std.proofs.Common.{◌∙◌, sym, arith}
 use Rattle.std.proofs.lemmas.Bool.{both_ways}
 use Rattle.cpg_cube.proofs.Rising.{rising_from, rises_by}

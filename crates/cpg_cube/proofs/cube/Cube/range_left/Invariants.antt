@@ -1,4 +1,5 @@
--- Loops of `Cube::range_left`: the range of a literal's variable that is left where both match.
+-- Loops of `Cube::range_left`, which returns the range that narrowing by a literal leaves its variable: met with the
+-- cube's literal on it, if there is one.
 use Rattle.std.proofs.Common.{◌≡◌, drop}
 use Rattle.cpg_cube.specs.Narrow.{range_left}
 use Rattle.cpg_cube.proofs.cube.Cube.range_left.Given as goal

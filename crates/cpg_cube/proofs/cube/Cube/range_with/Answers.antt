@@ -1,4 +1,4 @@
--- Proof of `Cube::range_with`: does what `range_left` does, without a search if the variable is above all others.
+-- Proof of `Cube::range_with`, which does what `range_left` does, without a search if the variable is above all others.
 use Rattle.std.proofs.Common.{◌<◌, All, sym}
 use Rattle.cpg_cube.specs.Cube.{Literal}
 use Rattle.cpg_cube.proofs.Above.{range_above}

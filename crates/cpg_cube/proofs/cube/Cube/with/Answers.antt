@@ -1,5 +1,5 @@
--- Proof of `Cube::with`: the cube that matches where this one does and the literal holds, and `None` exactly if that
--- leaves the variable an empty range.
+-- Proof of `Cube::with`, which returns the cube that matches the scenarios that this one matches and in which the
+-- literal holds; `None` exactly if that leaves the literal's variable no number.
 use Rattle.std.proofs.Common.{rules, ◌≡◌, None}
 use Rattle.cpg_cube.specs.Narrow.{with_literal}
 use Rattle.cpg_cube.proofs.Narrow.{with-none, matches-narrowed}

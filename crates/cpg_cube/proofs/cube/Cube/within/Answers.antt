@@ -1,4 +1,5 @@
--- Proof of `Cube::within`: whether each scenario within the problem's faults that matches this cube matches another.
+-- Proof of `Cube::within`: whether another cube matches each scenario within the problem's faults that this cube
+-- matches.
 use Rattle.std.proofs.Common.{◌∙◌, sym}
 use Rattle.cpg_cube.proofs.Within.{within_from, to_within}
 use Rattle.cpg_cube.proofs.cube.Cube.within.Goals as goal

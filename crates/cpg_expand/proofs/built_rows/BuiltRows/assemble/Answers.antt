@@ -1,4 +1,5 @@
--- Proof of `BuiltRows::assemble`: the tables that are assembled of the rows, with the frozen times and the measures.
+-- Proof of `BuiltRows::assemble`, which returns the tables that are assembled from the rows, with the frozen times and
+-- the measures.
 use Rattle.std.proofs.Common.{List, refl, subst, sym}
 use Rattle.cpg_base.specs.Graph.{Graph}
 use Rattle.cpg_table.specs.Table.{Row}

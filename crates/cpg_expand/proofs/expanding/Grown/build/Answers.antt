@@ -1,4 +1,4 @@
--- Proof of `Grown::build`: does what `build_bounded` does, if no item has too many views.
+-- Proof of `Grown::build`, which does what `build_bounded` does if no item is too wide by its views.
 use Rattle.cpg_expand.specs.WideRows.{HaveWideRows}
 use Rattle.cpg_expand.proofs.WideRowsMade.{narrow_unnamed}
 use Rattle.cpg_expand.proofs.expanding.Grown.build.Goals as goal

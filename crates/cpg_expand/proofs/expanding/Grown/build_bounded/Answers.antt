@@ -1,4 +1,4 @@
--- Proof of `Grown::build_bounded`: the exact rows, with the frozen times and the measures.
+-- Proof of `Grown::build_bounded`, which returns the rows, with the frozen times and the measures.
 use Rattle.std.proofs.Common.{ℕ, List, Option, refl, subst}
 use Rattle.std.specs.Prelude.{IfSome}
 use Rattle.cpg_base.specs.Graph.{Graph}

@@ -1,4 +1,5 @@
--- Proof of `Forest::end_there`: the ends of a process, 0 if it isn't active.
+-- Proof of `Forest::end_there`, which returns the ends of a process, with 0 where it isn't active. `inside` is the
+-- forest as the code has it, list by list.
 use Rattle.std.proofs.Common.{refl}
 use Rattle.cpg_expand.specs.Forest.{ForestState, ends_of}
 use Rattle.cpg_expand.proofs.GuardTrees.{ends_read, ends_tree, read_end}

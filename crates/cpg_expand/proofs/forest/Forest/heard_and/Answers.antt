@@ -1,4 +1,5 @@
--- Proof of `Forest::heard_and`: the times from which on a node has heard a condition and something else is there.
+-- Proof of `Forest::heard_and`, which returns from when on a node has heard a condition and `further` is reached too.
+-- `inside` is the forest as the code has it, list by list.
 use Rattle.std.proofs.Common.{◌≡◌, ◌∙◌, refl, sym, ap, subst}
 use Rattle.cpg_base.specs.Bus.{slot_length}
 use Rattle.cpg_base.specs.Graph.{home, node_of}

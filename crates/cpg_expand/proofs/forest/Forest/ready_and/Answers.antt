@@ -1,4 +1,5 @@
--- Proof of `Forest::ready_and`: the times from which on a node is ready and something else is there.
+-- Proof of `Forest::ready_and`, which returns from when on a node is ready and `there` is reached too. `inside` is the
+-- forest as the code has it, list by list.
 use Rattle.std.proofs.Common.{◌<◌, ◌≡◌, refl, sym, subst}
 use Rattle.cpg_base.specs.Graph.{process_count}
 use Rattle.cpg_tree.specs.Tree.{TreeState}

@@ -1,4 +1,5 @@
--- Proof of `Forest::ready_and_frame`: the times from which on a node is ready and a frame is there.
+-- Proof of `Forest::ready_and_frame`, which returns from when on a node is ready and the frame of an item has arrived.
+-- `inside` is the forest as the code has it, list by list.
 use Rattle.std.proofs.Common.{ℕ, ◌<◌, ◌≡◌, ◌∙◌, Option, refl, sym, ap, subst}
 use Rattle.cpg_base.specs.Bus.{slot_length}
 use Rattle.cpg_base.specs.Graph.{home, process_count}

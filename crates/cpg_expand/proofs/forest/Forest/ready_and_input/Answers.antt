@@ -1,4 +1,5 @@
--- Proof of `Forest::ready_and_input`: the times from which on a node is ready and an input from another node is there.
+-- Proof of `Forest::ready_and_input`, which returns from when on a node is ready and an input from another node has
+-- arrived.
 use Rattle.std.proofs.Common.{subst}
 use Rattle.cpg_base.specs.Bus.{slot_length}
 use Rattle.cpg_base.specs.Graph.{home}

@@ -1,4 +1,5 @@
--- Proof of `Forest::started`: the starts of a process on a node once it is ready and at a release or later.
+-- Proof of `Forest::started`, which returns the starts of a process at `release` or later, once its node is ready.
+-- `inside` is the forest as the code has it, list by list.
 use Rattle.std.proofs.Common.{◌<◌, ◌≡◌, [], refl, sym, subst}
 use Rattle.cpg_base.specs.Graph.{process_count}
 use Rattle.cpg_tree.specs.Tree.{TreeState}

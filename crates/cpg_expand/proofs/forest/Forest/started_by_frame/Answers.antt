@@ -1,5 +1,5 @@
--- Proof of `Forest::started_by_frame`: the starts of a process on a node once it is ready and a frame is there, and at
--- a release or later.
+-- Proof of `Forest::started_by_frame`, which returns the starts of a process at `release` or later, once its node is
+-- ready and the frame of an item has arrived. `inside` is the forest as the code has it, list by list.
 use Rattle.std.proofs.Common.{ℕ, ◌<◌, ◌≡◌, ◌∙◌, max, Option, Some, refl, sym, ap, subst}
 use Rattle.cpg_base.specs.Bus.{slot_length}
 use Rattle.cpg_base.specs.Graph.{home, process_count}

@@ -1,5 +1,6 @@
--- Proof of `Forest::started_by_frame_where`: the starts of a process where it is active, and no time elsewhere: once
--- its node is ready and a frame is there, and at a release or later.
+-- Proof of `Forest::started_by_frame_where`, which returns the starts of a process at `release` or later, once its
+-- node is ready and the frame of an item has arrived, where `active` is true; no time elsewhere. `inside` is the
+-- forest as the code has it, list by list.
 use Rattle.std.proofs.Common.{◌<◌, ◌≡◌, ◌∙◌, refl, sym, ap, subst}
 use Rattle.cpg_base.specs.Bus.{slot_length}
 use Rattle.cpg_base.specs.Graph.{home, process_count}

@@ -1,5 +1,5 @@
--- Proof of `Forest::started_by_input_where`: the starts of a process where it is active, and no time elsewhere: once
--- its node is ready and an input from another node is there, and at a release or later.
+-- Proof of `Forest::started_by_input_where`, which returns the starts of a process at `release` or later, once its
+-- node is ready and an input from another node has arrived, where `active` is true; no time elsewhere.
 use Rattle.std.proofs.Common.{subst}
 use Rattle.cpg_base.specs.Bus.{slot_length}
 use Rattle.cpg_base.specs.Graph.{home}

@@ -1,5 +1,5 @@
--- Proof of `Forest::started_where`: the starts of a process where it is active, and no time elsewhere: once its node is
--- ready, and at a release or later.
+-- Proof of `Forest::started_where`, which returns the starts of a process at `release` or later, once its node is
+-- ready, where `active` is true; no time elsewhere.
 use Rattle.std.proofs.Common.{ℕ, Option, None, subst}
 use Rattle.cpg_tree.specs.Tree.{TreeState, IsConstant}
 use Rattle.cpg_tree.specs.Variables.{is_variable}

@@ -6,19 +6,19 @@ use Rattle.cpg_label.specs.Lines.{text_after}
 use Rattle.cpg_label.proofs.Lines.{end_short, line_added, refilled}
 use Rattle.cpg_label.proofs.line.Line.add.Goals as goal
 
--- the text of the new literal is put behind that of those before, and its end is noted
+-- the text of the new literal is put where that of the others ends, and its own end is noted, at most 84 bytes further
 pub returns-clause-line : goal.returns-clause-line
 returns-clause-line c =
     let labels = c.args.labels.now in
     let old = c.args.self.now in
     let is = c.requires.line in
     let put = c.place_after-end.new.out in
-    -- there is room for one more end, and the last one is where the text stops
+    -- the place `at` is where the text of the literals so far ends
     let room : old.count ≤ length old.literals.items = omega (arith, is.few, is.literals) in
     let at : c.index-at.result.now ≡ get_or old.ends.items old.count 0 =
     c.index-at.ensures
     ∙ get_or_default old.ends.items old.count c.index-at.result.now 0 (omega (arith, c.requires.few, is.ends)) in
-    -- the text keeps its length, which is that of the room
+    -- to put a text doesn't change how many bytes there are
     let long : length put ≡ 256 * 84 =
     c.place_after-end.ensures.len ∙ ap length c.as_mut_slice.ensures.value ∙ is.text in
     let stands : length old.text.items ≡ vec_len old.text = search rules in

@@ -3,7 +3,8 @@ use Rattle.std.proofs.Common.{◌≡◌, ◌+◌, ◌++◌, take}
 use Rattle.cpg_label.specs.Lines.{IsLine}
 use Rattle.cpg_label.proofs.line.Line.add_all.Given as goal
 
--- the line has its first literals and those added so far behind them, and its text and count agree with them
+-- `line`, `count`: the line is one of as many literals as it had, and those so far. `literals`: it has the old ones and
+-- after them those so far
 abbrev pub invariant-loop-literal : goal.invariant-loop-literal
 invariant-loop-literal l = record {
   line : IsLine l.labels l.self;

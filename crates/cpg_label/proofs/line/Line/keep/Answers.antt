@@ -1,9 +1,9 @@
--- Proof of `Line::keep`: leaves this many literals.
+-- Proof of `Line::keep`: keeps the first `count` literals.
 use Rattle.std.proofs.Common.{arith}
 use Rattle.cpg_label.proofs.Lines.{line_kept}
 use Rattle.cpg_label.proofs.line.Line.keep.Goals as goal
 
--- the first literals keep their texts and ends
+-- the texts and ends of the first literals are as they were, and the room is untouched
 pub returns-clause-line : goal.returns-clause-line
 returns-clause-line c =
     let old = c.args.self.now in

@@ -4,7 +4,7 @@ use Rattle.std.specs.Vec.{vec_len}
 use Rattle.cpg_label.proofs.Lines.{line_new}
 use Rattle.cpg_label.proofs.line.Line.new.Goals as goal
 
--- a line with room for 256 literals and no literal yet
+-- the line has no literal yet, so its only end is 0; its lists are as long as the room
 pub returns : goal.returns
 returns c labels =
     let literals = c.in_ok-literals.literals in

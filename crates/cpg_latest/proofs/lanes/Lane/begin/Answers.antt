@@ -6,7 +6,7 @@ use Rattle.cpg_latest.proofs.CourseSteps.{last_first, last_next}
 use Rattle.cpg_latest.proofs.Halves.{half_first, half_more, half_all}
 use Rattle.cpg_latest.proofs.lanes.Lane.begin.Goals as goal
 
--- before the first course the process can begin in each
+-- at first the process can begin in each course, and the last end for no faults is 0
 pub loop-faults-init : goal.loop-faults-init
 loop-faults-init c = let lane = subst (IsLane c.args.setting.now.problem.now
     (CanBegin c.args.setting.now c.args.frozen.now c.args.process c.args.asked.now.scenario.now.values))
@@ -26,11 +26,11 @@ begin-last-requires-clause-course c =
     (c.loop-faults.invariant.half.left c.loop-faults.faults c.index_mut-course.result.now (omega arith)
     (omega (arith, c.loop-faults-test.true, c.requires.lane.count, ap length c.self.view_is)))
 
--- there is a last end for each node
+-- the invariant says that `last` is the latest end with one fault less
 pub begin-last-requires-clause-last : goal.begin-last-requires-clause-last
 begin-last-requires-clause-last c = c.loop-faults.invariant.last
 
--- the process has begun in one more course
+-- the process has begun in one course more, and the end that `begin` returns is the last end for one fault more
 pub loop-faults-preserved : goal.loop-faults-preserved
 loop-faults-preserved c = record {
   half = half_more (CanBegin c.args.setting.now c.args.frozen.now c.args.process c.args.asked.now.scenario.now.values)
@@ -43,7 +43,7 @@ loop-faults-preserved c = record {
       ∙ last_next c.args.setting.now.problem.now late c.loop-faults.faults c.args.process;
 }
 
--- the process has begun in the courses of all numbers of faults
+-- after the loop the process has begun in the courses of all numbers of faults
 pub returns : goal.returns
 returns c = record {
   count = c.loop-faults.invariant.half.count_is;

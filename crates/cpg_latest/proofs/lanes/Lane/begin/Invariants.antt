@@ -4,7 +4,8 @@ use Rattle.cpg_latest.specs.Course.{AreHalf}
 use Rattle.cpg_latest.specs.Lanes.{CanBegin, HasSentTo, IsLastEnd}
 use Rattle.cpg_latest.proofs.lanes.Lane.begin.Given as goal
 
--- the courses with fewer faults have begun the process; `last` is its latest end with one fault less, if it is active
+-- `half`: in the courses with fewer faults the process has begun, and in the others it can begin. `last`: if the process is
+-- active, `last` is its latest end with one fault less.
 abbrev pub invariant-loop-faults : goal.invariant-loop-faults
 invariant-loop-faults l = record {
   half : AreHalf (CanBegin l.setting l.frozen l.process l.asked.scenario.now.values)

@@ -5,7 +5,7 @@ use Rattle.cpg_run.specs.Run.{end_in}
 use Rattle.cpg_latest.proofs.Found.{greatest_below}
 use Rattle.cpg_latest.proofs.lanes.Lane.excess.Goals as goal
 
--- how far the end of this process is past its due is taken in
+-- the greatest over one process more is the greater of the one so far and of the excess of this process
 pub loop-process-preserved : goal.loop-process-preserved
 loop-process-preserved c =
     greatest_below (λ p. end_in c.index-course.result.now.known p - due c.args.problem.now p) c.loop-process.process

@@ -4,7 +4,7 @@ use Rattle.cpg_run.specs.Run.{end_in}
 use Rattle.cpg_latest.proofs.Found.{greatest_below}
 use Rattle.cpg_latest.proofs.lanes.Lane.finish.Goals as goal
 
--- the end of this process is taken in
+-- the greatest over one process more is the greater of the one so far and of the end of this process
 pub loop-process-preserved : goal.loop-process-preserved
 loop-process-preserved c =
     greatest_below (λ p. end_in c.index-course.result.now.known p) c.loop-process.process c.loop-process.latest

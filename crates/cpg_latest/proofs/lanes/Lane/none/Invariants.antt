@@ -3,7 +3,7 @@ use Rattle.std.proofs.Common.{◌≡◌, length, replicate}
 use Rattle.cpg_run.specs.Known.{no_times}
 use Rattle.cpg_latest.proofs.lanes.Lane.none.Given as goal
 
--- each turn adds one course in which nothing is known
+-- there is one course in which nothing is known for each turn so far
 abbrev pub invariant-loop : goal.invariant-loop
 invariant-loop l = l.courses.items ≡ replicate l.counter
     (record { known = no_times l.problem; ready = replicate (length l.problem.nodes) 0; free = replicate (length l.problem.nodes) 0 })

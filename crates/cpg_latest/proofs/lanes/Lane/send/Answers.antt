@@ -15,13 +15,13 @@ use Rattle.cpg_latest.proofs.Halves.{half_first, half_more, half_all}
 use Rattle.cpg_latest.proofs.LaneSteps.{item_sent, item_small, lane_map}
 use Rattle.cpg_latest.proofs.lanes.Lane.send.Goals as goal
 
--- the item stands in the queue of the process, as `at` is below its length
+-- the item is in the queue of the process, as `at` is below its length
 pub is_sent-requires-clause-item : goal.is_sent-requires-clause-item
 is_sent-requires-clause-item c =
     subst (λ xs. Contains xs (get_or c.queue.result.now c.args.at 0)) c.queue.ensures
     (Contains-get_or c.queue.result.now c.args.at 0 (omega (arith, c.requires.at, ap length c.queue.ensures)))
 
--- the track does not send the item, so each course stays as it is
+-- the item isn't sent in the track, so each course as it is has sent one item more
 pub returns-then-not-is_sent : goal.returns-then-not-is_sent
 returns-then-not-is_sent c =
     let g = c.args.setting.now.problem.now in
@@ -38,7 +38,7 @@ returns-then-not-is_sent c =
     c.args.at c.requires.at course s (λ acts. subst (λ y. item_active g values (item_at g y) ≡ false) here
     (c.is_sent.ensures.unsent c.if-not-is_sent.true acts))) c.requires.lane
 
--- before the first course the item is still to be sent in each
+-- at first the item is still to be sent in each course
 pub loop-faults-init : goal.loop-faults-init
 loop-faults-init c = let lane = subst (IsLane c.args.setting.now.problem.now
     (HasSentTo c.args.setting.now c.args.frozen.now c.args.process
@@ -86,7 +86,7 @@ send_item-requires-clause-free c =
     (c.loop-faults.invariant.left c.loop-faults.faults c.index_mut-course.result.now (omega arith) few) in
     s.places.free_count
 
--- the end of the process in this course is small
+-- the end of the process in this course is a latest end, and so below 2 ^ 59
 pub send_item-requires-clause-early : goal.send_item-requires-clause-early
 send_item-requires-clause-early c =
     let g = c.args.setting.now.problem.now in
@@ -111,7 +111,7 @@ send_item-requires-clause-early c =
     c.index_mut-course.result.now s sent.0 (subst (λ y. item_active g values (item_at g y) ≡ true) here sent.1)
     c.requires.setting.admitted.1.limits c.requires.asked.long c.requires.early).0
 
--- the time of the send in this course is small
+-- the time of the send in this course is a latest time, and so below 2 ^ 59
 pub send_item-requires-clause-time : goal.send_item-requires-clause-time
 send_item-requires-clause-time c =
     let g = c.args.setting.now.problem.now in
@@ -137,7 +137,7 @@ send_item-requires-clause-time c =
     c.index_mut-course.result.now s sent.0 (subst (λ y. item_active g values (item_at g y) ≡ true) here sent.1)
     c.requires.setting.admitted.1.limits c.requires.asked.long c.requires.early).1
 
--- the item is sent in one more course
+-- the item is sent in one course more, and the other courses stay
 pub loop-faults-preserved : goal.loop-faults-preserved
 loop-faults-preserved c =
     let g = c.args.setting.now.problem.now in
@@ -169,7 +169,7 @@ loop-faults-preserved c =
     c.loop-faults.faults few
     course s sent.0 (subst (λ y. item_active g values (item_at g y) ≡ true) here sent.1))) refl
 
--- the item is sent in the courses of all numbers of faults
+-- after the loop the item is sent in the courses of all numbers of faults
 pub returns : goal.returns
 returns c = record {
   count = c.loop-faults.invariant.count_is;

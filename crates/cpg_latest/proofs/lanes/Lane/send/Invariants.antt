@@ -4,7 +4,7 @@ use Rattle.cpg_latest.specs.Course.{AreHalf}
 use Rattle.cpg_latest.specs.Lanes.{HasSentTo}
 use Rattle.cpg_latest.proofs.lanes.Lane.send.Given as goal
 
--- the courses with fewer faults have sent the item at place `at`; the others have sent only those before it
+-- in the courses with fewer faults the item at the place `at` is sent, and in the others only those before it
 abbrev pub invariant-loop-faults : goal.invariant-loop-faults
 invariant-loop-faults l =
     AreHalf (HasSentTo l.setting l.frozen l.process (l.at + 1) l.at l.asked.scenario.now.values)

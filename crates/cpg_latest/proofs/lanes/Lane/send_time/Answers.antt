@@ -3,7 +3,7 @@
 use Rattle.cpg_run.proofs.Senders.{queued_slot}
 use Rattle.cpg_latest.proofs.lanes.Lane.send_time.Goals as goal
 
--- the item is sent by a node that has a slot
+-- the item is in the queue of the process, so its node sends something and has a slot
 pub unfrozen_send-requires-clause-slot : goal.unfrozen_send-requires-clause-slot
 unfrozen_send-requires-clause-slot c = queued_slot c.args.setting.now.problem.now c.requires.setting.admitted.1.slots
     c.args.process c.args.item c.requires.item

@@ -11,7 +11,7 @@ use Rattle.cpg_live.specs.Stream.{after}
 use Rattle.cpg_live.proofs.Bounds.{table_after}
 use Rattle.cpg_live.proofs.following.Follower.feed_piece.Goals as goal
 
--- the follower is then in the state after the bytes before and the piece, and its lines still have their room
+-- the state is that after the bytes of before and the piece; the acts only grew, and the room for lines is as it was
 pub invariant_of-self : goal.invariant_of-self
 invariant_of-self g c =
     let old = c.self.invariant in
@@ -38,19 +38,19 @@ invariant_of-self g c =
       room = omega (arith, old.room, ap entry_count same);
     }
 
--- what is left after a failed read is the rest of the stream, if it was so before
+-- a failed read leaves on the shelf the rest of the stream, if it was so before
 pub returns-in_err-count-clause-rest : goal.returns-in_err-count-clause-rest
 returns-in_err-count-clause-rest g c r =
     read_rest (g.S.Shelf.state c.args.shelf.now) (g.S.Shelf.state c.read.new.self) c.read.ensures.names c.read.result
     c.read.new.buf (search rules) c.read.ensures.history c.read.ensures.bytes r
 
--- what is left after the read is the rest of the stream, if it was so before
+-- a read leaves on the shelf the rest of the stream, if it was so before
 pub returns-clause-rest : goal.returns-clause-rest
 returns-clause-rest g c r =
     read_rest (g.S.Shelf.state c.args.shelf.now) (g.S.Shelf.state c.read.new.self) c.read.ensures.names c.read.result
     c.read.new.buf (search rules) c.read.ensures.history c.read.ensures.bytes r
 
--- the piece is what was read into the buffer, and the state after it is the one that was fed
+-- the piece is what was read into the buffer, and feeding it led to the new state
 pub returns-clause-piece : goal.returns-clause-piece
 returns-clause-piece g c =
     let old = c.self.invariant in

@@ -10,7 +10,7 @@ use Rattle.cpg_live.proofs.Along.{along_at, fed_cut, fed_lawless, fed_long, fed_
 use Rattle.cpg_live.proofs.Along.{wrote_all}
 use Rattle.cpg_live.proofs.following.Follower.follow_piece.Goals as goal
 
--- the shelf met a fault, so the stream breaks there, with the lines so far
+-- the shelf met a fault, so the stream breaks there, and the lines of all acts so far are written
 pub returns-in_default-clause-along : goal.returns-in_default-clause-along
 returns-in_default-clause-along g c start name past a =
     let shelf = g.S.Shelf.state c.args.shelf.now in
@@ -30,7 +30,7 @@ returns-then-is_err-clause-along g c start name past a =
     -- the fetch of the stream and the state after the piece
     let k = fed_on name past shelf rest c.in-Ok.fed.count start now f n a c.in-Ok.ensures.piece in
     let failed : is_err c.tell.result ≡ true = search rules in
-    -- the sink has counted a fault, and took a front of the lines
+    -- the sink has counted a fault, and took a proper prefix of the lines
     record {
       fetch = k.fetch;
       named = k.named;
@@ -54,10 +54,10 @@ returns-in-Some-clause-along g c start name past a =
     let out = (g.O.Sink.state c.tell.new.out).taken in
     -- the fetch of the stream and the state after the piece
     let k = fed_on name past shelf rest c.in-Ok.fed.count start now f n a c.in-Ok.ensures.piece in
-    -- all lines were told, and the state is bad
+    -- all lines were written, and the piece has a lawless record
     let told_all : is_err c.tell.result ≡ false = search rules in
     let lawless : n.live.lawless ≡ Some c.in-Some.lawless = search rules in
-    -- the stream is refused by what is bad, behind all lines
+    -- the stream is refused by it, after all lines
     record {
       fetch = k.fetch;
       named = k.named;
@@ -87,12 +87,12 @@ returns-then-self-gt-STREAM_LIMIT-clause-along g c start name past a =
     let out = (g.O.Sink.state c.tell.new.out).taken in
     -- the fetch of the stream and the state after the piece
     let k = fed_on name past shelf rest c.in-Ok.fed.count start now f n a c.in-Ok.ensures.piece in
-    -- all lines were told, and the bytes are more than the limit
+    -- all lines were written, no record is lawless, and the bytes are more than the limit
     let told_all : is_err c.tell.result ≡ false = search rules in
     let none : n.live.lawless ≡ None = search rules in
     let read : c.self.inside.read ≡ n.read = ap (λ (f : Follower). f.read) (c.self.view_is ∙ c.tell.ensures.state) in
     let over : STREAM_LIMIT < n.read = omega (arith, c.if-self-gt-STREAM_LIMIT.true, read) in
-    -- the stream is refused as too long, behind all lines
+    -- the stream is refused as too long, after all lines
     record {
       fetch = k.fetch;
       named = k.named;
@@ -133,7 +133,7 @@ returns-clause-along g c start name past a =
 pub returns-in_default-clause-left : goal.returns-in_default-clause-left
 returns-in_default-clause-left g c = c.in_default.ensures.same
 
--- the piece was fed, and its acts count as told
+-- the piece was fed, and its lines count as written though the sink met a fault
 pub returns-then-is_err-clause-left : goal.returns-then-is_err-clause-left
 returns-then-is_err-clause-left g c = record {
   count = c.in-Ok.fed.count;

@@ -6,7 +6,7 @@ use Rattle.cpg_live.specs.LinesKept.{entry_count}
 use Rattle.cpg_live.proofs.Along.{opened}
 use Rattle.cpg_live.proofs.following.Follower.new.Goals as goal
 
--- before the first byte nothing is told, and there is room for the lines of all acts and one more
+-- no byte is fed and no act told, and the room that was asked for is that of all lines and one more
 pub invariant_of-result : goal.invariant_of-result
 invariant_of-result c =
     let is = c.in_ok-live.ensures in
@@ -20,7 +20,7 @@ invariant_of-result c =
       room = omega (arith, c.in_ok-reserve.ensures.ok, c.in-Some.ensures, ap entry_count same);
     }
 
--- the follower is the one before the first byte
+-- the head and the table are those of the tables, and the state is that before the first byte
 pub returns : goal.returns
 returns c = opened c.args.tables.head c.into_node-head.result.0
     (table_at c.args.tables.nodes c.args.node) c.into_node-head.result.1 c.in_ok-live.live c.into_node-head.ensures.head

@@ -1,4 +1,4 @@
--- Proof of `Follower::tell`: writes the lines of the acts that haven't been written yet, in one write.
+-- Proof of `Follower::tell`: writes the lines of the acts that haven't been written yet.
 use Rattle.std.proofs.Common.{◌≡◌, ◌∙◌, arith, ap, drop, length, refl, subst}
 use Rattle.std.specs.Prelude.{List, OnErr}
 use Rattle.cpg_io.specs.Sink.{TookPrefix}
@@ -11,7 +11,7 @@ use Rattle.cpg_live.specs.Streams.{act_lines}
 use Rattle.cpg_live.proofs.Along.{rest_few, told_lines}
 use Rattle.cpg_live.proofs.following.Follower.tell.Goals as goal
 
--- there are no more acts than the node has entries, and there is room for the lines of those
+-- there is room for a line of each entry of the node, and there are no more acts than entries
 pub append_acts-requires : goal.append_acts-requires
 append_acts-requires g c =
     let kept = c.self.invariant in
@@ -28,7 +28,7 @@ append_acts-requires g c =
       rest_few c.self.inside.told c.acts-acts.result.now,
     )
 
--- what is written is the lines of the acts that aren't told
+-- what is written are the lines of the acts from `told` on, so a proper prefix of it is one of these
 pub returns-clause-part : goal.returns-clause-part
 returns-clause-part g c =
     let lines : c.as_slice.result.now

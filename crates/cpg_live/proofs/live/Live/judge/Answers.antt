@@ -1,11 +1,11 @@
--- Proof of `Live::judge`: takes a record, unless it is unlawful.
+-- Proof of `Live::judge`: takes a record, or notes that it is lawless.
 use Rattle.std.proofs.Common.{◌≡◌, true, ap, ◌∙◌, subst, arith}
 use Rattle.cpg_node.specs.Dispatcher.{is_after}
 use Rattle.cpg_node.proofs.Rooms.{after_later}
 use Rattle.cpg_live.specs.Stream.{LiveState}
 use Rattle.cpg_live.proofs.live.Live.judge.Goals as goal
 
--- the time of the record is not before that of the last one, so it is after the last turn
+-- the time of the record isn't before that of the last one, and that is after the last turn
 pub take-requires : goal.take-requires
 take-requires c = subst (λ (s : LiveState). is_after s.progress.dispatcher.last c.args.told.time ≡ true) c.self.view_is
     (after_later c.self.inside.progress.dispatcher.last c.self.inside.time c.args.told.time

@@ -1,12 +1,12 @@
--- Proof of `Live::take`: takes a record of a lawful kind and time, unless it is unlawful after the turns that come
--- first.
+-- Proof of `Live::take`: takes the turns before a record of a lawful kind and time, and then the record, or notes that
+-- it is lawless.
 use Rattle.std.proofs.Common.{◌≡◌, true, sym, ap, ◌∙◌, subst}
 use Rattle.cpg_node.specs.Dispatcher.{is_after}
 use Rattle.cpg_live.specs.Stream.{NodeProgress, LiveState}
 use Rattle.cpg_live.proofs.Steps.{step_after}
 use Rattle.cpg_live.proofs.live.Live.take.Goals as goal
 
--- unless the event is a close, the last turn stays before the time of the record
+-- `later`: if the event is no close, only turns before its time were taken, so the last one is before it
 pub invariant_of-self-2 : goal.invariant_of-self-2
 invariant_of-self-2 c = record {
   part = c.self.invariant.part;

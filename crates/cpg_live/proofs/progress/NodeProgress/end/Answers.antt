@@ -1,4 +1,4 @@
--- Proof of `NodeProgress::end`: takes the end of an execution of a process with this many faults.
+-- Proof of `NodeProgress::end`: takes the end of an execution of a process.
 use Rattle.std.proofs.Common.{◌≡◌, true, sym, ◌∙◌, subst}
 use Rattle.cpg_node.specs.Dispatcher.{is_after}
 use Rattle.cpg_live.specs.Stream.{NodeProgress}
@@ -6,7 +6,7 @@ use Rattle.cpg_live.specs.Feeding.{IsTurned}
 use Rattle.cpg_live.proofs.Steps.{may_finish}
 use Rattle.cpg_live.proofs.progress.NodeProgress.end.Goals as goal
 
--- an end that may be reported is one that the node may note
+-- `may_end` says that the process may report this end, and all turns before its time are taken: so the node may note it
 pub finished-requires : goal.finished-requires
 finished-requires c = may_finish c.self.inside.node.dispatcher c.args.time
     (record { process = c.args.process; faults = c.in-Some.faults; value = c.args.value })

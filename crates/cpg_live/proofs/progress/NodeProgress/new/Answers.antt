@@ -8,7 +8,7 @@ use Rattle.cpg_node.specs.Instants.{entries_left}
 use Rattle.cpg_node.proofs.Rooms.{room_open}
 use Rattle.cpg_live.proofs.progress.NodeProgress.new.Goals as goal
 
--- there is room for an act of each entry of the table
+-- the table is lawful, no act is there yet, and the room that was asked for is that of all entries
 pub invariant_of-result : goal.invariant_of-result
 invariant_of-result c =
     let room : c.in-Some.entries ≤ vec_capacity c.reserve.new.self = search rules in

@@ -21,7 +21,7 @@ turn-requires c = record {
   arrive = All-nil (ArrivesAt c.self.inside.node.dispatcher c.args.time);
 }
 
--- the acts of the turn and the entries that are left after it have room
+-- there was room for an act of each entry left, and a turn does no more acts than it takes entries
 pub append_acts-requires : goal.append_acts-requires
 append_acts-requires c = omega (
   arith,
@@ -32,7 +32,7 @@ append_acts-requires c = omega (
       c.acts.ensures c.self.invariant.room,
 )
 
--- the turn keeps the table, and the entries that are left have room
+-- `made`: the turn keeps the table. `room`: the acts of the turn took the room of entries that aren't left any more
 pub invariant_of-self : goal.invariant_of-self
 invariant_of-self c =
     let here : next c.self.inside.node.dispatcher ≡ Some c.args.time =
@@ -53,13 +53,13 @@ invariant_of-self c =
       );
     }
 
--- the node's turn and the acts that are added are the turn
+-- the node takes the turn of this instant, and its acts are added
 pub returns-clause-turn : goal.returns-clause-turn
 returns-clause-turn c = turn_taken c.args.self.now c.self.inside.node c.turn.new.self c.args.time
     c.self.inside.acts.items c.acts.result.now c.append_acts.new.acts.items c.self.view_is c.requires
     c.turn.ensures.turn c.turn.ensures.acts c.acts.ensures c.append_acts.ensures.acts
 
--- a turn of a lawful table leaves fewer instants
+-- a turn with a lawful table leaves fewer instants (`table_less`)
 pub returns-clause-fewer : goal.returns-clause-fewer
 returns-clause-fewer c =
     let here : next c.self.inside.node.dispatcher ≡ Some c.args.time =

@@ -1,4 +1,4 @@
--- Proof of `NodeProgress::turn_to`: takes all turns at instants that aren't later than this.
+-- Proof of `NodeProgress::turn_to`: takes all turns at instants up to `last`.
 use Rattle.std.proofs.Common.{◌+◌, refl, sym, ap, ◌∙◌}
 use Rattle.cpg_live.specs.Stream.{turned}
 use Rattle.cpg_live.proofs.Turns.{turned_next, turned_last, few_none, few_next}
@@ -8,11 +8,11 @@ use Rattle.cpg_live.proofs.progress.NodeProgress.turn_to.Goals as goal
 pub loop-time-init : goal.loop-time-init
 loop-time-init c = record { turned = refl; few = few_none (c.args.last + 1) c.args.self.now }
 
--- a turn leaves the node fewer instants
+-- a turn leaves fewer instants that the node could come to
 pub loop-time-smaller : goal.loop-time-smaller
 loop-time-smaller c = c.take_turn.ensures.fewer
 
--- one turn more is among the turns below the limit, and leaves fewer instants
+-- `turned`: this turn is the first of those left up to `last`. `few`: it uses up an instant
 pub loop-time-preserved : goal.loop-time-preserved
 loop-time-preserved c =
     let here = sym c.instant_to.ensures ∙ c.in-Some.is in
@@ -23,12 +23,12 @@ loop-time-preserved c =
           c.loop-time.invariant.few here c.take_turn.ensures.turn c.take_turn.ensures.fewer;
     }
 
--- no instant is left up to the time, so all turns have been taken
+-- no instant is left up to `last`, so no more turns are to be taken
 pub returns-clause-turns : goal.returns-clause-turns
 returns-clause-turns c =
     sym (turned_last (c.args.last + 1) c.loop-time.self (sym c.instant_to.ensures ∙ c.in_default.is))
     ∙ c.loop-time.invariant.turned
 
--- the turns of the loop are no more than the instants that they used up
+-- by the invariant
 pub returns-clause-few : goal.returns-clause-few
 returns-clause-few c = c.loop-time.invariant.few

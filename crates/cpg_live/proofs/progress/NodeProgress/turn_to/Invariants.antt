@@ -1,4 +1,4 @@
--- Loops of `NodeProgress::turn_to`: takes all turns at instants that aren't later than this.
+-- Loops of `NodeProgress::turn_to`: takes all turns at instants up to `last`.
 use Rattle.std.proofs.Common.{◌≡◌, ◌+◌}
 use Rattle.cpg_node.specs.Instants.{instants_left}
 use Rattle.cpg_live.specs.Stream.{turned}

@@ -1,4 +1,4 @@
--- Proof of `Marked::of`: the columns with their marks.
+-- Proof of `Marked::of`, which returns the columns with their marks.
 use Rattle.std.proofs.Common.{subst}
 use Rattle.cpg_merging.specs.Totals.{AreMarked}
 use Rattle.cpg_merging.proofs.marks.Marked.of.Goals as goal

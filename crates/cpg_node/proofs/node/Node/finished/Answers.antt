@@ -7,19 +7,19 @@ use Rattle.cpg_node.specs.State.{AreTimed}
 use Rattle.cpg_node.proofs.Turning.{length_zip, timed_reported, next_reported}
 use Rattle.cpg_node.proofs.node.Node.finished.Goals as goal
 
--- what runs then
+-- what runs after the report: each process's execution with the report, if it is its own
 runs : (c : goal.After-self-1) →
     (with_items c.self.inside.running c.note_report.new.running).items
     ≡ zip_with (with_report c.args.ended) c.self.inside.table.own c.self.inside.running.items
 runs c = with_items_is c.self.inside.running c.note_report.new.running (omega arith) ∙ cc
 
--- a report changes what runs, but neither its starts nor the next instant
+-- a report changes what runs, but no start and no possible end, so the next instant stays
 pub invariant_of-self : goal.invariant_of-self
 invariant_of-self c =
     let n = c.self.inside in
     record {
       made = c.self.invariant.made;
-      -- the execution with its report is put at the place of its process; starts and the next instant stay
+      -- there is still one for each process, with the same start
       count =
           ap length (runs c) ∙ length_zip (with_report c.args.ended) n.table.own n.running.items c.self.invariant.count;
       mirror = c.self.invariant.mirror;

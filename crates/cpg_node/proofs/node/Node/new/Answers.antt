@@ -7,7 +7,7 @@ use Rattle.cpg_node.proofs.Turning.{line_open, next_open}
 use Rattle.cpg_node.proofs.TableBounds.{plan_early}
 use Rattle.cpg_node.proofs.node.Node.new.Goals as goal
 
--- before the first turn nothing runs, all that is planned is left, and the next instant is 0
+-- nothing runs, all entries and times are left, the next instant is 0, and the room is what was asked for
 pub invariant_of-result : goal.invariant_of-result
 invariant_of-result c = record {
   made = c.own.ensures.made;

@@ -4,12 +4,12 @@ use Rattle.std.specs.Prelude.{IfSome}
 use Rattle.cpg_node.proofs.Turning.{next_early}
 use Rattle.cpg_node.proofs.node.Node.next.Goals as goal
 
--- what each number that there is meets
+-- if each next instant there can be is below 2^61, the next one is, if there is one
 if_each : (o : Option ℕ) → ((t : ℕ) → o ≡ Some t → t < 2 ^ 61) → IfSome o (λ t. t < 2 ^ 61)
 if_each None h = tt
 if_each (Some t) h = h t refl
 
--- executions are short and start early, so each instant is before 2 to the 61
+-- an instant is a time of the table or an end, and starts and durations are below 2 ^ 60
 pub returns-clause-early : goal.returns-clause-early
 returns-clause-early c =
     let n = c.self.inside in

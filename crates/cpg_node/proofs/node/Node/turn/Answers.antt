@@ -18,23 +18,23 @@ use Rattle.cpg_node.proofs.Turning.{length_zip, acts_are, line_moves, early_turn
 use Rattle.cpg_node.proofs.Turning.{returned_turn, returned_acts}
 use Rattle.cpg_node.proofs.node.Node.turn.Goals as goal
 
--- the executions of a lawful table are short
+-- durations of a lawful table are below 2 ^ 60
 pub gather_due-requires-clause-times : goal.gather_due-requires-clause-times
 gather_due-requires-clause-times c =
     subst (All AreShort) (sym c.own.ensures.own) (times_short c.self.inside.table c.own.ensures.made)
 
--- the executions of a lawful table are short
+-- durations of a lawful table are below 2 ^ 60
 pub earliest_end-end-requires-clause-times : goal.earliest_end-end-requires-clause-times
 earliest_end-end-requires-clause-times c =
     subst (All AreShort) (sym c.own-3.ensures.own) (times_short c.self.inside.table c.own.ensures.made)
 
--- what runs then
+-- what runs when the next end is looked for: what the turn leaves running
 runs-8 : (c : goal.After-as_slice-8) → (with_items c.self.inside.running c.turn_executions.new.running).items
     ≡ zip_with (running_after (c.args.ended.now ++ c.gather_due.new.due.items) c.gather_acts.new.acts.items
     c.in-Some.time) c.self.inside.table.own c.self.inside.running.items
 runs-8 c = with_items_is c.self.inside.running c.turn_executions.new.running (omega arith) ∙ cc
 
--- what runs after the turn has started early
+-- what runs after the turn has started below 2 ^ 60: it ran before, or started at the time of an entry
 timed-8 : (c : goal.After-as_slice-8) → AreTimed (with_items c.self.inside.running c.turn_executions.new.running).items
 timed-8 c =
     let n = c.self.inside in
@@ -49,23 +49,23 @@ timed-8 c =
     c.gather_acts.new.acts.items c.gather_acts.ensures.acts v.early)
     n.table.own n.running.items v.starts)
 
--- the starts of what runs after the turn are small enough to be added to
+-- each start is below 2^60 after the turn (`timed-8`), so a duration can be added to it
 pub earliest_end-end-requires-clause-starts : goal.earliest_end-end-requires-clause-starts
 earliest_end-end-requires-clause-starts c = subst AreTimed (sym c.as_slice-8.ensures.value) (timed-8 c)
 
--- what runs after the turn is what the turn leaves running
+-- what runs at the end of the call is the same as when the next end is looked for (`runs-8`)
 runs : (c : goal.After-self-6-1) → (with_items c.self.inside.running c.turn_executions.new.running).items
     ≡ zip_with (running_after (c.args.ended.now ++ c.gather_due.new.due.items) c.gather_acts.new.acts.items
     c.in-Some.time) c.self.inside.table.own c.self.inside.running.items
 runs c = with_items_is c.self.inside.running c.turn_executions.new.running (omega arith) ∙ cc
 
--- a turn keeps the number of ranges
+-- hearing keeps the number of ranges
 heard_length : (c : goal.After-self-6-1) →
     length (with_items c.self.inside.heard c.hear_all.new.heard).items ≡ length c.self.inside.heard.items
 heard_length c = ap length (with_items_is c.self.inside.heard c.hear_all.new.heard (omega arith))
     ∙ omega (arith, ap length c.as_mut_slice.ensures.value)
 
--- the place of the times moves on behind the instant of the turn
+-- the place of the times moves on to the first after the instant of the turn
 instants : (c : goal.After-self-6-1) →
     IsLine (λ t. t) (Some c.in-Some.time) c.self.inside.times.items c.past_times-self-inside.result
 instants c = moves_on_seen (λ t. t) c.self.inside.last c.self.inside.times.items c.as_slice-7.result.now
@@ -75,20 +75,20 @@ instants c = moves_on_seen (λ t. t) c.self.inside.last c.self.inside.times.item
     c.as_slice-7.ensures.value c.past_times-self-inside.ensures.within
     c.past_times-self-inside.ensures.before c.past_times-self-inside.ensures.here
 
--- the first of the table's times that is left
+-- the time at that place is the first of the table's times that is left
 left : (c : goal.After-self-6-1) →
     c.time_at-time.result ≡ slice_get c.self.inside.times.items c.past_times-self-inside.result
 left c =
     c.time_at-time.ensures ∙ ap (λ (l : List ℕ). slice_get l c.past_times-self-inside.result) c.as_slice-9.ensures.value
 
--- after the turn the places of the plan and of the times are behind its instant, and the next instant is found
+-- the plan, the times and the room are as before; the places move on, and the next instant is found anew
 pub invariant_of-self : goal.invariant_of-self
 invariant_of-self c =
     let n = c.self.inside in
     let v = c.self.invariant in
     record {
       made = v.made;
-      -- what runs is one for each process, with early starts
+      -- there is one execution, or none, for each process, with starts below 2 ^ 60
       count = ap length (runs c) ∙ length_zip (running_after (c.args.ended.now ++ c.gather_due.new.due.items)
           c.gather_acts.new.acts.items c.in-Some.time) n.table.own n.running.items v.count;
       mirror = heard_length c ∙ v.mirror;
@@ -103,7 +103,7 @@ invariant_of-self c =
           n.table.own n.running.items v.starts);
       planned = v.planned;
       early = v.early;
-      -- the places of the plan and of the times move behind the instant
+      -- the places of the plan and of the times move on to what is after the instant
       entries = line_moves n.table n.heard.items n.running.items n.last c.in-Some.time n.plan.items
           c.as_slice-3.result.now c.deref.result.now n.plan_place c.past_entries-plan_end.result v.planned
           v.entries (sym v.next ∙ c.in-Some.is)
@@ -123,7 +123,7 @@ invariant_of-self c =
       due_room = omega (arith, v.due_room, c.gather_due.ensures.room);
     }
 
--- the state and the acts after the turn
+-- the fields after the turn make the dispatcher after it, and the acts are those of the turn
 turned : (c : goal.After-self-6-1) → let n = c.self.inside in
     (record { table = n.table; heard = (with_items n.heard c.hear_all.new.heard).items; running = (with_items n.running c.turn_executions.new.running).items; last = Some c.in-Some.time }
     ≡ turn (dispatcher_of n) c.in-Some.time c.args.ended.now c.args.frames.now)
@@ -131,7 +131,7 @@ turned : (c : goal.After-self-6-1) → let n = c.self.inside in
 turned c =
     let n = c.self.inside in
     let v = c.self.invariant in
-    -- the reports and frames of the turn, as the node notes them, are those of the specified turn
+    -- the reports are those due (`gather_due`), the acts those of the entries of this instant (`acts_are`)
     turn_is n.table n.heard.items n.running.items n.last c.in-Some.time c.args.ended.now c.gather_due.new.due.items
     c.args.frames.now
     (with_items n.heard c.hear_all.new.heard).items c.gather_acts.new.acts.items
@@ -151,13 +151,13 @@ turned c =
     (drop n.plan_place c.deref.result.now)))) c.as_slice-4.ensures.value))
     (runs c)
 
--- the state after the turn is that of the dispatcher
+-- the next instant is that of the dispatcher, so its turn leads to this state
 pub returns-clause-turn : goal.returns-clause-turn
 returns-clause-turn c = returned_turn c.args.self.now (dispatcher_of c.self.inside) c.self.inside.acts.items
     c.in-Some.time _ c.args.ended.now c.args.frames.now c.self.view_is
     (sym c.self.invariant.next ∙ c.in-Some.is) (turned c).0
 
--- the acts are those of the dispatcher's turn
+-- the next instant is that of the dispatcher, so its turn does these acts
 pub returns-clause-acts : goal.returns-clause-acts
 returns-clause-acts c = returned_acts c.args.self.now (dispatcher_of c.self.inside) c.self.inside.acts.items
     c.in-Some.time _ c.args.ended.now c.args.frames.now c.self.view_is

@@ -1,4 +1,4 @@
--- Proof of `Counter::views`: how many ways a set of variables has; `most` if there are more.
+-- Proof of `Counter::views`, which returns how many views a set of variables has; `most` if there are more.
 use Rattle.std.proofs.Common.{◌∙◌, ap, min}
 use Rattle.cpg_reach.proofs.Counted.{along_within, all_views}
 use Rattle.cpg_reach.proofs.counting.Counter.views.Goals as goal

@@ -1,4 +1,4 @@
--- Proof of `Variables::add`: adds all variables of another set.
+-- Proof of `Variables::add`, which adds the variables of another set.
 use Rattle.std.proofs.Common.{◌∙◌, ◌||◌, ap₂}
 use Rattle.cpg_order.specs.Reach.{is_in}
 use Rattle.cpg_reach.proofs.Members.{unite_adds}

@@ -1,4 +1,4 @@
--- Proof of `Variables::has`: whether a variable is there.
+-- Proof of `Variables::has`, which says whether a variable is in the set.
 use Rattle.std.proofs.Common.{◌∙◌, sym, ap}
 use Rattle.cpg_order.specs.Reach.{is_in}
 use Rattle.cpg_reach.proofs.Members.{is_in_members}

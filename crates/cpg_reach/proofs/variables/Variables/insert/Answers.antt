@@ -1,4 +1,4 @@
--- Proof of `Variables::insert`: adds a variable.
+-- Proof of `Variables::insert`, which adds a variable.
 use Rattle.std.proofs.Common.{◌∙◌, ◌||◌, ◌==◌, false, ap, arith}
 use Rattle.cpg_order.specs.Reach.{is_in}
 use Rattle.cpg_reach.proofs.Members.{set_adds}

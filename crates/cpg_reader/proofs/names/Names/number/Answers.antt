@@ -1,4 +1,4 @@
--- Proof of `Names::number`: the number of a name that stands at a place.
+-- Proof of `Names::number`, which returns the number of a name.
 use Rattle.std.proofs.Common.{ap, ◌∙◌, sym}
 use Rattle.std.specs.Prelude.{bytes_eq, position}
 use Rattle.cpg_reader.proofs.Texts.{position-texts}

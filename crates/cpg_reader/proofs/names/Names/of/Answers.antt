@@ -1,11 +1,11 @@
--- Proof of `Names::of`: the names of elements, if no two are equal.
+-- Proof of `Names::of`, which returns the names of the elements.
 use Rattle.std.proofs.Common.{◌∙◌, Err, sym, ap, map, []}
 use Rattle.cpg_reader.specs.declared.place.ReadFault.TheVariants.{DoubleName}
 use Rattle.cpg_reader.specs.Names.{apart, apart_from}
 use Rattle.cpg_reader.proofs.Texts.{was_there, was_new, is_double, is_new, seen_more}
 use Rattle.cpg_reader.proofs.names.Names.of.Goals as goal
 
--- this name stands earlier already, so it is double
+-- the insertion says that an earlier element has this name, so it is double
 pub returns-then-not-branch-clause-apart : goal.returns-then-not-branch-clause-apart
 unfolding apart
 returns-then-not-branch-clause-apart g c =
@@ -16,7 +16,7 @@ returns-then-not-branch-clause-apart g c =
     c.loop-index-test.true c.index-elements-index.is c.name.ensures there c.loop-index.invariant.same
     ∙ ap (λ place. Err (DoubleName place)) (sym c.of_name.ensures)
 
--- this name is new, so it is noted
+-- the insertion says that this name is new, so it is one of the names so far
 pub loop-index-preserved : goal.loop-index-preserved
 loop-index-preserved g c =
     let new = was_new _ (sym c.if-not-branch.false ∙ c.in_ok-insert.ensures.added) in

@@ -1,4 +1,4 @@
--- Loops of `Names::of`: the names of elements, if no two are equal.
+-- Loops of `Names::of`, which returns the names of the elements.
 use Rattle.std.proofs.Common.{◌≡◌, [], map, take, drop}
 use Rattle.cpg_reader.specs.Names.{apart_from}
 use Rattle.cpg_reader.proofs.names.Names.of.Given as goal

@@ -1,5 +1,5 @@
--- Proof of `Places::do_pass_with`: whether a test passes at each two places that scenarios of a space come to here
--- and in another tree.
+-- Proof of `Places::do_pass_with`: whether a test passes at each pair of places to which a scenario of the space comes
+-- here and in another tree.
 use Rattle.std.proofs.Common.{ℕ, ◌∙◌, Option, sym, subst}
 use Rattle.cpg_tree.proofs.Passes.{of_true}
 use Rattle.cpg_tree.specs.Decision.{value_at}
@@ -10,6 +10,7 @@ use Rattle.cpg_row_trees.proofs.places.Places.do_pass_with.Goals as goal
 -- the places that both trees give a scenario pass together, as the walk through their items found
 pub returns : goal.returns
 returns g c = of_true c.do_pass_with.result c.do_pass_with.ensures (λ all s lies.
+    -- the tree whose list the items are
     let is = c.self.invariant in
     let also = c.other.invariant in
     subst (λ (x : Option ℕ). g.J.PairTest.guarantees c.args.test.now x (place_at c.args.other.now s) s)

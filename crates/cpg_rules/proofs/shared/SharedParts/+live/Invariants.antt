@@ -1,4 +1,5 @@
--- Recursion of `SharedParts::live`: the part that has the activation where the source is active and the test passes.
+-- Recursion of `SharedParts::live`: returns the part that has the activation in the outcomes in which the source is
+-- active and the test passes, and is inactive in all others.
 use Rattle.cpg_rules.specs.Trees.{size_of}
 use Rattle.cpg_rules.specs.Sharing.{tree_at}
 use Rattle.cpg_rules.proofs.shared.SharedParts.+live.Given as goal

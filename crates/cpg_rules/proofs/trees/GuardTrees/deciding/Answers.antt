@@ -1,4 +1,4 @@
--- Proof of `GuardTrees::deciding`: the conditions that decide a process in a scenario, in urgency order.
+-- Proof of `GuardTrees::deciding`: returns the conditions that decide a process in a scenario, in urgency order.
 use Rattle.std.proofs.Common.{◌∙◌, arith}
 use Rattle.cpg_rules.specs.Guards.{tree_of}
 use Rattle.cpg_rules.proofs.Ways.{ways_are_deciding}

@@ -5,7 +5,7 @@ use Rattle.cpg_table.specs.Shape.{items_of}
 use Rattle.cpg_table.specs.Lawful.{IsLawfulRow}
 use Rattle.cpg_table.proofs.node_table.NodeTable.new.Goals as goal
 
--- the rows were checked: they are of the node's items, and lawful
+-- `items`: the count was taken, so the rows are those of the node's items. `lawful`: this was tested
 pub of-requires-clause-rows : goal.of-requires-clause-rows
 of-requires-clause-rows c = record {
   items = ap items_of (sym c.as_slice-2.ensures.value) ∙ c.in-Some.ensures.items;

@@ -1,4 +1,5 @@
--- Proof of `Space::affords`: whether the faults that are left suffice for the lows of literals from a place on.
+-- Proof of `Space::affords`: whether the faults left suffice for the lows of literals from the place `from` on: if not,
+-- no scenario of the space matches the literals.
 use Rattle.std.proofs.Common.{arith}
 use Rattle.std.proofs.lemmas.Bool.{false_from_ne_true}
 use Rattle.cpg_cube.specs.Cube.{matches}

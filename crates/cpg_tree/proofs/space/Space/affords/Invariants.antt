@@ -1,4 +1,5 @@
--- Loops of `Space::affords`: whether the faults that are left suffice for the lows of literals from a place on.
+-- Loops of `Space::affords`: whether the faults left suffice for the lows of literals from the place `from` on: if not,
+-- no scenario of the space matches the literals.
 use Rattle.std.proofs.Common.{◌≡◌, ◌≤◌, true, sum_by, drop}
 use Rattle.cpg_base.specs.Scenario.{Scenario}
 use Rattle.cpg_cube.specs.Cube.{matches}

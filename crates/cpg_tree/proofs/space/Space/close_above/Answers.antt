@@ -1,5 +1,5 @@
--- Proof of `Space::close_above`: leaves the numbers up to the cut, if there are others, and returns the high from
--- before, for `reopen_above`.
+-- Proof of `Space::close_above`, which makes the cut the high of a variable, and returns the high from before, which
+-- `reopen_above` puts back.
 use Rattle.std.proofs.Common.{rules, ap, List, ℕ, ◌∙◌, set-set}
 use Rattle.cpg_tree.specs.Space.{Space}
 use Rattle.cpg_tree.proofs.Spaces.{lies_below}

@@ -1,5 +1,5 @@
--- Proof of `Space::close_below`: leaves the numbers above the cut, if there are others, and returns what was before,
--- for `reopen_below`.
+-- Proof of `Space::close_below`, which makes `cut + 1` the low of a variable and takes the faults for it from those
+-- left.
 use Rattle.std.proofs.Common.{ap, List, ℕ, ◌+◌, ◌∙◌, set-set}
 use Rattle.cpg_tree.specs.declared.space.Lifted.{Lifted}
 use Rattle.cpg_tree.specs.Space.{Space, reopened_below}

@@ -1,4 +1,4 @@
--- Proof of `Space::implies`: whether a literal holds in the whole space.
+-- Proof of `Space::implies`: whether a literal holds in the whole space; true only if it does.
 use Rattle.std.proofs.Common.{arith, rules}
 use Rattle.std.specs.Prelude.{nat_le}
 use Rattle.std.proofs.lemmas.Bool.{OnTrue_from, leb-true}

@@ -1,4 +1,5 @@
--- Proof of `Space::is_open_above`: whether a number above the cut is in range, and the faults that are left allow it.
+-- Proof of `Space::is_open_above`: whether the variable can be above the cut, by its range and the faults left: if not,
+-- no scenario of the space is.
 use Rattle.std.proofs.Common.{rules, sym, ◌∙◌, ◌≤◌}
 use Rattle.cpg_base.specs.Scenario.{Scenario, number_of}
 use Rattle.cpg_tree.specs.Space.{IsInSpace}

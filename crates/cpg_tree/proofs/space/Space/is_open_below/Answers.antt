@@ -1,4 +1,5 @@
--- Proof of `Space::is_open_below`: whether a number up to the cut is in range.
+-- Proof of `Space::is_open_below`: whether the variable can be at most the cut: if not, all scenarios of the space are
+-- above it.
 use Rattle.std.proofs.Common.{rules, ◌<◌}
 use Rattle.cpg_base.specs.Scenario.{Scenario, number_of}
 use Rattle.cpg_tree.specs.Space.{IsInSpace}

@@ -1,4 +1,4 @@
--- Proof of `Space::least`: the least number of a variable.
+-- Proof of `Space::least`, which returns the least number that a variable can have.
 use Rattle.std.proofs.Common.{rules}
 use Rattle.cpg_tree.proofs.space.Space.least.Goals as goal
 

@@ -1,5 +1,4 @@
--- Proof of `Space::lift`: leaves the scenarios in which a variable's number is at least this; false only if there are
--- none.
+-- Proof of `Space::lift`, which narrows the space to the scenarios in which a variable is at least `low`.
 use Rattle.cpg_base.specs.Scenario.{number_of}
 use Rattle.cpg_tree.proofs.Forks.{from_false}
 use Rattle.cpg_tree.proofs.Holding.{under, over}

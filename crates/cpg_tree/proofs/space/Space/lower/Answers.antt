@@ -1,5 +1,4 @@
--- Proof of `Space::lower`: leaves the scenarios in which a variable's number is at most this; false only if there are
--- none.
+-- Proof of `Space::lower`, which narrows the space to the scenarios in which a variable is at most `high`.
 use Rattle.std.proofs.Common.{rules}
 use Rattle.cpg_tree.proofs.Spaces.{lies_below}
 use Rattle.cpg_tree.proofs.space.Space.lower.Goals as goal

@@ -1,4 +1,4 @@
--- Proof of `Space::most`: the greatest number of a variable.
+-- Proof of `Space::most`, which returns the greatest number that a variable can have, by its range and the faults left.
 use Rattle.std.proofs.Common.{rules}
 use Rattle.cpg_tree.proofs.Spaces.{count_le}
 use Rattle.cpg_tree.proofs.space.Space.most.Goals as goal

@@ -1,4 +1,4 @@
--- Proof of `Space::narrow`: leaves the scenarios in which a literal holds; false only if there are none.
+-- Proof of `Space::narrow`, which narrows the space to the scenarios in which a literal holds.
 use Rattle.std.proofs.Common.{inl, inr}
 use Rattle.std.proofs.lemmas.Bool.{cases_lt}
 use Rattle.cpg_base.specs.Scenario.{number_of}
@@ -20,7 +20,8 @@ returns-clause-lies c = of_true c.lower.result c.lower.ensures.lies
     after s (from_true c.lift.result c.if-not-lift.false c.lift.ensures.lies s lies (holds-low s c.args.literal h))
     (holds-high s c.args.literal h))
 
--- no number up to the literal's high is left, so the literal holds in no scenario of the space
+-- A scenario in which the literal holds would be left by the narrowing to the low, and have a number up to the high; but none
+-- is left up to that.
 pub returns-clause-none : goal.returns-clause-none
 returns-clause-none c = of_false c.lower.result c.lower.ensures.none
     (λ after s lies. elim (cases_lt (number_of s c.args.literal.variable) c.args.literal.low) [

@@ -1,4 +1,4 @@
--- Proof of `Space::narrow_to`: leaves the scenarios that literals match.
+-- Proof of `Space::narrow_to`, which narrows the space to the scenarios that literals match.
 use Rattle.cpg_cube.specs.Cube.{matches}
 use Rattle.std.proofs.lemmas.Bool.{both_ways, false_from_ne_true}
 use Rattle.cpg_tree.proofs.Forks.{from_false, from_true}

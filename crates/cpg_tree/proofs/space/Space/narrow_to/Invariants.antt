@@ -1,4 +1,4 @@
--- Loops of `Space::narrow_to`: leaves the scenarios that literals match.
+-- Loops of `Space::narrow_to`, which narrows the space to the scenarios that literals match.
 use Rattle.std.proofs.Common.{◌≡◌, true}
 use Rattle.cpg_base.specs.Scenario.{Scenario}
 use Rattle.cpg_cube.specs.Cube.{matches}

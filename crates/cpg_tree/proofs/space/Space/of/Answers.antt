@@ -1,4 +1,5 @@
--- Proof of `Space::of`: the scenarios of at most `k` faults that literals match; `None` only if there are none.
+-- Proof of `Space::of`, which returns the space of the scenarios of at most `k` faults that literals match; `None` only
+-- if there are none.
 use Rattle.cpg_tree.proofs.Forks.{from_false, from_true}
 use Rattle.cpg_tree.proofs.space.Space.of.Goals as goal
 

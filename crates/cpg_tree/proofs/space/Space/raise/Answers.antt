@@ -1,4 +1,4 @@
--- Proof of `Space::raise`: leaves the scenarios with a number above the cut, if there are others.
+-- Proof of `Space::raise`, which makes `cut + 1` the low of a variable, and takes the faults for it from those left.
 use Rattle.std.proofs.Common.{rules, sym, subst, ◌+◌, ◌-◌, ℕ}
 use Rattle.std.specs.Prelude.{slice_set}
 use Rattle.cpg_tree.specs.Space.{Space, IsInSpace}

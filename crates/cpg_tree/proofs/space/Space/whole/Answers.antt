@@ -1,4 +1,4 @@
--- Proof of `Space::whole`: all scenarios of at most `k` faults.
+-- Proof of `Space::whole`, which returns the space of all scenarios of at most `k` faults.
 use Rattle.std.proofs.Common.{rules, arith, refl}
 use Rattle.std.proofs.lemmas.List.{get_or-replicate}
 use Rattle.cpg_tree.proofs.Spaces.{lies_whole}

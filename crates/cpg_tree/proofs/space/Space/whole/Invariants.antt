@@ -1,4 +1,4 @@
--- Loops of `Space::whole`: all scenarios of at most `k` faults.
+-- Loops of `Space::whole`, which returns the space of all scenarios of at most `k` faults.
 use Rattle.std.proofs.Common.{ℕ, ◌<◌, ◌≤◌, ◌≡◌, length, List}
 use Rattle.std.specs.Prelude.{get_or}
 use Rattle.cpg_tree.proofs.space.Space.whole.Given as goal

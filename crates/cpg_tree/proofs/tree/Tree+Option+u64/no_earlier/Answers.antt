@@ -1,5 +1,5 @@
--- Proof of `Tree<Option<u64>>::no_earlier`: the times, 0 if there are none, or another, whichever is later, as times
--- in all scenarios.
+-- Proof of `Tree<Option<u64>>::no_earlier`, which returns the tree that has in each scenario this tree's time (0 if it
+-- has none) or `least`, whichever is later.
 use Rattle.std.proofs.Common.{ℕ, ◌≡◌, max, Bool, Option, Some, sym, subst}
 use Rattle.cpg_tree.specs.Later.{time_later}
 use Rattle.cpg_tree.specs.Tree.{TreeState, IsMap, HasOnePathEach, DoPathsPass}

@@ -1,4 +1,4 @@
--- Proof of `Tree<bool>::is_true`: whether the tree is true in every scenario, as far as its first fork shows.
+-- Proof of `Tree<bool>::is_true`: whether the tree is the one value true.
 use Rattle.cpg_tree.proofs.GoodLists.{true_value}
 use Rattle.cpg_tree.proofs.tree.Tree+bool.is_true.Goals as goal
 

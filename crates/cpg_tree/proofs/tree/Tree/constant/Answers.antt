@@ -1,4 +1,4 @@
--- Proof of `Tree::constant`: one value for all scenarios of at most `k` faults.
+-- Proof of `Tree::constant`, which returns the tree that has one value in all scenarios of at most `k` faults.
 use Rattle.std.proofs.Common.{rules, sym, subst}
 use Rattle.cpg_tree.specs.TreeNode.{Leaf}
 use Rattle.cpg_tree.specs.Tree.{TreeState, DoPathsPass}

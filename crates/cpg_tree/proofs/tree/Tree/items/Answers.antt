@@ -1,4 +1,4 @@
--- Proof of `Tree::items`: the list of the decision tree whose paths they are.
+-- Proof of `Tree::items`, which returns the tree's list.
 use Rattle.cpg_tree.proofs.Publics.{good_shown, paths_shown}
 use Rattle.cpg_tree.proofs.tree.Tree.items.Goals as goal
 

@@ -1,4 +1,5 @@
--- Proof of `Tree::join_with`: the answers of a function to the values of two trees.
+-- Proof of `Tree::join_with`, which returns the tree that has in each scenario the answer of `f` to the values of two
+-- trees.
 use Rattle.cpg_tree.proofs.Flats.{all_added}
 use Rattle.cpg_tree.proofs.Publics.{join_shown, join_passes, good_made}
 use Rattle.cpg_tree.proofs.tree.Tree.join_with.Goals as goal
@@ -6,8 +7,10 @@ use Rattle.cpg_tree.proofs.tree.Tree.join_with.Goals as goal
 -- the tree that is made fits the space of all scenarios, so its list is good
 pub of-requires : goal.of-requires
 of-requires g c =
+    -- the trees whose lists the function is given
     let n = c.items.ensures.flat in
     let m = c.items-others.ensures.flat in
+    -- the tree that is made, whose list is all that was added
     let r = c.in_ok-join_items.ensures.made n.0 m.0 n.1 m.1 in
     let are = all_added c.in_ok-made.made.items c.join_items.new.out.items r.0 c.in_ok-made.ensures.items r.1 in
     good_made c.faults-faults.result c.whole-space.result r.0 c.join_items.new.out.items
@@ -16,8 +19,10 @@ of-requires g c =
 -- the facts about the lists become facts about the paths that callers see
 pub returns-clause-is : goal.returns-clause-is
 returns-clause-is g c =
+    -- the trees whose lists the function is given
     let n = c.items.ensures.flat in
     let m = c.items-others.ensures.flat in
+    -- the tree that is made, whose list is all that was added
     let r = c.in_ok-join_items.ensures.made n.0 m.0 n.1 m.1 in
     let are = all_added c.in_ok-made.made.items c.join_items.new.out.items r.0 c.in_ok-made.ensures.items r.1 in
     join_shown c.args.self.now c.args.other.now n.0 m.0 (c.items.ensures.good n.0 n.1)
@@ -32,8 +37,10 @@ returns-clause-is g c =
 -- each fork of the tree that is made is on a variable of one of the two, so what passes for them passes for it
 pub returns-clause-pass : goal.returns-clause-pass
 returns-clause-pass g c test =
+    -- the trees whose lists the function is given
     let n = c.items.ensures.flat in
     let m = c.items-others.ensures.flat in
+    -- the tree that is made, whose list is all that was added
     let r = c.in_ok-join_items.ensures.made n.0 m.0 n.1 m.1 in
     let are = all_added c.in_ok-made.made.items c.join_items.new.out.items r.0 c.in_ok-made.ensures.items r.1 in
     join_passes c.args.self.now c.args.other.now n.0 m.0 (c.items.ensures.good n.0 n.1)

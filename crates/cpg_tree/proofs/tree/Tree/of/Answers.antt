@@ -1,4 +1,4 @@
--- Proof of `Tree::of`: the tree of a list.
+-- Proof of `Tree::of`, which makes a tree of its list.
 use Rattle.cpg_tree.proofs.GoodLists.{state_is, one_each, all_tidy}
 use Rattle.cpg_tree.proofs.tree.Tree.of.Goals as goal
 

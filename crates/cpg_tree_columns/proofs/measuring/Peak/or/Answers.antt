@@ -1,4 +1,5 @@
--- Proof of `Peak::or`: this peak, or the greatest time of the tree of a later process, if that goes before it.
+-- Proof of `Peak::or`, which returns the peak with a later process, whose times `tree` has; if it has none, the peak
+-- stays.
 use Rattle.cpg_base.specs.Graph.{process_count}
 use Rattle.cpg_base.proofs.Places.{length_order}
 use Rattle.cpg_tree_columns.proofs.measuring.Peak.or.Goals as goal

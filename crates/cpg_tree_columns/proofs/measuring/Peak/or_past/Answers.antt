@@ -1,5 +1,5 @@
--- Proof of `Peak::or_past`: this peak, or how far the ends of a later process are past its due at most, if that goes
--- before it.
+-- Proof of `Peak::or_past`, which returns the peak with a later process that ends as `end` says, of how far ends are
+-- past their dues.
 use Rattle.std.proofs.Common.{◌≡◌, ℕ, Option, subst}
 use Rattle.cpg_tree.specs.Tree.{IsMap}
 use Rattle.cpg_tree.specs.Variables.{is_variable}
@@ -15,7 +15,8 @@ or-requires-clause-tree c =
     same_tree g c.args.end.now c.in_ok-past.past c.requires.tree.faults c.in_ok-past.ensures.is.faults
     c.in_ok-past.ensures.each (c.in_ok-past.ensures.pass (is_variable g) c.requires.tree.known)
 
--- the tree of how far the ends are past the due is one of the graph, and its greatest time is the next for the peak
+-- the tree of how far the ends are past the due is made from that of the ends, so it is one of the graph; the next
+-- peak is by it
 pub returns : goal.returns
 returns c =
     let g = c.args.problem.now in

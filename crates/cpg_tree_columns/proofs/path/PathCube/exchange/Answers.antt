@@ -1,3 +1,5 @@
+-- Proof of `PathCube::exchange`, which undoes a step and narrows the cube by another literal on the same variable
+-- instead.
 use Rattle.std.proofs.Common.{◌∙◌, List, sym, ap, subst}
 use Rattle.std.specs.Prelude.{slice_set}
 use Rattle.cpg_cube.specs.declared.literal.Literal.{Literal}

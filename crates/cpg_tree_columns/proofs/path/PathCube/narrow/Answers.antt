@@ -1,3 +1,5 @@
+-- Proof of `PathCube::narrow`, which narrows the cube by a literal, and returns that step, with which `exchange` and
+-- `restore` undo it.
 use Rattle.std.proofs.Common.{◌≡◌, ◌<◌, ◌∙◌, ℕ, All, length, arith, sym, ap, subst, rules}
 use Rattle.std.specs.Vec.{vec_len}
 use Rattle.cpg_cube.specs.declared.literal.Literal.{Literal}

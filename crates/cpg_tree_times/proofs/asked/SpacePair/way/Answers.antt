@@ -1,4 +1,4 @@
--- Proof of `SpacePair::way`: where the scenarios asked for go at a fork.
+-- Proof of `SpacePair::way`, which says where the scenarios of both spaces go at a fork.
 use Rattle.std.proofs.Common.{ap₂, refl}
 use Rattle.cpg_tree_times.specs.Asked.{SpacePair}
 use Rattle.cpg_tree.specs.declared.space.Space.{Space}
@@ -9,8 +9,8 @@ use Rattle.cpg_tree_times.proofs.asked.SpacePair.way.Goals as goal
 abbrev pair_of : Space → Space → SpacePair
 pair_of asked walked = record { asked = asked; walked = walked }
 
--- nothing that is asked for is below the cut: the spaces stay as they are, and putting their lows back changes
--- nothing
+-- Nothing that is walked is below the cut, so all scenarios of both spaces go above it. The spaces stay as they are, and
+-- putting their lows back changes nothing.
 pub returns-then-not-is_open_below : goal.returns-then-not-is_open_below
 returns-then-not-is_open_below c = (
   record {
@@ -21,8 +21,8 @@ returns-then-not-is_open_below c = (
   ap₂ pair_of c.lowest.ensures c.lowest-then-not-is_open_below.ensures,
 )
 
--- nothing that is asked for is above the cut: the spaces stay as they are, and putting their highs back changes
--- nothing
+-- Nothing that is walked is above the cut, so all scenarios of both spaces go below it. The spaces stay as they are, and
+-- putting their highs back changes nothing.
 pub returns-then-not-is_open_above : goal.returns-then-not-is_open_above
 returns-then-not-is_open_above c = (
   record {
@@ -33,7 +33,7 @@ returns-then-not-is_open_above c = (
   ap₂ pair_of c.highest.ensures c.highest-then-not-is_open_above.ensures,
 )
 
--- nothing that is walked is below the cut: only scenarios above it are walked from now on
+-- nothing that is asked for is below the cut, so all go above it, and only scenarios above it are walked from now on
 pub returns-then-not-is_open_below-2 : goal.returns-then-not-is_open_below-2
 returns-then-not-is_open_below-2 c = (
   record {
@@ -46,7 +46,7 @@ returns-then-not-is_open_below-2 c = (
   c.walk_above.ensures.back,
 )
 
--- nothing that is walked is above the cut: only scenarios below it are walked from now on
+-- nothing that is asked for is above the cut, so all go below it, and only scenarios up to it are walked from now on
 pub returns-then-not-is_open_above-2 : goal.returns-then-not-is_open_above-2
 returns-then-not-is_open_above-2 c = (
   record {

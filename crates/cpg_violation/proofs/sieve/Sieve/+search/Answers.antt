@@ -1,11 +1,12 @@
--- Proof of `Sieve::search`: adds the places to which scenarios come that the cube matches.
+-- Proof of `Sieve::search`: adds the places in all leaves to which the cuts lead scenarios that the cube matches.
 use Rattle.std.specs.Prelude.{nat_le}
 use Rattle.cpg_base.specs.Scenario.{number_of}
 use Rattle.cpg_violation.specs.Sieves.{places_in}
 use Rattle.cpg_violation.proofs.SieveLaws.{side_of}
 use Rattle.cpg_violation.proofs.sieve.Sieve.+search.Goals as goal
 
--- a scenario goes to one side of the cut, and the places there were all found
+-- the cut leads a scenario to one side, where all places are found: those below are still there when those above are
+-- added
 pub search-returns-in_ok-search_side-in-Cut-2-clause-all : goal.search-returns-in_ok-search_side-in-Cut-2-clause-all
 search-returns-in_ok-search_side-in-Cut-2-clause-all t c = rw (← c.self.view_is, c.in-Cut.is) (λ s i m k.
     side_of (nat_le (number_of s c.in-Cut.variable) c.in-Cut.most) (places_in c.in-Cut.below.value s)
@@ -14,6 +15,6 @@ search-returns-in_ok-search_side-in-Cut-2-clause-all t c = rw (← c.self.view_i
     (c.in_ok-search_side-in-Cut.ensures.all s i m e (rw c.deref.ensures h)))
     (λ e h. c.in_ok-search_side-in-Cut-2.ensures.all s i m e (rw c.deref-in-Cut.ensures h)) k)
 
--- the side adds what `search` adds there
+-- the cube may match on this side, and `search` adds what is there
 pub search_side-returns-clause-all : goal.search_side-returns-clause-all
 search_side-returns-clause-all t c = λ s i m e k. c.in_ok-search.ensures.all s i m k
