@@ -10,7 +10,7 @@ use Rattle.cpg_tree.proofs.Forks.{from_false, from_true}
 use Rattle.cpg_row_trees.proofs.Gathered.{among_more}
 use Rattle.cpg_tree.proofs.Passes.{of_true}
 use Rattle.cpg_row_trees.proofs.Passes.{holds_leaf, holds_above, holds_below, holds_fork}
-use Rattle.cpg_row_trees.proofs.SliceLaws.{above_again, goes_again}
+use Rattle.cpg_row_trees.proofs.SliceLaws.{above_again, below_again, goes_again}
 use Rattle.cpg_row_trees.proofs.gathering.+gather_each.Goals as goal
 
 -- the tree is one leaf, whose place passes and was added
@@ -74,3 +74,25 @@ returns-else-not-all_above-clause-found g t c n are =
     shows.0 shows.1 n (flat-same n (Fork v cut shows.0 shows.1) (sym are ∙ shows.4))
     (λ s lies h. let r = low s (c.close_above-old_high.ensures.lies s lies h) in
     (r.0, among_more some all c.in_ok-all_above-in-Cut.ensures.kept _ r.1)) (λ s lies h. high s (goes_over s lies h))
+
+-- the places of both sides are added to those found before
+pub returns-else-not-all_above-clause-kept : goal.returns-else-not-all_above-clause-kept
+returns-else-not-all_above-clause-kept g t c i there =
+    c.in_ok-all_above-in-Cut.ensures.kept i (c.in_ok-all_below-in-Cut.ensures.kept i there)
+
+-- each side leaves its space as it was, so that what is opened again at the end is the given space
+pub returns-else-not-all_above-clause-same : goal.returns-else-not-all_above-clause-same
+returns-else-not-all_above-clause-same g t c =
+    let space : Space = c.args.space.now in
+    let v = c.in-Cut.variable in
+    let under : Space = c.close_above-old_high.new.self in
+    let over : Space = c.close_below-old_low.new.self in
+    let again : Space = c.reopen_above.new.self in
+    let same_under : c.gather_each-in-Cut.new.space ≡ under =
+    OnTrue_at c.if-not-all_below.false c.in_ok-all_below-in-Cut.ensures.same in
+    let same_over : c.gather_each-in-Cut-2.new.space ≡ over =
+    OnTrue_at c.if-not-all_above.false c.in_ok-all_above-in-Cut.ensures.same in
+    below_again again over c.gather_each-in-Cut-2.new.space c.reopen_below.new.self v same_over
+    c.close_below-old_low.result c.reopen_below.ensures c.close_below-old_low.ensures.back
+    ∙ above_again space under c.gather_each-in-Cut.new.space again v same_under c.close_above-old_high.result
+    c.reopen_above.ensures c.close_above-old_high.ensures.back
