@@ -6,3 +6,5 @@ pub mod SliceLaws
 pub mod ListedLaws
 pub mod TreeLaws
 pub mod PlacesSeen
+pub mod Longer
+pub mod Past

@@ -11,6 +11,7 @@ use Rattle.cpg_row_trees.proofs.Gathered.{among_more}
 use Rattle.cpg_tree.proofs.Passes.{of_true}
 use Rattle.cpg_row_trees.proofs.Passes.{holds_leaf, holds_above, holds_below, holds_fork}
 use Rattle.cpg_row_trees.proofs.SliceLaws.{above_again, below_again, goes_again}
+use Rattle.cpg_row_trees.proofs.Longer.{open_again}
 use Rattle.cpg_row_trees.proofs.gathering.+gather_each.Goals as goal
 
 -- the tree is one leaf, whose place passes and was added
@@ -79,6 +80,23 @@ returns-else-not-all_above-clause-found g t c n are =
 pub returns-else-not-all_above-clause-kept : goal.returns-else-not-all_above-clause-kept
 returns-else-not-all_above-clause-kept g t c i there =
     c.in_ok-all_above-in-Cut.ensures.kept i (c.in_ok-all_below-in-Cut.ensures.kept i there)
+
+-- the cut is open in the space that is opened again, which is the given one
+pub close_below-old_low-requires : goal.close_below-old_low-requires
+close_below-old_low-requires g t c =
+    let space : Space = c.args.space.now in
+    let under : Space = c.close_above-old_high.new.self in
+    let again : Space = c.reopen_above.new.self in
+    let v = c.in-Cut.variable in
+    let same : c.gather_each-in-Cut.new.space ≡ under =
+    OnTrue_at c.if-not-all_below.false c.in_ok-all_below-in-Cut.ensures.same in
+    let back : again ≡ space = above_again space under c.gather_each-in-Cut.new.space again v same
+    c.close_above-old_high.result c.reopen_above.ensures c.close_above-old_high.ensures.back in
+    let is_open = open_again space again v c.in-Cut.cut back (record {
+      below = sym c.is_open_below.ensures.is ∙ c.if-not-is_open_below.false;
+      above = sym c.is_open_above.ensures.is ∙ c.if-not-is_open_above.false;
+    }) in
+    record { below = is_open.below; above = is_open.above }
 
 -- each side leaves its space as it was, so that what is opened again at the end is the given space
 pub returns-else-not-all_above-clause-same : goal.returns-else-not-all_above-clause-same

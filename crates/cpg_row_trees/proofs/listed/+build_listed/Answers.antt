@@ -16,6 +16,7 @@ use Rattle.cpg_row_trees.proofs.PlaceHintLaws.{cube_here, within_lent}
 use Rattle.cpg_row_trees.proofs.ListedLaws.{at_some, ranges_under, ranges_over, on_under, on_over, listed_parted}
 use Rattle.cpg_row_trees.proofs.SliceLaws.{finds_here, finds_nowhere, slice_tree_leaf, above_again, below_again}
 use Rattle.cpg_row_trees.proofs.SliceLaws.{over_again, goes_again}
+use Rattle.cpg_row_trees.proofs.Longer.{open_again, slice_longer}
 use Rattle.cpg_row_trees.proofs.listed.+build_listed.Goals as goal
 
 -- the space below the cut has fewer items left, and its ranges and the first literals say which scenarios are in it
@@ -34,6 +35,20 @@ build_listed_fork-build_listed-requires t c =
             c.close_above-old_high.ensures.is c.close_above-old_high.ensures.lies _ c.requires.own,
       ),
     )
+
+-- the cut is open in the space that is opened again, which is the given one
+pub build_listed_fork-close_below-old_low-requires : goal.build_listed_fork-close_below-old_low-requires
+build_listed_fork-close_below-old_low-requires t c =
+    let space : Space = c.args.space.now in
+    let under : Space = c.close_above-old_high.new.self in
+    let again : Space = c.reopen_above.new.self in
+    let v = c.args.part.cut.variable in
+    let same : c.build_listed.new.space ≡ under = at_some (λ to. c.build_listed.new.space ≡ under) c.in_ok-below.below
+    c.in-Some.border c.in-Some.is c.in_ok-below.ensures.same in
+    let back : again ≡ space = above_again space under c.build_listed.new.space again v same c.close_above-old_high.result
+    c.reopen_above.ensures c.close_above-old_high.ensures.back in
+    let is_open = open_again space again v c.args.part.cut.most back c.requires.open in
+    record { below = is_open.below; above = is_open.above }
 
 -- so they do for the space above the cut, once that below is put back
 pub build_listed_fork-build_listed_above-requires : goal.build_listed_fork-build_listed_above-requires
@@ -65,6 +80,24 @@ build_listed_fork-build_listed_above-requires t c =
             c.see_lists-is_seen.ensures.lows is_over goes_over _ c.requires.own,
       ),
     )
+
+-- each side has added its tree behind what was there
+pub build_listed_fork-fork_of-requires : goal.build_listed_fork-fork_of-requires
+build_listed_fork-fork_of-requires t c =
+    let cubes : List (List Literal) = map (λ (b : Bor (List Literal)). b.now) c.args.cubes.now in
+    let low = at_some (λ to.
+    AddsSliceTree cubes c.args.k c.close_above-old_high.new.self c.args.place to c.args.growth.now
+    c.build_listed.new.growth) c.in_ok-below.below c.in-Some.border c.in-Some.is c.in_ok-below.ensures.added in
+    let high = at_some (λ to.
+    AddsSliceTree cubes c.args.k c.close_below-old_low.new.self c.in-Some.border to c.build_listed.new.growth
+    c.build_listed_above.new.growth) c.in_ok-above.above c.in-Some-above.to c.in-Some-above.is
+    c.in_ok-above.ensures.added in
+    let first = c.len-start.ensures ∙ c.args.growth.now.items.ok.0 in
+    let second = c.len-middle.ensures ∙ c.build_listed.new.growth.items.ok.0 in
+    record {
+      order = omega (arith, first, second, slice_longer low);
+      long = omega (arith, second, slice_longer high);
+    }
 
 -- the trees of the two slices, under the fork, are the tree of the whole slice, and the space is as before
 pub build_listed_fork-returns : goal.build_listed_fork-returns

@@ -14,6 +14,7 @@ use Rattle.cpg_row_trees.specs.declared.places.TreeGrowth.{TreeGrowth}
 use Rattle.cpg_row_trees.specs.PlaceHints.{IsOpenCut, KeepsWhere, places_of}
 use Rattle.cpg_row_trees.proofs.SliceLaws.{above_again, below_again, goes_again}
 use Rattle.cpg_row_trees.proofs.PlaceHintLaws.{place_tree_parted, place_tree_leaf}
+use Rattle.cpg_row_trees.proofs.Longer.{open_again, places_longer}
 use Rattle.cpg_row_trees.proofs.places.+build_place_tree.Goals as goal
 
 -- the cut is one that the space has open
@@ -24,6 +25,33 @@ build_forked_places-parted-requires t c =
 -- fewer items are left for the side below the fork
 pub build_forked_places-build_place_tree-requires : goal.build_forked_places-build_place_tree-requires
 build_forked_places-build_place_tree-requires t c = omega (arith, c.decreases, c.left_after-growth.ensures)
+
+-- the cut is open in the space that is opened again, which is the given one
+pub build_forked_places-close_below-old_low-requires : goal.build_forked_places-close_below-old_low-requires
+build_forked_places-close_below-old_low-requires t c =
+    let space : Space = c.args.space.now in
+    let under : Space = c.close_above-old_high.new.self in
+    let again : Space = c.reopen_above.new.self in
+    let v = c.args.cut.variable in
+    let same : c.build_place_tree.new.space ≡ under =
+    OnTrue_at c.if-not-has_below.false c.in_ok-has_below.ensures.same in
+    let back : again ≡ space = above_again space under c.build_place_tree.new.space again v same
+    c.close_above-old_high.result c.reopen_above.ensures
+    (c.close_above-old_high.ensures.back ∙ c.in_ok-sides.ensures.same) in
+    let is_open = open_again space again v c.args.cut.most back c.requires in
+    record { below = is_open.below; above = is_open.above }
+
+-- each side has added its tree behind what was there
+pub build_forked_places-fork_of-requires : goal.build_forked_places-fork_of-requires
+build_forked_places-fork_of-requires t c =
+    let first = c.len-start.ensures ∙ c.args.growth.now.items.ok.0 in
+    let second = c.len-middle.ensures ∙ c.build_place_tree.new.growth.items.ok.0 in
+    let low = OnTrue_at c.if-not-has_below.false c.in_ok-has_below.ensures.added in
+    let high = OnTrue_at c.if-not-has_above.false c.in_ok-has_above.ensures.added in
+    record {
+      order = omega (arith, first, second, places_longer low);
+      long = omega (arith, second, places_longer high);
+    }
 
 -- no more items are left for the side above the fork, behind the side below
 pub build_forked_places-build_place_tree-requires-2 : goal.build_forked_places-build_place_tree-requires-2

@@ -9,6 +9,7 @@ use Rattle.cpg_tree.proofs.Forks.{from_false}
 use Rattle.cpg_row_trees.specs.declared.places.PlaceHint.{PlaceHint}
 use Rattle.cpg_row_trees.specs.Places.{IsMatched}
 use Rattle.cpg_row_trees.specs.PlaceHints.{KeepsPlace}
+use Rattle.cpg_row_trees.proofs.Past.{past_none}
 use Rattle.cpg_row_trees.proofs.PlaceHintLaws.{cube_here, kept_out, kept_in}
 use Rattle.cpg_row_trees.proofs.places.admit.Goals as goal
 
@@ -35,3 +36,10 @@ returns c =
     (sym c.in_ok-push.ensures.items)
     (kept_in fits c.args.place c.args.hints.now.items
     (record { place = c.args.place; held = 0; spare = c.saturating_sub.result }) refl)
+
+-- no cube is at the place, so it needn't be added
+pub returns-in_default : goal.returns-in_default
+returns-in_default c =
+    let cubes : List (List Literal) = map (λ (b : Bor (List Literal)). b.now) c.args.cubes.now in
+    kept_out (λ s. IsInSpace c.args.space.now s × IsMatched cubes s c.args.place) c.args.place c.args.hints.now.items
+    (λ s h. past_none c.args.cubes.now c.args.place s c.in_default.ensures.lookup.0 h.1)

@@ -12,6 +12,7 @@ use Rattle.cpg_row_trees.specs.declared.places.TreeGrowth.{TreeGrowth}
 use Rattle.cpg_row_trees.specs.Slices.{left_by}
 use Rattle.cpg_row_trees.proofs.SliceLaws.{under_reached, over_reached, own_under, own_over, slice_tree_leaf}
 use Rattle.cpg_row_trees.proofs.SliceLaws.{slice_tree_parted, above_again, below_again, over_again, goes_again}
+use Rattle.cpg_row_trees.proofs.Longer.{open_again, slice_longer}
 use Rattle.cpg_row_trees.proofs.slices.+build_slice_tree.Goals as goal
 
 -- forks lead to the side below the cut, and the path with the range below says which scenarios are in it
@@ -70,6 +71,32 @@ build_forked_slice-build_slice_tree-requires-2 t c =
             ∙ ap (λ (ls : List Literal). matches ls s && holds s c.sides_of-sides.result.above) left),
       ),
     )
+
+-- the cut is open in the space that is opened again, which is the given one
+pub build_forked_slice-close_below-old_low-requires : goal.build_forked_slice-close_below-old_low-requires
+build_forked_slice-close_below-old_low-requires t c =
+    let space : Space = c.args.space.now in
+    let under : Space = c.close_above-old_high.new.self in
+    let again : Space = c.reopen_above.new.self in
+    let v = c.args.part.cut.variable in
+    let same : c.build_slice_tree.new.space ≡ under =
+    OnTrue_at c.if-not-has_below.false c.in_ok-has_below.ensures.same in
+    let back : again ≡ space = above_again space under c.build_slice_tree.new.space again v same
+    c.close_above-old_high.result c.reopen_above.ensures c.close_above-old_high.ensures.back in
+    let is_open = open_again space again v c.args.part.cut.most back c.requires.open in
+    record { below = is_open.below; above = is_open.above }
+
+-- each side has added its tree behind what was there
+pub build_forked_slice-fork_of-requires : goal.build_forked_slice-fork_of-requires
+build_forked_slice-fork_of-requires t c =
+    let first = c.len-start.ensures ∙ c.args.growth.now.items.ok.0 in
+    let second = c.len-middle.ensures ∙ c.build_slice_tree.new.growth.items.ok.0 in
+    let low = OnTrue_at c.if-not-has_below.false c.in_ok-has_below.ensures.added in
+    let high = OnTrue_at c.if-not-has_above.false c.in_ok-has_above.ensures.added in
+    record {
+      order = omega (arith, first, second, slice_longer low);
+      long = omega (arith, second, slice_longer high);
+    }
 
 -- the trees of both slices, under the fork, are the tree of the whole slice; the space and the path are as before
 pub build_forked_slice-returns : goal.build_forked_slice-returns

@@ -1,7 +1,10 @@
 -- Proof of `bounds_of`, which returns how many of the literals are on narrow variables; `None` if one doesn't hold in
 -- the whole space or has a number outside its range.
-use Rattle.std.proofs.Common.{arith}
+use Rattle.std.proofs.Common.{List, arith, subst}
+use Rattle.std.proofs.lemmas.List.{take_all}
+use Rattle.cpg_cube.specs.declared.literal.Literal.{Literal}
 use Rattle.cpg_tree.proofs.Forks.{from_true}
+use Rattle.cpg_row_trees.specs.Slices.{AreSpaceBounds}
 use Rattle.cpg_row_trees.proofs.SliceLaws.{bounds_more}
 use Rattle.cpg_row_trees.proofs.slices.bounds_of.Goals as goal
 
@@ -14,3 +17,8 @@ loop-literal-preserved c =
     (from_true c.is_bound.result c.if-not-is_bound.false c.is_bound.ensures.inside)
     c.saturating_add-found.result
     (omega (arith, c.saturating_add-found.ensures, c.narrowed.ensures))
+
+-- at the end all literals hold in the whole space and lie inside it
+pub returns : goal.returns
+returns c = subst (λ (ls : List Literal). AreSpaceBounds c.args.k c.args.space.now ls c.loop-literal.found)
+    (take_all c.loop-literal.literal-index c.args.literals.now c.loop-literal-test.false) c.loop-literal.invariant

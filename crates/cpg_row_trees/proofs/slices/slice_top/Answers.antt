@@ -6,7 +6,7 @@ use Rattle.cpg_cube.specs.declared.literal.Literal.{Literal}
 use Rattle.cpg_row_trees.specs.Slices.{IsOwn}
 use Rattle.cpg_tree.proofs.Forks.{from_true}
 use Rattle.cpg_row_trees.proofs.PlaceHintLaws.{cube_here, within_lent}
-use Rattle.cpg_row_trees.proofs.SliceLaws.{finds_here}
+use Rattle.cpg_row_trees.proofs.SliceLaws.{finds_here, finds_nowhere}
 use Rattle.cpg_row_trees.proofs.slices.slice_top.Goals as goal
 
 -- the literals of a cube are by rising variables
@@ -41,3 +41,9 @@ returns-then-are_same_literals c =
     (subst (IsOwn c.args.k c.args.space.now) (sym at)
     (subst (IsOwn c.args.k c.args.space.now) (from_true c.are_same_literals.result c.if-are_same_literals.true
     c.are_same_literals.ensures ∙ c.literals-literals.ensures.literals) c.requires.own))
+
+-- the slice is empty, so a leaf without a place is right
+pub returns-then-slice : goal.returns-then-slice
+returns-then-slice c =
+    finds_nowhere (map (λ (b : Bor (List Literal)). b.now) c.args.cubes.now) c.args.k c.args.space.now c.args.slice.from
+    c.args.slice.to c.if-slice.true

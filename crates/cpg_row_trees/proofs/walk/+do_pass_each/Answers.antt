@@ -7,7 +7,8 @@ use Rattle.cpg_tree.proofs.Flats.{flat-same}
 use Rattle.cpg_tree.proofs.Forks.{from_false, from_true}
 use Rattle.cpg_tree.proofs.Passes.{of_true}
 use Rattle.cpg_row_trees.proofs.Passes.{holds_leaf, holds_above, holds_below, holds_fork}
-use Rattle.cpg_row_trees.proofs.SliceLaws.{above_again, goes_again}
+use Rattle.cpg_row_trees.proofs.SliceLaws.{above_again, below_again, goes_again}
+use Rattle.cpg_row_trees.proofs.Longer.{open_again}
 use Rattle.cpg_row_trees.proofs.walk.+do_pass_each.Goals as goal
 
 -- a leaf: the test has passed at its place, to which each scenario of the space comes
@@ -70,6 +71,41 @@ do_pass_each-returns-else-not-do_pass_side-2-clause-passed g t c n are =
     holds_fork (λ (x : Option ℕ) (s : Scenario). g.J.Test.guarantees c.args.test.now x s) space v cut shows.0 shows.1 n
     (flat-same n (Fork v cut shows.0 shows.1) (sym are ∙ shows.4))
     (λ s lies h. low s (c.close_above-old_high.ensures.lies s lies h)) (λ s lies h. high s (goes_over s lies h))
+
+-- the cut is open in the space that is opened again, which is the given one
+pub do_pass_each-close_below-old_low-requires : goal.do_pass_each-close_below-old_low-requires
+do_pass_each-close_below-old_low-requires g t c =
+    let space : Space = c.args.space.now in
+    let under : Space = c.close_above-old_high.new.self in
+    let again : Space = c.reopen_above.new.self in
+    let v = c.in-Cut.variable in
+    let same : c.do_pass_side.new.space ≡ under =
+    from_true c.do_pass_side.result c.if-not-do_pass_side.false c.do_pass_side.ensures.same in
+    let back : again ≡ space = above_again space under c.do_pass_side.new.space again v same
+    c.close_above-old_high.result c.reopen_above.ensures c.close_above-old_high.ensures.back in
+    let is_open = open_again space again v c.in-Cut.cut back (record {
+      below = sym c.is_open_below.ensures.is ∙ c.if-not-is_open_below.false;
+      above = sym c.is_open_above.ensures.is ∙ c.if-not-is_open_above.false;
+    }) in
+    record { below = is_open.below; above = is_open.above }
+
+-- each side leaves its space as it was, so that what is opened again at the end is the given space
+pub do_pass_each-returns-else-not-do_pass_side-2-clause-same :
+    goal.do_pass_each-returns-else-not-do_pass_side-2-clause-same
+do_pass_each-returns-else-not-do_pass_side-2-clause-same g t c =
+    let space : Space = c.args.space.now in
+    let v = c.in-Cut.variable in
+    let under : Space = c.close_above-old_high.new.self in
+    let over : Space = c.close_below-old_low.new.self in
+    let again : Space = c.reopen_above.new.self in
+    let same_under : c.do_pass_side.new.space ≡ under =
+    from_true c.do_pass_side.result c.if-not-do_pass_side.false c.do_pass_side.ensures.same in
+    let same_over : c.do_pass_side-in-Cut.new.space ≡ over =
+    from_true c.do_pass_side-in-Cut.result c.if-not-do_pass_side-2.false c.do_pass_side-in-Cut.ensures.same in
+    below_again again over c.do_pass_side-in-Cut.new.space c.reopen_below.new.self v same_over
+    c.close_below-old_low.result c.reopen_below.ensures c.close_below-old_low.ensures.back
+    ∙ above_again space under c.do_pass_side.new.space again v same_under c.close_above-old_high.result
+    c.reopen_above.ensures c.close_above-old_high.ensures.back
 
 -- a leaf: the test has passed at its place, to which each scenario of the space comes
 pub do_pass_side-returns-in-Value-clause-passed : goal.do_pass_side-returns-in-Value-clause-passed
