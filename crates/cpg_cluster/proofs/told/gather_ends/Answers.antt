@@ -1,5 +1,5 @@
 -- Proof of `gather_ends`: adds the reports whose planned end is this time, each with it, by process.
-use Rattle.std.proofs.Common.{ℕ, ◌≡◌, ◌<◌, ◌++◌, ◌∙◌, None, ap, arith, get_or, length}
+use Rattle.std.proofs.Common.{ℕ, ◌<◌, ◌++◌, ◌∙◌, None, ap, arith, get_or, length}
 use Rattle.std.specs.Option.{option_to_list}
 use Rattle.std.specs.Vec.{vec_capacity}
 use Rattle.cpg_node.specs.Dispatcher.{Ended, Own, due_reports_of}

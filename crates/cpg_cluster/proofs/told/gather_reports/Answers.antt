@@ -1,6 +1,6 @@
 -- Proof of `gather_reports`: adds the reports of executions that are over by the time and haven't been taken, by
 -- process.
-use Rattle.std.proofs.Common.{◌≡◌, ◌<◌, ◌++◌, ◌∙◌, None, ap, arith, get_or, length}
+use Rattle.std.proofs.Common.{◌<◌, ◌++◌, ◌∙◌, None, ap, arith, get_or, length}
 use Rattle.std.specs.Option.{option_to_list}
 use Rattle.std.specs.Vec.{vec_capacity}
 use Rattle.cpg_node.specs.Dispatcher.{Own}
