@@ -38,6 +38,12 @@ pub handed_as : {T : Type 0} (A B : Type 0) (wide : Option ℕ) (result : Result
 handed_as A B wide (Ok x) shown same f h = absurd same
 handed_as A B wide (Err e) shown same f h = subst (ShowsLarge wide B) (sym same) (shown_as A B wide shown f h)
 
+-- an answer whose fault has one cause has any cause that follows from it
+pub shown_for : {T : Type 0} (result : Result T BuildFault) (P Q : BuildFault → Type 0) → IfErr result P →
+    ((fault : BuildFault) → P fault → Q fault) → IfErr result Q
+shown_for (Ok x) P Q h f = h
+shown_for (Err e) P Q h f = f e h
+
 -- a fault that is shown for one name of an item is shown for an equal name
 pub named_as : (A : Type 0) (wide other : Option ℕ) (fault : BuildFault) → wide ≡ other → ShowsLarge wide A fault →
     ShowsLarge other A fault

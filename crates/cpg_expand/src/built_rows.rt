@@ -1,12 +1,12 @@
 //! The rows that tables are assembled from.
 ghost use Rattle.std.specs.Prelude.{IfOk};
 ghost use Rattle.cpg_expand.specs.BuiltRows.{IsAssembledOf};
-ghost use Rattle.cpg_table.specs.Writing.{AreWritable};
+ghost use Rattle.cpg_table.specs.Writing.{AreTablesWith, AreWritable};
 
 use cpg_base::{Order, OutOfMemory};
 use cpg_rules::Admitted;
 use cpg_run::{Built, FrozenTimes};
-use cpg_table::tables_of;
+use cpg_table::{Tables, tables_of};
 use cpg_tree_columns::{MadeRow, Peak, listed_rows};
 use std::alloc::Global;
 
@@ -27,6 +27,20 @@ pub struct BuiltRows {
     pub excess: Peak,
 }
 
+/// Returns the tables that are assembled from rows. The one error is `OutOfMemory`.
+fn tables_from(
+    alloc: Global,
+    admitted: &Admitted,
+    rows: Vec<MadeRow>,
+) -> Result<Tables, OutOfMemory>
+    requires { AreWritable admitted.now.graph rows.items }
+    ensures { IfOk result (AreTablesWith admitted.now.graph rows.items) }
+{
+    let rows = listed_rows(alloc, rows)?;
+    let tables = tables_of(alloc, admitted.problem(), rows)?;
+    Ok(tables)
+}
+
 impl BuiltRows {
     /// Returns the tables that are assembled from the rows, with the frozen times and the measures. The one error is
     /// `OutOfMemory`.
@@ -41,8 +55,7 @@ impl BuiltRows {
             excess,
             ..
         } = self;
-        let rows = listed_rows(alloc, rows)?;
-        let tables = tables_of(alloc, admitted.problem(), rows)?;
+        let tables = tables_from(alloc, admitted, rows)?;
         Ok(Built {
             tables,
             frozen,

@@ -264,8 +264,7 @@ fn start_after(
     };
     // an input from the node itself is there once the node is ready
     if !problem.is_message(*edge) {
-        let start = start_after(problem, forest, wait, release, others)?;
-        return Ok(start);
+        return start_after(problem, forest, wait, release, others);
     }
     // no later input comes from another node, so the starts are made at once, without a tree of this wait
     if are_own(problem, others) {
@@ -276,8 +275,7 @@ fn start_after(
     let there = forest.ready_and_input(problem, wait, *edge)?;
     few(&there, forest.wide)?;
     let both = Ready::At(there);
-    let start = start_after(problem, forest, &both, release, others)?;
-    Ok(start)
+    start_after(problem, forest, &both, release, others)
 }
 
 /// Returns the starts of a process where it is active, and no time elsewhere; there it waits for its node, its release
@@ -306,8 +304,7 @@ fn start_where(
     };
     // an input from the node itself is there once the node is ready
     if !problem.is_message(*edge) {
-        let start = start_where(problem, forest, wait, release, others, active)?;
-        return Ok(start);
+        return start_where(problem, forest, wait, release, others, active);
     }
     // this is the last input from another node, so the starts are made at once, with no tree of the wait before
     if are_own(problem, others) {
@@ -318,8 +315,7 @@ fn start_where(
     let there = forest.ready_and_input(problem, wait, *edge)?;
     few(&there, forest.wide)?;
     let both = Ready::At(there);
-    let start = start_where(problem, forest, &both, release, others, active)?;
-    Ok(start)
+    start_where(problem, forest, &both, release, others, active)
 }
 
 /// Whether the activation waits for all inputs, or is inactive and so waits for none.

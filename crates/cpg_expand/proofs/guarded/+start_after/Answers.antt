@@ -1,16 +1,17 @@
 -- Proof of `start_after`, which returns the starts of a process that waits for its node, its release and these inputs.
-use Rattle.std.proofs.Common.{ap, ℕ, ◌<◌, ◌∙◌, List, [], arith, sym, subst}
+use Rattle.std.proofs.Common.{ap, ℕ, ◌<◌, ◌∙◌, ◌∷◌, List, [], arith, sym, subst}
+use Rattle.std.specs.Prelude.{IfOk}
 use Rattle.std.proofs.lemmas.List.{nil_from_length}
 use Rattle.std.proofs.lemmas.Option.{MatchOption-at_none}
 use Rattle.cpg_base.specs.Graph.{edge_count}
 use Rattle.cpg_tree.specs.Read.{later_by}
-use Rattle.cpg_tree.proofs.Forks.{from_true}
-use Rattle.cpg_expand.specs.Large.{IsLarge}
+use Rattle.cpg_tree.proofs.Forks.{from_true, of_answer}
+use Rattle.cpg_expand.specs.Large.{IsLarge, IsLargeWith, ShowsLarge}
 use Rattle.cpg_expand.specs.Forest.{ForestState, input_delay, input_tree, ready_by}
 use Rattle.cpg_expand.specs.Guarded.{IsStartAfter}
 use Rattle.cpg_expand.proofs.GuardTrees.{all_parts, last_input, later_is, one_input, own_input}
 use Rattle.cpg_expand.proofs.LargeParts.{large_both, large_later, large_own}
-use Rattle.cpg_expand.proofs.LargeShown.{handed_on, named_as}
+use Rattle.cpg_expand.proofs.LargeShown.{handed_on, named_as, shown_for}
 use Rattle.cpg_expand.proofs.guarded.+start_after.Goals as goal
 
 -- no inputs are left, so the starts are those after the wait and the release
@@ -28,11 +29,14 @@ returns-then-not-is_message-clause-start t c =
     let g = c.args.problem.now in
     let f = c.args.forest.now in
     let wait = ready_by g f c.args.wait.now in
-    subst (λ (es : List ℕ). IsStartAfter g f wait c.args.release es c.in_ok-start-2.start)
+    let e = c.in-Some.edge.now in
+    let es = c.in-Some.others.now in
+    subst (λ (xs : List ℕ). IfOk c.start_after.result (IsStartAfter g f wait c.args.release xs))
     (sym c.in-Some.ensures.cases.0)
-    (λ s few. own_input g f s [] wait c.in_ok-start-2.start c.args.release c.in-Some.edge.now c.in-Some.others.now
-    (sym c.is_message.ensures ∙ c.if-not-is_message.true)
-    (c.in_ok-start-2.ensures.start s few))
+    (of_answer c.start_after.result (IsStartAfter g f wait c.args.release es)
+    (IsStartAfter g f wait c.args.release (e ∷ es)) c.start_after.ensures.start
+    (λ start made s few. own_input g f s [] wait start c.args.release e es
+    (sym c.is_message.ensures ∙ c.if-not-is_message.true) (made s few)))
 
 -- all other inputs are from the node itself, so the first one is the last to wait for
 pub returns-then-are_own-clause-start : goal.returns-then-are_own-clause-start
@@ -40,11 +44,11 @@ returns-then-are_own-clause-start t c =
     let g = c.args.problem.now in
     let f = c.args.forest.now in
     let wait = ready_by g f c.args.wait.now in
-    subst (λ (es : List ℕ). IsStartAfter g f wait c.args.release es c.in_ok-start-3.start)
+    subst (λ (es : List ℕ). IsStartAfter g f wait c.args.release es c.in_ok-start-2.start)
     (sym c.in-Some.ensures.cases.0)
-    (λ s few. last_input g f s [] wait c.in_ok-start-3.start c.args.release c.in-Some.edge.now c.in-Some.others.now
+    (λ s few. last_input g f s [] wait c.in_ok-start-2.start c.args.release c.in-Some.edge.now c.in-Some.others.now
     (from_true c.are_own.result c.if-are_own.true c.are_own.ensures)
-    (c.in_ok-start-3.ensures.start s few))
+    (c.in_ok-start-2.ensures.start s few))
 
 -- the other inputs are fewer, and the wait that includes the first one is a tree of the graph
 pub start_after-requires-2 : goal.start_after-requires-2
@@ -61,24 +65,27 @@ returns-clause-start t c =
     let g = c.args.problem.now in
     let f = c.args.forest.now in
     let wait = ready_by g f c.args.wait.now in
-    subst (λ (es : List ℕ). IsStartAfter g f wait c.args.release es c.in_ok-start-4.start)
+    let e = c.in-Some.edge.now in
+    let es = c.in-Some.others.now in
+    subst (λ (xs : List ℕ). IfOk c.start_after-2.result (IsStartAfter g f wait c.args.release xs))
     (sym c.in-Some.ensures.cases.0)
-    (λ s few.
-    one_input g f s [] few wait (later_by (input_delay g c.in-Some.edge.now) (input_tree g f c.in-Some.edge.now))
-    c.in_ok-there.there c.in_ok-start-4.start c.args.release c.in-Some.edge.now
-    c.in-Some.others.now
-    (later_is g (input_delay g c.in-Some.edge.now) (input_tree g f c.in-Some.edge.now)) c.in_ok-there.ensures.both
-    (c.in_ok-start-4.ensures.start s few))
+    (of_answer c.start_after-2.result (IsStartAfter g f c.in_ok-there.there c.args.release es)
+    (IsStartAfter g f wait c.args.release (e ∷ es)) c.start_after-2.ensures.start
+    (λ start made s few.
+    one_input g f s [] few wait (later_by (input_delay g e) (input_tree g f e)) c.in_ok-there.there start
+    c.args.release e es (later_is g (input_delay g e) (input_tree g f e)) c.in_ok-there.ensures.both (made s few)))
 
 -- the first input is from the node itself, so a fault for the others is one for all
-pub returns-in_err-start-2-clause-fault : goal.returns-in_err-start-2-clause-fault
-returns-in_err-start-2-clause-fault t c =
-    handed_on _ c.from_residual-in_err-start-2.result c.in_err-start-2.field-0.0
-    c.from_residual-in_err-start-2.ensures.1
-    (large_own c.args.problem.now c.args.forest.now (ready_by c.args.problem.now c.args.forest.now c.args.wait.now)
-    c.args.forest.now.wide c.in_err-start-2.field-0.0 c.args.edges.now
-    c.in-Some.edge.now c.in-Some.others.now c.in-Some.ensures.cases.0
-    (sym c.is_message.ensures ∙ c.if-not-is_message.true) c.in_err-start-2.ensures.fault)
+pub returns-then-not-is_message-clause-fault : goal.returns-then-not-is_message-clause-fault
+returns-then-not-is_message-clause-fault t c =
+    let g = c.args.problem.now in
+    let f = c.args.forest.now in
+    let wait = ready_by g f c.args.wait.now in
+    let es = c.in-Some.others.now in
+    shown_for c.start_after.result (ShowsLarge f.wide (IsLargeWith g f wait es))
+    (ShowsLarge f.wide (IsLargeWith g f wait c.args.edges.now)) c.start_after.ensures.fault
+    (λ fault shown. large_own g f wait f.wide fault c.args.edges.now c.in-Some.edge.now es c.in-Some.ensures.cases.0
+    (sym c.is_message.ensures ∙ c.if-not-is_message.true) shown)
 
 -- the first input comes from another node, and the tree of the wait with it has too many leaves
 pub returns-in_err-few-clause-fault : goal.returns-in_err-few-clause-fault
@@ -91,11 +98,38 @@ returns-in_err-few-clause-fault t c =
     (ap (λ (x : ForestState). x.wide) c.forest.view_is) c.in_err-few.ensures))
 
 -- a tree too large with the other inputs, after the wait with the first, is one on the way of all inputs
-pub returns-in_err-start-4-clause-fault : goal.returns-in_err-start-4-clause-fault
-returns-in_err-start-4-clause-fault t c =
-    handed_on _ c.from_residual-in_err-start-4.result c.in_err-start-4.field-0.0
-    c.from_residual-in_err-start-4.ensures.1
-    (large_later c.args.problem.now c.args.forest.now (ready_by c.args.problem.now c.args.forest.now c.args.wait.now)
-    c.args.forest.now.wide c.in_err-start-4.field-0.0 c.args.edges.now
-    c.in-Some.edge.now c.in-Some.others.now c.in-Some.ensures.cases.0 c.in_ok-there.there c.in_ok-there.ensures.both
-    c.in_err-start-4.ensures.fault)
+pub returns-clause-fault : goal.returns-clause-fault
+returns-clause-fault t c =
+    let g = c.args.problem.now in
+    let f = c.args.forest.now in
+    let wait = ready_by g f c.args.wait.now in
+    let es = c.in-Some.others.now in
+    shown_for c.start_after-2.result (ShowsLarge f.wide (IsLargeWith g f c.in_ok-there.there es))
+    (ShowsLarge f.wide (IsLargeWith g f wait c.args.edges.now)) c.start_after-2.ensures.fault
+    (λ fault shown. large_later g f wait f.wide fault c.args.edges.now c.in-Some.edge.now es c.in-Some.ensures.cases.0
+    c.in_ok-there.there c.in_ok-there.ensures.both shown)
+
+-- the other inputs are fewer, and they are inputs of the graph too
+pub start_after-requires : goal.start_after-requires
+start_after-requires t c =
+    let below = all_parts (λ e. e < edge_count c.args.problem.now) c.args.edges.now c.in-Some.edge.now
+    c.in-Some.others.now c.in-Some.ensures.cases.0 c.requires.edges in
+    let shorter = c.in-Some.ensures.cases.1 in
+    let at = c.decreases in
+    (omega arith, (c.requires.forest, (c.requires.wait, below.1)))
+
+-- without inputs the starts are a tree of the graph
+pub returns-in_default-clause-tree : goal.returns-in_default-clause-tree
+returns-in_default-clause-tree t c = c.in_ok-start.ensures.tree
+
+-- the starts without the first input are a tree of the graph
+pub returns-then-not-is_message-clause-tree : goal.returns-then-not-is_message-clause-tree
+returns-then-not-is_message-clause-tree t c = c.start_after.ensures.tree
+
+-- the starts after the first input are a tree of the graph
+pub returns-then-are_own-clause-tree : goal.returns-then-are_own-clause-tree
+returns-then-are_own-clause-tree t c = c.in_ok-start-2.ensures.tree
+
+-- the starts after the wait that includes the first input are a tree of the graph
+pub returns-clause-tree : goal.returns-clause-tree
+returns-clause-tree t c = c.start_after-2.ensures.tree
