@@ -1,8 +1,6 @@
-//! The graphs of the tests, as files have them, and the pair's tables, as a pack has them.
-use cpg_codec::read_pack;
+//! The graphs of the tests, as files have them.
 use cpg_reader::read_problem;
 use cpg_rules::{Admitted, admit};
-use cpg_table::{NodeTable, Tables};
 use std::alloc::Global;
 
 /// The pair: A (process 0) sends B (process 1), which is on the other node, a message (item 2). One fault may strike.
@@ -15,18 +13,6 @@ process = [
   { name = "B", node = "N2", wcet = 10, alpha = 2, chi = 3, mu = 5 },
 ]
 edge = [{ from = "A", to = "B" }]
-"#;
-
-/// The pair with a frozen message, and with a deadline that is met.
-pub const FROZEN: &str = r#"faults = 1
-deadline = 122
-node = [{ name = "N1" }, { name = "N2" }]
-slot = [{ node = "N1", length = 10, bytes = 8 }, { node = "N2", length = 10, bytes = 8 }]
-process = [
-  { name = "A", node = "N1", wcet = 30, alpha = 2, chi = 3, mu = 5 },
-  { name = "B", node = "N2", wcet = 10, alpha = 2, chi = 3, mu = 5 },
-]
-edge = [{ from = "A", to = "B", frozen = true }]
 "#;
 
 /// A decides between B, on the other node, and C; J, on B's node, joins both. No fault may strike.
@@ -89,31 +75,5 @@ pub fn admitted(alloc: Global, text: &str) -> Option<Admitted> {
     match read_problem(alloc, text.as_bytes()) {
         Ok(problem) => admit(alloc, problem).ok(),
         Err(_) => None,
-    }
-}
-
-/// The pack of the pair: A is on the first node, and B on the second. The message is sent at 40 if A has no fault and
-/// at 80 if it has one, and B starts when it comes, 10 later.
-const PACK: [u8; 147] = [
-    67, 80, 71, 84, 1, 1, 2, 2, 78, 49, 2, 78, 50, 2, 1, 65, 0, 0, 0, 0, 0, 0, 0, 0, 0, 35, 0, 0,
-    0, 0, 0, 0, 0, 72, 1, 66, 1, 0, 0, 0, 0, 0, 0, 0, 0, 15, 0, 0, 0, 0, 0, 0, 0, 32, 0, 1, 0, 1,
-    0, 1, 0, 0, 0, 0, 0, 0, 0, 0, 0, 0, 2, 0, 0, 0, 0, 0, 0, 0, 40, 1, 0, 0, 0, 0, 0, 0, 0, 0, 0,
-    0, 80, 1, 0, 1, 1, 0, 2, 0, 0, 0, 0, 0, 0, 0, 50, 1, 0, 0, 0, 0, 0, 0, 0, 0, 0, 0, 90, 1, 0, 1,
-    1, 0, 2, 0, 0, 0, 0, 0, 0, 0, 50, 1, 0, 0, 0, 0, 0, 0, 0, 0, 0, 0, 90, 1, 0, 1, 1,
-];
-
-/// Returns the tables of the pack, or `None` if memory runs out.
-fn tables(alloc: Global) -> Option<Tables> {
-    match Vec::from_slice(alloc, &PACK) {
-        Ok(bytes) => read_pack(alloc, bytes).ok(),
-        Err(_) => None,
-    }
-}
-
-/// Returns the table of the second node, which is the last, or `None` if memory runs out.
-pub fn second_table(alloc: Global) -> Option<NodeTable> {
-    match tables(alloc) {
-        Some(tables) => tables.into_nodes().pop(),
-        None => None,
     }
 }

@@ -1,4 +1,4 @@
-//! Tests of what no case of the whole program shows: runs, lists, reaches, tracks, trees and nodes, call by call;
+//! Tests of what no case of the whole program shows: runs, lists, reaches, tracks and trees, call by call;
 //! generated graphs; and the shelf of files and the sink over a stream.
 #![tactic(auto)]
 
@@ -14,10 +14,6 @@ mod fixtures;
 mod generator_tests;
 #[cfg(test)]
 mod io_tests;
-#[cfg(test)]
-mod list_tests;
-#[cfg(test)]
-mod node_tests;
 #[cfg(test)]
 mod order_tests;
 #[cfg(test)]
