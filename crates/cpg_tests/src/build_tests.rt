@@ -1,14 +1,12 @@
 //! The pair, built over a list of all scenarios, against what was worked out by hand; and both builders against each
 //! other on a graph of two nodes with a choice, two faults, releases, deadlines and frozen items.
 
-ghost use Rattle.std.specs.Prelude.{IfOk};
-ghost use Rattle.cpg_all_runs.specs.Listing.{AreScenarios};
-
 use crate::claims::{Claim, holds};
 use crate::columns::are_rows;
 use crate::fixtures::{MIXED, PAIR};
-use cpg_all_runs::{has_few_scenarios, scenarios};
-use cpg_base::{OutOfMemory, Scenario};
+use crate::list_tests::listed;
+use cpg_all_runs::has_few_scenarios;
+use cpg_base::Scenario;
 use cpg_expand::expand;
 use cpg_list::list;
 use cpg_rules::Admitted;
@@ -148,18 +146,6 @@ fn builders_agree_in(alloc: Global, admitted: &Admitted, scenarios: &[Scenario])
     match built_by_list(alloc, admitted) {
         Some(built) => trees_agree(alloc, admitted, scenarios, &built),
         None => false,
-    }
-}
-
-/// Returns all scenarios of a graph. An error is that they are too many to list, or that memory runs out.
-fn listed(alloc: Global, admitted: &Admitted) -> Result<Vec<Scenario>, OutOfMemory>
-    ensures { IfOk result (λ list. AreScenarios admitted.now.graph list.items) }
-{
-    let problem = admitted.problem();
-    if has_few_scenarios(problem) {
-        scenarios(alloc, problem)
-    } else {
-        Err(OutOfMemory)
     }
 }
 

@@ -2,6 +2,7 @@
 //! slow to prove.
 use crate::build_tests::{builders_agree, is_pair};
 use crate::fixtures::admitted;
+use crate::list_tests::{Found, is_found};
 use crate::order_tests::have_tails;
 use crate::reach_tests::have_views;
 use crate::run_tests::outcomes_are_so;
@@ -20,6 +21,8 @@ pub enum Claim<'a> {
     Starts(&'a [[Option<u64>; 4]]),
     /// Both outcomes of the choice run as worked out by hand.
     Outcomes,
+    /// A list of all scenarios gives this.
+    Finds(&'a Found),
     /// A list builds what was worked out for the pair.
     Pair,
     /// Lists and trees build the same.
@@ -33,6 +36,7 @@ fn is_so(alloc: Global, admitted: &Admitted, claim: Claim<'_>) -> bool {
         Claim::Views(wanted) => have_views(alloc, admitted, wanted),
         Claim::Starts(wanted) => have_starts(alloc, admitted, wanted),
         Claim::Outcomes => outcomes_are_so(alloc, admitted),
+        Claim::Finds(found) => is_found(alloc, admitted, found),
         Claim::Pair => is_pair(alloc, admitted),
         Claim::Agreement => builders_agree(alloc, admitted),
     }

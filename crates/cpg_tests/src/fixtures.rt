@@ -15,6 +15,18 @@ process = [
 edge = [{ from = "A", to = "B" }]
 "#;
 
+/// The pair with a frozen message, and with a deadline that is met.
+pub const FROZEN: &str = r#"faults = 1
+deadline = 122
+node = [{ name = "N1" }, { name = "N2" }]
+slot = [{ node = "N1", length = 10, bytes = 8 }, { node = "N2", length = 10, bytes = 8 }]
+process = [
+  { name = "A", node = "N1", wcet = 30, alpha = 2, chi = 3, mu = 5 },
+  { name = "B", node = "N2", wcet = 10, alpha = 2, chi = 3, mu = 5 },
+]
+edge = [{ from = "A", to = "B", frozen = true }]
+"#;
+
 /// A decides between B, on the other node, and C; J, on B's node, joins both. No fault may strike.
 pub const CHOICE: &str = r#"faults = 0
 deadline = 95

@@ -15,6 +15,8 @@ mod generator_tests;
 #[cfg(test)]
 mod io_tests;
 #[cfg(test)]
+mod list_tests;
+#[cfg(test)]
 mod order_tests;
 #[cfg(test)]
 mod reach_tests;
