@@ -113,14 +113,27 @@ value_is_no_cut e = cc
 pub cut_is_no_value : {T : Type 0} {x : T} {v cut n : ℕ} → Cut v cut n ≡ Value x → ⊥
 cut_is_no_value e = cc
 
--- a list whose last item is a value is that of a leaf
-pub shows_value : {T : Type 0} (n : TreeNode T) (items sides : List (TreeItem T)) (x : T) → items ≡ flat n →
+-- if the last item of a tree's list is a value, no item stands before it
+pub value_alone : {T : Type 0} (n : TreeNode T) (items sides : List (TreeItem T)) (x : T) → items ≡ flat n →
     items ≡ sides ++ (Value x ∷ []) →
-    items ≡ flat (Leaf x)
-shows_value (Leaf y) items sides x is last =
-    is ∙ ap (λ i. i ∷ []) (sym (last_same sides [] (Value x) (Value y) (sym last ∙ is)))
-shows_value (Fork v cut below above) items sides x is last = absurd (value_is_no_cut
+    length sides ≡ 0
+value_alone (Leaf y) items sides x is last = ap length (rest_same sides [] (Value x) (Value y) (sym last ∙ is))
+value_alone (Fork v cut below above) items sides x is last = absurd (value_is_no_cut
     (last_same sides (flat below ++ flat above) (Value x) (Cut v cut (length (flat below))) (sym last ∙ is)))
+
+-- if the last item of a tree's list is a cut, items of both its sides stand before it
+pub cut_behind : {T : Type 0} (n : TreeNode T) (items sides : List (TreeItem T)) (v cut m : ℕ) → items ≡ flat n →
+    items ≡ sides ++ (Cut v cut m ∷ []) →
+    0 < length sides
+cut_behind (Leaf x) items sides v cut m is last =
+    absurd (cut_is_no_value (last_same sides [] (Cut v cut m) (Value x) (sym last ∙ is)))
+cut_behind (Fork u far below above) items sides v cut m is last =
+    omega (
+      arith,
+      ap length (rest_same sides (flat below ++ flat above) _ _ (sym last ∙ is)),
+      length-append (flat below) (flat above),
+      flat-long below,
+    )
 
 -- a list whose last item is a cut is that of a fork: the items before it, cut at its number, are those of the sides
 pub shows_cut : {T : Type 0} (n : TreeNode T) (items sides : List (TreeItem T)) (v cut m : ℕ) → items ≡ flat n →

@@ -29,9 +29,18 @@ pub fn top_of<T: Copy>(items: &[TreeItem<T>]) -> Top<'_, T>
     let Some((last, sides)) = items.split_last() else {
         unreachable!();
     };
+    // a list of one item is a value: its length says so, and the test doesn't wait for the item
+    if sides.is_empty() {
+        return match *last {
+            TreeItem::Value(value) => Top::Value(value),
+            // items of both sides stand before a cut
+            TreeItem::Cut { .. } => unreachable!(),
+        };
+    }
     let item = *last;
     match item {
-        TreeItem::Value(value) => Top::Value(value),
+        // no item stands before a value
+        TreeItem::Value(_) => unreachable!(),
         TreeItem::Cut {
             variable,
             cut,
