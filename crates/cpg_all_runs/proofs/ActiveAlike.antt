@@ -74,7 +74,7 @@ module _ (g : Graph) (s u : Scenario) (same : active_numbers g s ≡ active_numb
         (sym (faults_at s p l) ∙ ap (λ xs. get_or xs p 0) same ∙ faults_at u p l) a;
   }
 
--- given two scenarios that agree on what is active in the first
+-- given: two scenarios s and u that agree on what is active in s (`alike`), and the urgency order, which is topological
 module _ (g : Graph) (urgency : List ℕ) (urgent : IsUrgencyOrder g urgency) (lawful : IsTopological g urgency)
     (s u : Scenario) (alike : AreActiveAlike g s u) where
   -- each process has the same activation in both scenarios: whether it is active and, for a join, by which input

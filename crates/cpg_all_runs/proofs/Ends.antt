@@ -18,6 +18,7 @@ use Rattle.cpg_all_runs.specs.Runs.{AreRuns}
 use Rattle.cpg_all_runs.proofs.Measured.{HasIn, AreMeasured, measured}
 
 module _ (g : Graph) (order : List ℕ) (top : IsTopological g order) where
+  -- given: the run t of a scenario s
   module _ (frozen : List (Option ℕ)) (s : Scenario) (t : Times) (run : IsRun g order frozen s t) where
     -- what the search finds is the least process that ends at the finish; it finds none only if there is no process, since else
     -- some process ends then
@@ -30,7 +31,8 @@ module _ (g : Graph) (order : List ℕ) (top : IsTopological g order) where
     ]
     ends_last (Some p) some none = (some.ends, some.first)
 
-  -- given a number that is read off each run, and the place of the greatest
+  -- given: a number (`value`) that is read off each run, and the place `at` of the greatest (`f`)
+  -- `all`: the list has each scenario once; `m`: `numbers` has for each scenario the number of its run
   module _ (value : Times → ℕ) (urgency : List ℕ) (frozen : List (Option ℕ)) (list : List Scenario)
       (all : AreScenarios g list) (numbers : List ℕ) (m : AreMeasured g order frozen value list numbers)
       (at : ℕ) (f : IsFirstGreatest g urgency (length list) list numbers at) where
@@ -63,7 +65,9 @@ module _ (g : Graph) (order : List ℕ) (top : IsTopological g order) where
       HasIn g order frozen value n s → IsRun g order frozen s t → value t ≡ n
   one_number value frozen n s t has run = ap value (run_unique g order top frozen s t has.0 run has.1) ∙ has.2
 
-  -- given the runs of all scenarios, a number of each, and the place of the greatest
+  -- given: the runs of all scenarios, a number of each, and the place `at` of the greatest number (`f`)
+  -- `all`: the list has each scenario once; `are`: `runs` has the run of each; `scenario_at`, `run_at`: s is the scenario at
+  -- that place, and t its run; `by`: the process to name, if there is one
   module _ (urgency : List ℕ) (frozen : List (Option ℕ)) (list : List Scenario) (all : AreScenarios g list)
       (runs : List Times) (are : AreRuns g order frozen list runs)
       (numbers : List ℕ) (at : ℕ) (f : IsFirstGreatest g urgency (length list) list numbers at) (s : Scenario)

@@ -11,7 +11,7 @@ use Rattle.cpg_base.specs.Scenario.{Scenario, is_before}
 use Rattle.cpg_base.proofs.ScenarioOrder.{before_irreflexive, before_one_way, not_before_transitive}
 use Rattle.cpg_all_runs.specs.Peaks.{IsFirstGreatest}
 
--- given the place of the first greatest of n numbers
+-- given: the place of the first greatest of n numbers
 module _ (g : Graph) (urgency : List ℕ) (n : ℕ) (list : List Scenario) (numbers : List ℕ) (at : ℕ)
     (f : IsFirstGreatest g urgency n list numbers at) where
   -- If the number at n is greater, or as great and its scenario comes first, n is the place among the first n + 1. No scenario

@@ -73,7 +73,7 @@ later_second : (a : Option ℕ) (time : ℕ) → IsUpTo (later a (Some time)) ti
 later_second None time = record { most = time; is = refl; few = omega arith }
 later_second (Some m) time = record { most = max m time; is = refl; few = omega arith }
 
--- given an item and a list of scenarios
+-- given: an item and a list of scenarios
 module _ (g : Graph) (order : List ℕ) (top : IsTopological g order) (frozen : List (Option ℕ)) (x : ℕ)
     (list : List Scenario) where
   -- before the first scenario the greatest time is None
@@ -105,6 +105,7 @@ module _ (g : Graph) (order : List ℕ) (top : IsTopological g order) (frozen : 
     ];
   }
 
+  -- given: the listed scenarios show all runs (`all`), and item x has no frozen time yet (`unset`)
   module _ (all : AreExamples g list) (within : x < item_count g) (unset : get_or frozen x None ≡ None) where
     -- an item without a frozen time has the time that it would have if it were not frozen
     time_unset : (s : Scenario) (t : Times) (run : IsRun g order frozen s t) →

@@ -19,14 +19,15 @@ pub use Rattle.cpg_run.proofs.ZeroScenario.{zero_lawful}
 use Rattle.cpg_all_runs.specs.Listing.{AreScenarios, HasValue, with_fault, with_true, with_each_fault, with_both}
 use Rattle.cpg_all_runs.specs.Listing.{with_faults_below, with_values_below}
 
--- the step of a loop that adds what f gives of each number: with f of n, the first n become n + 1
-pub appended_push : {X : Type 0} (f : ℕ → X) (before xs ys : List X) (y : X) (n : ℕ) →
-    xs ≡ before ++ map f (numbers_below n) → y ≡ f n →
+-- the step of a loop that adds f of each number to `start`: if `xs` has f of the first n, `ys`, with f of n too, has f of the
+-- first n + 1
+pub appended_push : {X : Type 0} (f : ℕ → X) (start xs ys : List X) (y : X) (n : ℕ) →
+    xs ≡ start ++ map f (numbers_below n) → y ≡ f n →
     ys ≡ xs ++ y ∷ [] →
-    ys ≡ before ++ map f (numbers_below (n + 1))
-appended_push f before xs ys y n e h is =
-    is ∙ ap₂ (λ zs z. zs ++ z ∷ []) e h ∙ append_assoc before (map f (numbers_below n)) (f n ∷ [])
-    ∙ ap (λ zs. before ++ zs) (sym (ap (map f) (below_push n) ∙ map-append f (numbers_below n) (n ∷ [])))
+    ys ≡ start ++ map f (numbers_below (n + 1))
+appended_push f start xs ys y n e h is =
+    is ∙ ap₂ (λ zs z. zs ++ z ∷ []) e h ∙ append_assoc start (map f (numbers_below n)) (f n ∷ [])
+    ∙ ap (λ zs. start ++ zs) (sym (ap (map f) (below_push n) ∙ map-append f (numbers_below n) (n ∷ [])))
 
 -- of two elements set at one place the second stays: by induction on the list
 set_twice : {X : Type 0} (xs : List X) (i : ℕ) (y z d : X) → set (set xs i y) i z ≡ set xs i z
@@ -182,7 +183,7 @@ module _ (g : Graph) where
       let long = h.lawful.values in
       -- with the value of c false, which is in the list before
       let without : Scenario = record s { values = set s.values c false } in
-      let there = lists_values c (omega arith) without (record {
+      let without_listed = lists_values c (omega arith) without (record {
         lawful = value_changed c false s h.lawful;
         later = λ d l. elim (cases_eq d c) [
           | inl at ↦ ap (λ j. get_or (set s.values c false) j false) at
@@ -194,7 +195,7 @@ module _ (g : Graph) where
       let again : Scenario = record s { values = set (set s.values c false) c (get_or s.values c false) } in
       let back : again ≡ s = same again s
       (set_twice s.values c false (get_or s.values c false) false ∙ set-get_or s.values c false) refl in
-      Contains-flat_map (with_both c) (with_values_below g c) without s there
+      Contains-flat_map (with_both c) (with_values_below g c) without s without_listed
       (elim (cases_Bool (get_or s.values c false)) [
         -- c is true: the scenario is the second one that the list makes
         | inl on ↦ subst (Contains (with_both c without))

@@ -20,6 +20,7 @@ pub record AreMeasured (g : Graph) (order : List ℕ) (frozen : List (Option ℕ
   pub each : (i : ℕ) (s : Scenario) → i < length list →
       HasIn g order frozen value (get_or numbers i 0) (get_or list i s)
 
+-- given: a graph, an order and frozen times, under which runs are taken
 module _ (g : Graph) (order : List ℕ) (frozen : List (Option ℕ)) where
   -- if t, the run of the n-th scenario, is added to the runs of the first n, these are the runs of the first n + 1
   pub runs_more : (n : ℕ) (list : List Scenario) (runs more : List Times) (t : Times) →

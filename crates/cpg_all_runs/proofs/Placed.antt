@@ -33,6 +33,7 @@ map_below_after f before xs more v n is new pushed =
 same_some : (a b : ℕ) → Some a ≡ Some b → a ≡ b
 same_some a b e = cc
 
+-- given: a fact P of entries of a map
 module _ (P : Vec ℕ × ℕ → Type 0) where
   -- what holds of all entries of a map holds of one that is found: by induction on the entries
   placed_found : (f : Vec ℕ → Ordering) (es : List (Vec ℕ × ℕ)) (i : ℕ) → All P es → lookup (is_at f) es ≡ Some i →
@@ -81,6 +82,7 @@ is_key numbers k = is_at (λ (j : Vec ℕ). slice_cmp nat_cmp numbers j.items) k
 key_itself : (numbers : List ℕ) → is_eq (slice_cmp nat_cmp numbers numbers) ≡ true
 key_itself numbers = sym (texts_ties numbers numbers) ∙ (bytes_decides numbers numbers).1 refl
 
+-- given: a list of numbers that is looked up in a map
 module _ (numbers : List ℕ) where
   -- if the key of the first entry is the numbers, they have a place
   known_head : (e : Vec ℕ × ℕ) (es : List (Vec ℕ × ℕ)) → is_key numbers e.0 ≡ true → place_in (e ∷ es) numbers ≢ None
@@ -139,12 +141,13 @@ module _ (k : Vec ℕ) (v : ℕ) where
   known_put [] = known_head k.items (k, v) [] (key_itself k.items)
   known_put (e ∷ es) = put_in_order e es (with_place es k v) (known_put es) (slice_cmp nat_cmp k.items e.0.items) refl
 
+-- given: the list of numbers `f i` of each place i, and a place n
 module _ (f : ℕ → List ℕ) (n : ℕ) where
   -- of no places the empty map has all first places
   pub none_placed : ArePlaced f 0 []
   none_placed = record { each = search rules; all = λ i l. absurd (omega arith) }
 
-  -- given a map with the first places of the first n, and that the numbers of the place n keep or get a place
+  -- given: a map with the first places of the first n, and that the numbers of the place n keep or get a place
   module _ (old new : List (Vec ℕ × ℕ)) (k : Vec ℕ) (place : ℕ) (a : ArePlaced f n old) (is : k.items ≡ f n)
       (gets : GetsPlace k n old new place) where
     -- if the numbers have no place, f has them at none before n
@@ -208,20 +211,20 @@ module _ (f : ℕ → List ℕ) (n : ℕ) where
     pub firsts_more : (firsts more : List ℕ) → AreFirstPlaces f n firsts → more ≡ firsts ++ place ∷ [] →
         AreFirstPlaces f (n + 1) more
     firsts_more firsts more b pushed =
-        let before : (i : ℕ) → i < n → get_or more i 0 ≡ get_or firsts i 0 = λ i l. ap (λ xs. get_or xs i 0) pushed
+        let earlier : (i : ℕ) → i < n → get_or more i 0 ≡ get_or firsts i 0 = λ i l. ap (λ xs. get_or xs i 0) pushed
         ∙ get_or_append_left firsts (place ∷ []) 0 i (omega (arith, b.count)) in
-        let now : get_or more n 0 ≡ place = ap (λ xs. get_or xs n 0) pushed
+        let added : get_or more n 0 ≡ place = ap (λ xs. get_or xs n 0) pushed
         ∙ ap (λ i. get_or (firsts ++ place ∷ []) i 0) (sym b.count) ∙ get_or-append_seam firsts place [] 0 in
         record {
           count = ap length pushed ∙ length-append firsts (place ∷ []) ∙ ap (λ m. m + 1) b.count;
           -- the new place has the key of scenario n, and those before stay
           same = λ i l. elim (cases_eq i n) [
-            | inl e ↦ ap (λ j. f (get_or more j 0)) e ∙ ap f now ∙ first_place.0 ∙ ap f (sym e)
-            | inr apart ↦ ap f (before i (omega arith)) ∙ b.same i (omega arith)
+            | inl e ↦ ap (λ j. f (get_or more j 0)) e ∙ ap f added ∙ first_place.0 ∙ ap f (sym e)
+            | inr apart ↦ ap f (earlier i (omega arith)) ∙ b.same i (omega arith)
           ];
           -- no earlier place has its key
           least = λ i j l h. elim (cases_eq i n) [
-            | inl e ↦ let k = first_place.1 j (h ∙ ap f e) in omega (arith, ap (λ j. get_or more j 0) e, now)
-            | inr apart ↦ let k = b.least i j (omega arith) h in omega (arith, before i (omega arith))
+            | inl e ↦ let k = first_place.1 j (h ∙ ap f e) in omega (arith, ap (λ j. get_or more j 0) e, added)
+            | inr apart ↦ let k = b.least i j (omega arith) h in omega (arith, earlier i (omega arith))
           ];
         }

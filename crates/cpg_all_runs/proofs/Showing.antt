@@ -59,7 +59,7 @@ module _ (g : Graph) where
     ]
   ]
 
-  -- given a list that shows the first n scenarios
+  -- given: a list that shows the first n scenarios
   module _ (n : ℕ) (scenarios list : List Scenario) (a : AreFirstExamples g n scenarios list)
       (within : n < length scenarios) where
     -- with the n-th scenario added, the list shows the first n + 1
@@ -82,13 +82,13 @@ module _ (g : Graph) where
       shown = λ i k. elim (cases_eq i n) [
         -- what is shown of the first scenario with the active numbers of scenario n shows scenario n too
         | inl e ↦
-            let first = get_or firsts n 0 in
+            let shown_at = get_or firsts n 0 in
             let up = alike.places.least n n within refl in
-            let w = a.shown first (omega arith) in
+            let w = a.shown shown_at (omega arith) in
             subst (λ j. IsShown g list (scenario_at g scenarios j)) (sym e) (
               w.0,
               w.1,
-              λ d. same_through (get_or list w.0 d) (scenario_at g scenarios first) (scenario_at g scenarios n) (w.2 d)
+              λ d. same_through (get_or list w.0 d) (scenario_at g scenarios shown_at) (scenario_at g scenarios n) (w.2 d)
                   (alike.runs n within),
             )
         | inr apart ↦ a.shown i (omega arith)

@@ -48,6 +48,7 @@ pub record AreStepped (g : Graph) (order : List ℕ) (frozen : List (Option ℕ)
   pub others : (j : ℕ) (s : Scenario) (p : ProgressState) → n ≤ j → j < length list →
       IsAlong g order frozen (get_or list j s) i (get_or found j p)
 
+-- given: a list of scenarios, and a place i of the order
 module _ (g : Graph) (order : List ℕ) (frozen : List (Option ℕ)) (i : ℕ) (list : List Scenario) where
   -- if the n-th progress is replaced by one before the place i + 1, the first n + 1 are found before that
   pub stepped_more : (n : ℕ) (found more : List ProgressState) (q : ProgressState) →

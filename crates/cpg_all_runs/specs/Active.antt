@@ -7,11 +7,11 @@ use Rattle.cpg_base.specs.Scenario.{Scenario, IsScenario, fault_of, number_of_va
 use Rattle.cpg_order.specs.Urgency.{IsTopological}
 use Rattle.cpg_run.specs.Run.{Times, IsRun}
 
--- one more than the fault count of a process if it is active, and 0 otherwise
+-- one more than the fault count of the process p in s if it is active there, and 0 otherwise
 abbrev pub active_fault : Graph → Scenario → ℕ → ℕ
 active_fault g s p = if active g s.values p then fault_of s p + 1 else 0
 
--- 1 if a condition is false and 2 if it is true, or 0 if its process is inactive
+-- 1 if the condition c is false in s and 2 if it is true, or 0 if its process is inactive there
 abbrev pub active_value : Graph → Scenario → ℕ → ℕ
 active_value g s c = if active g s.values (process_of g c) then number_of_value (get_or s.values c false) + 1 else 0
 

@@ -14,8 +14,9 @@ place_in entries numbers = lookup (is_at (λ k. slice_cmp nat_cmp numbers k.item
 abbrev pub with_place : List (Vec ℕ × ℕ) → Vec ℕ → ℕ → List (Vec ℕ × ℕ)
 with_place entries numbers place = insert_entry (λ x y. slice_cmp nat_cmp x.items y.items) entries numbers place
 
--- `place` is that of a list of numbers in the map `old`, which stays as it is; if there is none, it is `at`, and is added
+-- `place` is that of a list of numbers in the map `map_old`, which stays as it is (`map_new`); if there is none, it is `at`,
+-- and is added
 abbrev pub GetsPlace : Vec ℕ → ℕ → List (Vec ℕ × ℕ) → List (Vec ℕ × ℕ) → ℕ → Type 0
-GetsPlace numbers at old new place =
-    ((place_in old numbers.items ≡ Some place) × (new ≡ old))
-    ⊎ ((place_in old numbers.items ≡ None) × (place ≡ at) × (new ≡ with_place old numbers at))
+GetsPlace numbers at map_old map_new place =
+    ((place_in map_old numbers.items ≡ Some place) × (map_new ≡ map_old))
+    ⊎ ((place_in map_old numbers.items ≡ None) × (place ≡ at) × (map_new ≡ with_place map_old numbers at))

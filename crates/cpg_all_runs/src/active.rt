@@ -1,4 +1,5 @@
-//! What is active in a scenario, as a list of numbers.
+//! What is active in a scenario, as a list of numbers: the fault counts of active processes and the values of their
+//! conditions.
 ghost use Rattle.std.specs.Prelude.{◌≡◌, ◌<◌, IfOk, map};
 ghost use Rattle.cpg_base.specs.Numbers.{numbers_below};
 ghost use Rattle.cpg_base.specs.Graph.{process_count, condition_count};
@@ -11,7 +12,7 @@ use cpg_rules::GuardTrees;
 use cpg_run::is_active;
 use std::alloc::Global;
 
-/// Returns one more than the fault count of a process if it is active, and 0 otherwise.
+/// Returns one more than the fault count of a process in a scenario if it is active there, and 0 otherwise.
 fn active_fault(problem: &Problem, guards: &GuardTrees, scenario: &Scenario, process: u32) -> u16
     requires admitted { AreAdmitted problem.now guards.now }
     requires scenario { IsScenario problem.now scenario.now }
@@ -25,7 +26,7 @@ fn active_fault(problem: &Problem, guards: &GuardTrees, scenario: &Scenario, pro
     }
 }
 
-/// Returns 1 if a condition is false and 2 if it is true, or 0 if its process is inactive.
+/// Returns 1 if a condition is false in a scenario and 2 if it is true, or 0 if its process is inactive there.
 fn active_value(problem: &Problem, guards: &GuardTrees, scenario: &Scenario, condition: u32) -> u16
     requires admitted { AreAdmitted problem.now guards.now }
     requires scenario { IsScenario problem.now scenario.now }

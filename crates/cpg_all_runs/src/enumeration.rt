@@ -1,4 +1,4 @@
-//! All scenarios of a graph, one after another.
+//! Lists all scenarios of a graph: first those with faults alone, and then each of them with all values of the conditions.
 ghost use Rattle.std.specs.Prelude.{◌≡◌, ◌<◌, ◌≤◌, ◌++◌, ◌∷◌, [], All, IfOk, length};
 ghost use Rattle.std.specs.List.{flat_map};
 ghost use Rattle.cpg_base.specs.Graph.{process_count, condition_count};
@@ -32,7 +32,7 @@ fn add_faults(
     Ok(())
 }
 
-/// Adds to `scenarios` the scenario as it is, and the one with the condition true.
+/// Adds to `scenarios` the scenario as it is, and the one with the condition true. The condition is false in `scenario`.
 fn add_values(
     condition: u32,
     scenario: &Scenario,
@@ -48,7 +48,7 @@ fn add_values(
     Ok(())
 }
 
-/// Returns each of the scenarios with each fault count of a process, as `add_faults` adds them.
+/// Returns each of the scenarios with each fault count of a process that the faults left by the other processes allow.
 fn spread_faults(
     alloc: Global,
     problem: &Problem,

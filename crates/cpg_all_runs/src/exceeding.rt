@@ -1,4 +1,4 @@
-//! How far ends are past their dues, over all scenarios.
+//! Finds the greatest excess over all scenarios: how far an end is past its due at most.
 ghost use Rattle.std.specs.Prelude.{◌≡◌, ◌≢◌, ◌<◌, ℕ, IfOk, IfSome, IfNone, length, map};
 ghost use Rattle.cpg_base.specs.Graph.{process_count};
 ghost use Rattle.cpg_run.specs.Finish.{excess_of, excess_in_run, IsLeastExceeding};
@@ -12,7 +12,7 @@ use cpg_rules::Admitted;
 use cpg_run::RunTimes;
 use std::alloc::Global;
 
-/// Returns how far the end of a process is past its due: 0 if it ends in time or is inactive.
+/// Returns how far the end of a process in a run is past its due: 0 if it ends in time or is inactive.
 fn excess_of(problem: &Problem, times: &RunTimes, process: u32) -> u64
     requires { process < process_count problem.now }
     ensures { result ≡ excess_of problem.now times.now process }
@@ -33,7 +33,8 @@ fn excess_in_run(problem: &Problem, times: &RunTimes) -> u64
     most
 }
 
-/// Returns the first process whose end is past its due by `excess`, and `None` exactly if there is none.
+/// Returns the first process by number whose end in a run is past its due by `excess`, and `None` exactly if there is none. An
+/// end in time is past its due by 0.
 fn first_exceeding(problem: &Problem, times: &RunTimes, excess: u64) -> Option<u32>
     ensures found { IfSome result (IsFirstExceeding problem.now times.now excess) }
     ensures none { IfNone result ((q : ℕ) → q < process_count problem.now → excess_of problem.now times.now q ≢ excess) }
@@ -46,7 +47,7 @@ fn first_exceeding(problem: &Problem, times: &RunTimes, excess: u64) -> Option<u
     None
 }
 
-/// Returns the first process with the greatest excess of a run, and `None` exactly if no end is past its due.
+/// Returns the first process by number with the greatest excess of a run, and `None` exactly if no end is past its due.
 fn most_exceeding(problem: &Problem, times: &RunTimes) -> Option<u32>
     ensures { IsLeastExceeding problem.now times.now (excess_in_run problem.now times.now) result }
 {
@@ -70,9 +71,9 @@ fn excesses(alloc: Global, problem: &Problem, runs: &[RunTimes]) -> Result<Vec<u
     Ok(numbers)
 }
 
-/// Returns how far an end is past its due at most over all scenarios of a graph, given all of them and the run of each.
-/// The scenario of the peak is the first by the urgency order that has this excess, and its process the first that has it
-/// there, or `None` if the excess is 0.
+/// Returns how far an end is past its due at most over all scenarios of a graph, given all of them and the run of each. The
+/// scenario of the peak is the first by the urgency order that has this excess, and its process the first by number that
+/// has it there, or `None` if the excess is 0.
 pub fn excess(
     alloc: Global,
     admitted: &Admitted,

@@ -69,8 +69,8 @@ fn frozen_items(
     Ok(items)
 }
 
-/// Finds and sets the time of a frozen item of the process at a place. An item that is active in no scenario gets none.
-/// Given are scenarios that show all runs, and what is found of the run of each before the place.
+/// Finds the time of a frozen item of the process at a place, and sets it in `frozen`. An item that is active in no scenario
+/// gets none. `scenarios` show all runs, and `found` has what is found of the run of each before the place.
 fn settle(
     alloc: Global,
     setting: &Setting<'_>,
@@ -100,9 +100,9 @@ fn settle(
     Ok(())
 }
 
-/// Returns the times of the frozen items, as in `frozen_times`, given these items along the order and scenarios that show
-/// all runs. The runs are found along the order together, as far as the place of the last frozen item, and the time of
-/// each frozen item is found at its place.
+/// Returns the times of the frozen items under an order, given these items along the order and scenarios that show all runs.
+/// The time of an item is the greatest that it would have in any scenario if it were not frozen. The runs are found along
+/// the order together, as far as the place of the last frozen item, and the time of each frozen item is found at its place.
 fn sweep(
     alloc: Global,
     setting: &Setting<'_>,

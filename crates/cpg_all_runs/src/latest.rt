@@ -1,4 +1,4 @@
-//! Finds the greatest time of an item over all scenarios.
+//! Finds the greatest time over all scenarios that an item would have if it were not frozen.
 ghost use Rattle.std.specs.Prelude.{◌≡◌, ◌<◌, ℕ, IfOk, None, get_or, length};
 ghost use Rattle.cpg_base.specs.Graph.{process_count, item_count};
 ghost use Rattle.cpg_base.specs.Scenario.{IsScenario};
@@ -15,20 +15,20 @@ use cpg_run::{FrozenTimes, RunProgress, Setting};
 use std::alloc::Global;
 
 /// Returns the later of two times, the one that there is if there is only one, and `None` if there is none.
-fn later(first: Option<u64>, second: Option<u64>) -> Option<u64>
-    ensures { result ≡ later first second }
+fn later(one: Option<u64>, other: Option<u64>) -> Option<u64>
+    ensures { result ≡ later one other }
 {
-    let Some(time) = first else {
-        return second;
+    let Some(time) = one else {
+        return other;
     };
-    match second {
-        Some(other) => Some(time.max(other)),
+    match other {
+        Some(other_time) => Some(time.max(other_time)),
         None => Some(time),
     }
 }
 
-/// Returns the time of an item in a scenario, or `None` if it is inactive there. The item comes from the process at
-/// `place`, and `progress` is what is found of the scenario's run before that place.
+/// Returns the time of an item in the run of a scenario, or `None` if it is inactive there. The item comes from the process
+/// at `place`, and `progress` is what is found of the scenario's run before that place.
 fn time_there(
     alloc: Global,
     setting: &Setting<'_>,
@@ -56,8 +56,8 @@ fn time_there(
 }
 
 /// Returns the greatest time over all scenarios that an item would have if it were not frozen, in time units, or `None`
-/// if it is active in none. Given are scenarios that show all runs, what is found of the run of each before the place of
-/// the item's process, and frozen times that leave the item out.
+/// if it is active in none. `scenarios` show all runs, `found` has what is found of the run of each before `place`, that of
+/// the item's process, and the frozen times leave the item out.
 pub(crate) fn unfrozen_time(
     alloc: Global,
     setting: &Setting<'_>,

@@ -1,4 +1,4 @@
-//! Finds the greatest finish over all scenarios.
+//! Finds the greatest finish over all scenarios, with the first scenario and process that have it.
 ghost use Rattle.std.specs.Prelude.{◌≡◌, ◌≢◌, ◌<◌, ◌↔◌, ℕ, IfOk, IfSome, IfNone, IsTrue, Some, None, get_or, length, map};
 ghost use Rattle.cpg_all_runs.specs.Listing.{AreScenarios};
 ghost use Rattle.cpg_all_runs.specs.Peaks.{IsFirstEnding, IsWorstOfRuns};
@@ -33,7 +33,7 @@ fn finishes(alloc: Global, runs: &[RunTimes]) -> Result<Vec<u64>, OutOfMemory>
     Ok(numbers)
 }
 
-/// Whether a process is active and ends at a time.
+/// Whether a process is active in a run and ends at this time.
 fn ends_at(times: &RunTimes, process: u32, time: u64) -> bool
     ensures { IsTrue result ↔ (get_or times.now.ends process None ≡ Some time) }
 {
@@ -43,7 +43,7 @@ fn ends_at(times: &RunTimes, process: u32, time: u64) -> bool
     }
 }
 
-/// Returns the first of the first `processes` processes that ends at a time, and `None` exactly if none does.
+/// Returns the least process with a number below `processes` that ends at a time, and `None` exactly if none does.
 fn first_ending(times: &RunTimes, processes: u32, time: u64) -> Option<u32>
     ensures found { IfSome result (λ p. IsFirstEnding times.now time p) }
     ensures none { IfNone result ((q : ℕ) → q < processes → get_or times.now.ends q None ≢ Some time) }
@@ -57,8 +57,8 @@ fn first_ending(times: &RunTimes, processes: u32, time: u64) -> Option<u32>
 }
 
 /// Returns the greatest finish over all scenarios of a graph, given all of them and the run of each. The scenario of the
-/// peak is the first by the urgency order that has it, and its process the first that ends then in that scenario, or
-/// `None` if the graph has no process.
+/// peak is the first by the urgency order that has it, and its process the first by number that ends then in that scenario,
+/// or `None` if the graph has no process.
 pub fn worst(
     alloc: Global,
     admitted: &Admitted,

@@ -1,4 +1,4 @@
-//! Finds which scenarios have the same active numbers.
+//! Finds which scenarios have the same active numbers, and so the same runs.
 ghost use Rattle.std.specs.Prelude.{All, IfOk};
 ghost use Rattle.cpg_base.specs.Scenario.{IsScenario};
 ghost use Rattle.cpg_all_runs.specs.FirstAlike.{AreFirstAlike};
@@ -10,7 +10,8 @@ use cpg_rules::Admitted;
 use std::alloc::Global;
 use std::collections::BTreeMap;
 
-/// Returns the place of a list of numbers in the map. If it has none yet, it gets the place `at`.
+/// Returns the place that a list of numbers has in the map. If the list has none yet, it gets the place `at`, which is
+/// returned.
 fn kept_place(
     places: &mut BTreeMap<Vec<u16>, usize>,
     numbers: Vec<u16>,

@@ -18,7 +18,7 @@ use cpg_run::{FrozenTimes, RunTimes, Setting, run_by};
 use std::alloc::Global;
 
 /// Returns the run of the scenario at the place `at` of a list, given the runs of those before it and the place `first` of
-/// one with the same runs.
+/// one with the same runs, which may be `at` itself.
 fn run_at(
     alloc: Global,
     setting: &Setting<'_>,

@@ -29,8 +29,8 @@ fn goes_first(
     is_before(problem, urgency, scenario, other)
 }
 
-/// Returns the place of the greatest of the numbers of scenarios. If several are as great, it is the place of the one
-/// whose scenario comes first in the urgency order.
+/// Returns the place of the greatest of the numbers of scenarios, of which there is at least one. If several are as great, it
+/// is the place of the one whose scenario comes first in the urgency order. `numbers` has the number of each scenario.
 pub(crate) fn first_greatest(
     problem: &Problem,
     urgency: &Order,

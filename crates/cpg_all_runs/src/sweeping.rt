@@ -26,7 +26,8 @@ pub(crate) fn beginnings(
     Ok(found)
 }
 
-/// For each scenario, finds the times of the process at a place and of what it sends.
+/// For each scenario, finds the times of the process at a place and of what it sends. `found` has what is found of the run of
+/// each, before the place and then before the next.
 fn step_each(
     alloc: Global,
     setting: &Setting<'_>,
@@ -49,7 +50,8 @@ fn step_each(
     Ok(())
 }
 
-/// For each scenario, goes on from the place `from` to the place `to`, which isn't before it.
+/// For each scenario, finds its run on from the place `from` up to the place `to`, which isn't before it: then `found` has what
+/// is found of each run before `to`.
 pub(crate) fn advance(
     alloc: Global,
     setting: &Setting<'_>,

@@ -24,13 +24,13 @@ use Rattle.cpg_app.proofs.Named.{work_named}
 use Rattle.cpg_app.proofs.Streamed.{lawful_closed, lawful_stream}
 use Rattle.cpg_app.proofs.Worked.{IsLive}
 
--- what the line of a halt of the work names is there
+-- what the line of halt `h` of the work of command `c` names is there
 pub halt_named : (c : Command) (vs : List Value) (h : Halt) → OrMemory (StopsWork c vs) h → IsNamed h
 halt_named c vs h (inl stops) = work_named c vs h stops
 halt_named c vs h (inr memory) = subst IsNamed (sym memory) tt
 
--- the follower of a node of tables, before its stream, is open with its own head and table, as they are those of the
--- tables
+-- a follower `f` that is a node of tables `t`, before its stream, is open with its own head and table, as they are
+-- those of the tables
 pub is_open : (t : Tables) (name : Text) (f : Follower) → IsFollower t name f → f ≡ open_follower f.head f.table
 is_open t name f is =
     let head = ap (λ (g : Follower). g.head) is.opened in

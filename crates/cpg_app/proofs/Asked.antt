@@ -25,7 +25,8 @@ use Rattle.cpg_app.specs.Endings.{Ran, Has, Prints, Stops}
 
 -- ---- by what was read
 
--- if the files say values that are alike to this graph, a fact of what they say is a fact of a graph that is alike
+-- if the files say values that are alike to the graph `a` alone, a fact `F` of what they say is a fact of a graph `b`
+-- that is alike
 pub on_graph : (a : Admission) (values : List Value) (F : Admission → Type 0) → AllAlike (graph_value a ∷ []) values →
     OnGraph values F →
     (b : Admission) × AreAlike a b × F b
@@ -33,14 +34,14 @@ on_graph a values F alike (b, is, fact) =
     let k : AllAlike (graph_value a ∷ []) (graph_value b ∷ []) = subst (AllAlike (graph_value a ∷ [])) is alike in
     (b, k.0, fact)
 
--- if the files say values that are alike to these tables, a fact of what they say is a fact of these tables
+-- if the files say values that are alike to tables `t` alone, a fact `F` of what they say is a fact of these tables
 pub on_tables : (t : Tables) (values : List Value) (F : Tables → Type 0) → AllAlike (tables_value t ∷ []) values →
     OnTables values F → F t
 on_tables t values F alike (u, is, fact) =
     let k : AllAlike (tables_value t ∷ []) (tables_value u ∷ []) = subst (AllAlike (tables_value t ∷ [])) is alike in
     subst F k.0 fact
 
--- the same for a graph and tables: a fact of a graph that is alike, and of these tables
+-- the same for a graph `a` and tables `t`: a fact of a graph `b` that is alike, and of these tables
 pub on_judged : (a : Admission) (t : Tables) (values : List Value) (F : Admission → Tables → Type 0) →
     AllAlike (graph_value a ∷ tables_value t ∷ []) values → OnJudged values F →
     (b : Admission) ×
@@ -50,7 +51,8 @@ on_judged a t values F alike (b, u, is, fact) =
     subst (AllAlike (graph_value a ∷ tables_value t ∷ [])) is alike in
     (b, k.0, subst (F b) k.1.0 fact)
 
--- the same for a graph, tables and what is played: a fact of a graph that is alike, and of these tables and this play
+-- the same for a graph `a`, tables `t` and what is played, `p`: a fact of a graph `b` that is alike, and of these
+-- tables and this play
 pub on_played : (a : Admission) (t : Tables) (p : Played) (values : List Value)
     (F : Admission → Tables → Played → Type 0) →
     AllAlike (graph_value a ∷ tables_value t ∷ played_value p ∷ []) values →
@@ -61,7 +63,8 @@ on_played a t p values F alike (b, u, q, is, fact) =
     subst (AllAlike (graph_value a ∷ tables_value t ∷ played_value p ∷ [])) is alike in
     (b, k.0, subst (F b t) k.1.1.0 (subst (λ v. F b v q) k.1.0 fact))
 
--- the same for a graph, tables and a log: a fact of a graph that is alike, of these tables and of some log
+-- the same for a graph `a`, tables `t` and a log `l`: a fact of a graph `b` that is alike, of these tables and of some
+-- log `m`
 pub on_logged : (a : Admission) (t : Tables) (l : Log) (values : List Value) (F : Admission → Tables → Log → Type 0) →
     AllAlike (graph_value a ∷ tables_value t ∷ log_value l ∷ []) values →
     OnLogged values F → (b : Admission) × AreAlike a b × ((m : Log) × F b t m)
@@ -75,7 +78,7 @@ on_logged a t l values F alike (b, u, m, is, fact) =
 abbrev part_of : ℕ → Graph → Part
 part_of period problem = record { period = period; problem = problem }
 
--- parts with one period and one graph are equal
+-- parts `p` and `q` with one period and one graph are equal
 same_part : (p q : Part) → p.period ≡ q.period → p.problem ≡ q.problem → p ≡ q
 same_part p q e k = ap₂ part_of e k
 
@@ -104,7 +107,7 @@ module _ (r : Ran) (c : Command) (vs : List Value) (has : Has r c vs) where
   same_command : (d : Command) → command_of r.words ≡ Some d → d ≡ c
   same_command d e = same_Some d c (sym e ∙ has.words)
 
-  -- if the run's files also say other values, these are alike to the first
+  -- if the run's files also say other values `ws`, for a command `d`, these are alike to the first
   alike : (d : Command) (ws : List Value) → Has r d ws → AllAlike vs ws
   alike d ws also = reads_alike None (files_of c) r.shelf.old.history r.shelf.new.history vs ws has.reads
       (subst (λ (k : Command). Reads None (files_of k) r.shelf.old.history r.shelf.new.history ws)
@@ -118,8 +121,8 @@ module _ (r : Ran) (c : Command) (vs : List Value) (has : Has r c vs) where
     subst (λ (k : Command). PutsOut k p.values text) (same_command p.command p.has.words) p.puts,
   )
 
-  -- If the run stops, memory ran out, or the work of c stops, by values that are alike: the words form a command, and
-  -- the files were read.
+  -- If the run stops with halt `h`, memory ran out, or the work of `c` stops, by values `ws` that are alike: the words
+  -- form a command, and the files were read.
   pub stopped_by : (h : Halt) → Stops r h → (h ≡ Memory) ⊎ ((ws : List Value) × AllAlike vs ws × StopsWork c ws h)
   stopped_by h (inl words) =
       elim words.cause [ inl formless ↦ absurd (none-some c (sym formless.1 ∙ has.words)) | inr memory ↦ inl memory ]

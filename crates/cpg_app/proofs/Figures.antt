@@ -59,7 +59,7 @@ compile_fault g urgency (CompileFault.Late s p time) made topological shows =
     absurd (omega (arith, none, some))
 compile_fault g urgency CompileFault.OutOfMemory made topological shows = refl
 
--- the tables of a compilation have the graph's head and are valid
+-- the tables of a compilation `c` have the graph's head and are valid
 pub compiled_valid : (g : Graph) (urgency : List ℕ) (c : Compiled) → IsCompilation g urgency c →
     IsHeadFor g c.built.tables.head × IsValid g c.built.tables.nodes
 compiled_valid g urgency c is = (subst (IsHeadFor g) (sym is.built.head) (own_head g), is.valid)
@@ -70,7 +70,7 @@ is_yes Verdict.Yes = true
 is_yes (Verdict.Other part) = false
 is_yes (Verdict.No fault) = false
 
--- a verdict is yes exactly if the tables have the graph's head and are valid
+-- a verdict `v` that is shown of tables `t` is yes exactly if they have the graph's head and are valid
 pub verdict_is : (g : Graph) (urgency : List ℕ) (t : Tables) (v : Verdict) → AreTablesOf t.head t.nodes →
     ShowsVerdict g urgency t v →
     IsTrue (is_yes v) ↔ (IsHeadFor g t.head × IsValid g t.nodes)
@@ -83,8 +83,8 @@ verdict_is g urgency t (Verdict.No fault) lawful shows = (
       (faulty_tables g t.nodes urgency fault (lawful.count ∙ ap (λ nodes. length nodes) both.0.nodes) shows.1 both.1),
 )
 
--- A play that a number drives from the state before the first turns to its end, with its greatest end and its waits, is
--- an ending.
+-- A play of scenario `s` that a number drives from the state before the first turns to its end, with its greatest end
+-- and its waits, is an ending.
 pub ending_is : (g : Graph) (tables : List NodeTable) (s : Scenario) (number : ℕ) (old new : Playing)
     (waits finish : ℕ) →
     old ≡ opened g tables (planned_world g s) →
@@ -109,7 +109,7 @@ reaches_worst g formed urgency c is number e ending =
     ending.finish ∙ finish_is g formed c.built.tables.nodes c.order c.built.frozen is.built.exact.times
     (planned_world g c.built.worst_in) worst.lawful run.0 run.1 ending.cluster ending.whole ∙ run.2
 
--- if the figures are those of the generated graph and its tables, they are those of the trial
+-- if the figures `r` are those of the generated graph of `a` and of its compilation `c`, they are those of the trial
 pub trial_is : (number : ℕ) (a : Admission) (c : Compiled) → a.graph ≡ generated number →
     IsAdmitted a.graph a.order a.guards → IsCompilation a.graph a.order c →
     (r : Result Trial OutOfMemory) →

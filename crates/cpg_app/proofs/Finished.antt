@@ -27,8 +27,8 @@ use Rattle.cpg_app.proofs.Written.{stopped}
 of_whole : (f : File) (fetch : Fetch) → IsWhole f fetch → IsFetchOf f fetch
 of_whole f fetch w = record { named = w.named }
 
--- If a file stops a run, but not by a fault of the shelf, memory may have run out at the same fetch instead. By why it
--- stops.
+-- If file `f` stops a run with halt `h`, but not by a fault of the shelf, memory may have run out at the same fetch
+-- instead. By why it stops.
 wants_too : (g : Option Graph) (f : File) (fetch : Fetch) (h : Halt) → h ≢ Read → StopsAt g f fetch h →
     IsWanting f fetch Memory
 wants_too g f fetch h other (inl unread) = absurd (other unread.halt_is)
@@ -44,7 +44,8 @@ wants_too g f fetch h other (inr (inr (inl refused))) =
 wants_too g f fetch h other (inr (inr (inr wanting))) =
     record { of = wanting.of; sound = wanting.sound; few = wanting.few; halt_is = refl }
 
--- where the reading of files stops, but not by a fault of the shelf, it may have stopped as memory ran out
+-- where the reading of files stops with halt `h`, but not by a fault of the shelf, it may have stopped as memory ran
+-- out
 files_memory : (g : Option Graph) (files : List File) (past now : List Fetch) (h : Halt) → h ≢ Read →
     StopsReading g files past now h →
     StopsReading g files past now Memory

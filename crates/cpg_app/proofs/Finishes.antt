@@ -36,11 +36,11 @@ module _ (g : Graph) (formed : WellFormed g) (tables : List NodeTable) (order : 
   abbrev end_at : ℕ → ℕ → ℕ
   end_at p start = start + duration g p (fault_of w.scenario p)
 
-  -- the same with the report, as a play notes it
+  -- the end of process `p` if it starts at this time, with its report, as a play notes it
   abbrev planned_end : ℕ → ℕ → ℕ × Ended
   planned_end p start = (end_at p start, ended_in g w.scenario p)
 
-  -- a process that has a start has the end of this start
+  -- if process `p` has a start in `o`, it has the end of this start
   ended_at : (p : ℕ) (o : Option ℕ) (start : ℕ) → Contains (option_to_list o) start →
       option_map (end_at p) o ≡ Some (end_at p start)
   ended_at p None start m = absurd (Contains-nil start m)
@@ -54,13 +54,13 @@ module _ (g : Graph) (formed : WellFormed g) (tables : List NodeTable) (order : 
   value_or d (Some n) = n
   value_or d None = d
 
-  -- a process with an end has a start that it comes from
+  -- if a process `p` with its start in `o` has an end `x`, there is a start that it comes from
   started_at : (p : ℕ) (o : Option ℕ) (x : ℕ) → option_map (end_at p) o ≡ Some x →
       (start : ℕ) × Contains (option_to_list o) start × (end_at p start ≡ x)
   started_at p None x e = absurd (none-some x e)
   started_at p (Some start) x e = (start, Contains-first start [], ap (value_or 0) e)
 
-  -- what is in the list of an option is its value
+  -- an `x` in the list of option `o` is its value
   some_of : (o : Option ℕ) (x : ℕ) → Contains (option_to_list o) x → o ≡ Some x
   some_of None x k = absurd (Contains-nil x k)
   some_of (Some y) x k = elim (Contains-cases y [] x k) [ inl e ↦ ap Some e | inr m ↦ absurd (Contains-nil x m) ]
@@ -73,15 +73,18 @@ module _ (g : Graph) (formed : WellFormed g) (tables : List NodeTable) (order : 
   -- this node and its start, which is that of the run.
   of_play : (x : ℕ) → Contains times x → Contains (flat_map option_to_list t.ends) x
   of_play x m =
+      -- the node whose list has it, and the report there
       let at_node = Contains-flat_map_parts (end_times c.ends) (numbers_below (length g.nodes)) x m in
       let node = at_node.0 in
       let l = numbers-Contains (length g.nodes) node at_node.1 in
       let told = Contains-map_parts (λ (e : ℕ × Ended). e.0) (get_or c.ends node []) x at_node.2 in
+      -- the tables ask for this end: by a process of the node and its start
       let asked = Contains-permutation (get_or c.ends node []) (ends_asked g tables w.scenario node) told.0
       (IsPermutation-sym (ends_asked g tables w.scenario node) (get_or c.ends node []) (whole.ends node l).all)
       told.1 in
       let of_process = Contains-flat_map_parts (λ p. map (planned_end p) (at tables p w.scenario))
       (processes_on g node) told.0 asked in
+      -- that process, and its start in the run
       let p = of_process.0 in
       let below = numbers-Contains (process_count g) p
       (Contains-filter_parts (λ p. node_of g p == node) (numbers_below (process_count g)) p of_process.1).0 in
@@ -90,6 +93,7 @@ module _ (g : Graph) (formed : WellFormed g) (tables : List NodeTable) (order : 
       subst (λ ss. Contains ss started.0) (starts_of p) started.1 in
       let time : end_at p started.0 ≡ x = ap (λ (e : ℕ × Ended). e.0) started.2 ∙ told.2 in
       let ends : end_by g w.scenario t p ≡ Some x = ended_at p (get_or t.times p None) started.0 there ∙ ap Some time in
+      -- so the end is among those of the run
       Contains-flat_map option_to_list t.ends (Some x) x
       (subst (Contains t.ends) ends
       (subst (λ (es : List (Option ℕ)). Contains es (end_by g w.scenario t p)) (sym run.ends)
@@ -101,23 +105,27 @@ module _ (g : Graph) (formed : WellFormed g) (tables : List NodeTable) (order : 
   -- this end on the process's node, which has reached all its planned ends.
   of_run : (x : ℕ) → Contains (flat_map option_to_list t.ends) x → Contains times x
   of_run x m =
+      -- the process whose end it is
       let one = Contains-flat_map_parts option_to_list t.ends x m in
       let is_end : one.0 ≡ Some x = some_of one.0 x one.2 in
       let of_process = Contains-map_parts (end_by g w.scenario t) (numbers_below (process_count g)) one.0
       (subst (λ (es : List (Option ℕ)). Contains es one.0) run.ends one.1) in
       let p = of_process.0 in
       let below = numbers-Contains (process_count g) p of_process.1 in
+      -- its node, and the start that the end comes from
       let node = node_of g p in
       let l = formed.nodes p below in
       let started = started_at p (get_or t.times p None) x (of_process.2 ∙ is_end) in
       let there : Contains (at tables p w.scenario) started.0 =
       subst (λ ss. Contains ss started.0) (sym (starts_of p)) started.1 in
+      -- the tables ask for this end on the node
       let on : Contains (processes_on g node) p = Contains-filter (λ p. node_of g p == node)
       (numbers_below (process_count g)) p (eq-eqb node node refl) of_process.1 in
       let asked : Contains (ends_asked g tables w.scenario node) (planned_end p started.0) =
       Contains-flat_map (λ p. map (planned_end p) (at tables p w.scenario)) (processes_on g node) p
       (planned_end p started.0) on
       (Contains-map (planned_end p) (at tables p w.scenario) started.0 there) in
+      -- the node has reached it
       let told = Contains-permutation (ends_asked g tables w.scenario node) (get_or c.ends node [])
       (planned_end p started.0) (whole.ends node l).all asked in
       Contains-flat_map (end_times c.ends) (numbers_below (length g.nodes)) node x

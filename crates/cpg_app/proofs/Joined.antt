@@ -52,7 +52,7 @@ use Rattle.cpg_app.proofs.Streamed.{is_live, other_words}
 put_out : (r : Ran) (bytes text : Text) → Whole r.out bytes → Whole r.out text → bytes ≡ text
 put_out r bytes text wrote took = append_cancel_left r.out.old bytes text (sym wrote.taken ∙ took.taken)
 
--- bytes that are made of one admission of a graph are made of another that is alike
+-- bytes that are made of one admission `b` of a graph are made of another, `a`, that is alike
 made_again : (a b : Admission) → AreAlike a b → (spell : Graph → Compiled → Text) (bytes : Text) →
     IsMadeOf b spell bytes →
     IsMadeOf a spell bytes
@@ -65,9 +65,12 @@ made_again a b same spell bytes made =
 
 -- the graph is admitted, and the bytes are those that `spell` gives for one of its compilations
 pub record IsOutputFor (spell : Graph → Compiled → Text) (g : Graph) (made : Text) : Type 0 where
+  -- an admission of this graph
   pub admission : Admission
   pub of : admission.graph ≡ g
+  -- its order and guards are those that admission gives
   pub admitted : IsAdmitted admission.graph admission.order admission.guards
+  -- the bytes are made of it
   pub made_of : IsMadeOf admission spell made
 
 -- What a command wrote for a graph is its output for it, given that the command puts out what `spell` gives for a
@@ -106,7 +109,7 @@ pack_of = output_of Compile packed_of (λ graph text vs puts. puts) (λ graph. r
 
 -- ---- names of nodes
 
--- if some element passes a test, there is a first that does
+-- if the element at place `i` of `xs` passes test `p`, there is a first place `j` whose element does
 found : {X : Type 0} (p : X → Bool) (xs : List X) (i : ℕ) (d : X) → i < length xs → p (get_or xs i d) ≡ true →
     (j : ℕ) × (position p xs ≡ Some j)
 found p xs i d l passes = elim (cases_lt (position_or_len p xs) (length xs)) [
@@ -141,8 +144,8 @@ module _ (g : Graph) (pack : Text) (is : IsOutputFor packed_of g pack) where
   head_is : IsHeadFor is.admission.graph tables.head
   head_is = subst (IsHeadFor is.admission.graph) (sym is.made_of.pack.head) (own_head is.admission.graph)
 
-  -- A run that asks to judge the pack for its graph ends well: the tables are those that were packed, which have the
-  -- graph's head and are valid.
+  -- A run `r` that asks to judge the pack for its graph ends well: the tables `t` are those that were packed, which
+  -- have the graph's head and are valid.
   judged : (r : Ran) (a : Admission) (t : Tables) → IsLawful r → a.graph ≡ g → pack ≡ spelling t → AsksVerdict r a t →
       EndsWell r
   judged r a t lawful of e asks =
@@ -153,8 +156,8 @@ module _ (g : Graph) (pack : Text) (is : IsOutputFor packed_of g pack) where
       (subst (λ h. IsValid h t.nodes) graph
       (subst (λ (u : Tables). IsValid is.admission.graph u.nodes) same is.made_of.safe.valid))
 
-  -- A run that asks for the table of one of the graph's nodes ends well: the tables have the graph's nodes, so one is
-  -- the first that has the name.
+  -- A run `r` that asks for the table of one of the graph's nodes ends well: the tables `t` have the graph's nodes, so
+  -- one is the first that has the name.
   taken : (r : Ran) (path : Text) (t : Tables) (node : ℕ) → IsLawful r → pack ≡ spelling t → node < length g.nodes →
       Asks r (Node path (get_or g.nodes node [])) (tables_value t ∷ []) → EndsWell r
   taken r path t node lawful e l asks =
@@ -167,7 +170,7 @@ module _ (g : Graph) (pack : Text) (is : IsOutputFor packed_of g pack) where
       lawful.named path (get_or g.nodes node []) t named.0 asks
       (subst (λ (ns : List Text). first_named t.head (get_or ns node []) ≡ Some named.0) nodes named.1)
 
-  -- a fetch that gave the whole pack is read as its tables, whatever graph was read before
+  -- a fetch that gave the whole pack is read as its tables `t`, whatever graph `o` was read before
   read : (o : Option Graph) (fetch : Fetch) → GaveAll fetch pack →
       (t : Tables) × IsRead o (file PackFile fetch.name) fetch (tables_value t) × (pack ≡ spelling t)
   read o fetch gave =
@@ -201,7 +204,7 @@ packs_are_taken r g pack has = let is = pack_of r g pack has in record {
 
 -- ---- what is shown and what is packed ask the same
 
--- two admissions of one graph are alike, as it has one urgency order
+-- two admissions `a` and `b` of one graph are alike, as it has one urgency order
 alike : (g : Graph) (a b : Admission) → a.graph ≡ g → b.graph ≡ g → IsAdmitted a.graph a.order a.guards →
     IsAdmitted b.graph b.order b.guards → AreAlike a b
 alike g a b e f x y =

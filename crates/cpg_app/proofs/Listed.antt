@@ -8,7 +8,7 @@ use Rattle.cpg_head.specs.GraphHead.{head_of}
 use Rattle.cpg_table.specs.Lawful.{AreTablesOf}
 use Rattle.cpg_codec.specs.Packs.{AreLawful, IsPackHead}
 use Rattle.cpg_codec.proofs.Lengths.{all_short}
-use Rattle.cpg_expand.specs.declared.built_rows.BuiltRows.{BuiltRows}
+use Rattle.cpg_core.specs.declared.built_rows.BuiltRows.{BuiltRows}
 use Rattle.cpg_core.specs.Compilation.{AreCompiledRows, IsCompilation, compiled_of}
 use Rattle.cpg_core.specs.declared.compiling.Compiled.{Compiled}
 use Rattle.cpg_packing.proofs.Spelled.{spelled}

@@ -35,7 +35,7 @@ use Rattle.cpg_inputs.specs.Reading.{StopsAt, StopsReading}
 use Rattle.cpg_app.specs.Halts.{halt_of_compile}
 use Rattle.cpg_app.specs.Causes.{IsUncompiled, StopsVerdict, StopsWork}
 
--- a scenario of a graph has as many values and counts as the graph
+-- a scenario `s` of a graph has as many values and counts as the graph
 room_of : (g : Graph) (s : Scenario) → IsScenario g s → HasRoom g s
 room_of g s is = record { values = is.values; faults = is.faults }
 
@@ -65,7 +65,7 @@ of_compile a (CompileFault.TooWide x) shows = shows.0.wide.within
 of_compile a (CompileFault.Late s p time) shows = room_of a.graph s shows.1.is_excess.least.lawful
 of_compile a CompileFault.OutOfMemory shows = tt
 
--- equal halts name the same
+-- equal halts `h` and `k` name the same
 named_as : (h k : Halt) → h ≡ k → IsNamed k → IsNamed h
 named_as h k e n = subst IsNamed (sym e) n
 
@@ -82,7 +82,7 @@ of_scenario : (fault : ScenarioFault) → IsNamed (halt_of_scenario fault)
 of_scenario (ScenarioFault.Bad cause) = tt
 of_scenario ScenarioFault.OutOfMemory = tt
 
--- a refusal of a file's bytes names only things that are there
+-- a halt `h` by which the bytes of a file of kind `k` are rejected names only things that are there
 bytes_named : (g : Option Graph) (k : FileKind) (bytes : Text) (h : Halt) → Refuses g k bytes h → IsNamed h
 bytes_named g GraphFile bytes h (inl faulty) = named_as h _ faulty.halt_is (of_reading faulty.fault)
 bytes_named g GraphFile bytes h (inr none) = let b = none.breaks in
@@ -94,14 +94,14 @@ bytes_named (Some g) LogFile bytes h none = named_as h _ none.halt_is tt
 bytes_named None ScenarioFile bytes h none = absurd none
 bytes_named None LogFile bytes h none = absurd none
 
--- whatever stops the reading of a file names only things that are there
+-- whatever halt `h` stops the reading of file `f` names only things that are there
 file_named : (g : Option Graph) (f : File) (fetch : Fetch) (h : Halt) → StopsAt g f fetch h → IsNamed h
 file_named g f fetch h (inl unread) = named_as h Read unread.halt_is tt
 file_named g f fetch h (inr (inl long)) = named_as h _ long.halt_is (long_named f.kind)
 file_named g f fetch h (inr (inr (inl refused))) = bytes_named g f.kind fetch.given h refused.refuses
 file_named g f fetch h (inr (inr (inr wanting))) = named_as h Memory wanting.halt_is tt
 
--- a halt while files are read names only things that are there
+-- a halt `h` while files are read names only things that are there
 pub files_named : (g : Option Graph) (files : List File) (past now : List Fetch) (h : Halt) →
     StopsReading g files past now h → IsNamed h
 files_named g [] past now h s = absurd s
@@ -109,12 +109,12 @@ files_named g (f ∷ fs) past now h (fetch, inl here) = file_named g f fetch h h
 files_named g (f ∷ fs) past now h (fetch, inr (v, read, there)) =
     files_named (graph_after g v) fs (fetch ∷ past) now h there
 
--- what leaves a graph without tables names only things that are there
+-- a halt `h` that leaves a graph without tables names only things that are there
 compile_named : (a : Admission) (h : Halt) → IsUncompiled a h → IsNamed h
 compile_named a h wrong = named_as h _ wrong.halt_is (of_compile a wrong.fault wrong.shows)
 
--- The first violation of tables names only things that are there. By whether it breaks a rule of columns, V1 to V9, or
--- V10.
+-- The first violation `f` of tables `t` names only things that are there. By whether it breaks a rule of columns, V1 to
+-- V9, or V10.
 fault_named : (a : Admission) (t : Tables) (f : Fault) → IsFirstFault a.graph a.order t.nodes f → IsNamed (Unsafe a f)
 fault_named a t f (inl broken) =
     let shown = first_broken a.graph a.order t.nodes f column_rules broken in
@@ -125,7 +125,7 @@ fault_named a t f (inr heard) = (
   subst (HasRoom a.graph) (sym heard.1.scenario) (room_of a.graph (zero_scenario a.graph) (zero_lawful a.graph)),
 )
 
--- what stops a verdict names only things that are there
+-- a halt `h` that stops the verdict on tables `t` names only things that are there
 verdict_named : (a : Admission) (t : Tables) (h : Halt) → StopsVerdict a t h → IsNamed h
 verdict_named a t h (inl other) = named_as h _ other.halt_is tt
 verdict_named a t h (inr broken) = named_as h _ broken.halt_is (fault_named a t broken.fault broken.first)
@@ -141,7 +141,7 @@ of_parts (HyperFault.LongName p) = tt
 of_parts (HyperFault.Order p) = tt
 of_parts HyperFault.OutOfMemory = tt
 
--- a halt of a command's work names only things that are there
+-- a halt `h` of the work of command `c` names only things that are there
 pub work_named : (c : Command) (vs : List Value) (h : Halt) → StopsWork c vs h → IsNamed h
 work_named (Show graph) vs h (a, is, wrong) = compile_named a h wrong
 work_named (Compile graph) vs h (a, is, wrong) = compile_named a h wrong

@@ -24,7 +24,7 @@ valid_are_safe g formed nodes shape valid = record {
   planned = valid_tables_end_as_planned g nodes formed shape valid;
 }
 
--- the tables that a compile makes are safe
+-- the tables that a compile makes, those of compilation `c`, are safe
 pub compilations_are_safe : (g : Graph) → WellFormed g → (urgency : List ℕ) (c : Compiled) → IsCompilation g urgency c →
     AreSafe g c.built.tables.nodes
 compilations_are_safe g formed urgency c is = valid_are_safe g formed c.built.tables.nodes is.built.shape is.valid

@@ -54,11 +54,11 @@ use Rattle.cpg_app.proofs.Unrolled.{not_both}
 
 -- ---- a stream isn't fetched
 
--- a history with one fetch more isn't the same history with two more
+-- a history with one fetch `f` more isn't the same history with two more, `e` and `d`
 one_is_two : (f e d : Fetch) (past : List Fetch) → f ∷ past ≡ e ∷ d ∷ past → ⊥
 one_is_two f e d past is = let l = ap length is in omega (arith, l)
 
--- a history isn't itself with two fetches more
+-- a history isn't itself with two fetches more, `e` and `d`
 none_is_two : (e d : Fetch) (past : List Fetch) → past ≡ e ∷ d ∷ past → ⊥
 none_is_two e d past is = let l = ap length is in omega (arith, l)
 
@@ -66,7 +66,8 @@ none_is_two e d past is = let l = ap length is in omega (arith, l)
 module _ (r : Ran) where
   -- ---- what is told of an admitted graph, and of tables
 
-  -- what a run that asks for a graph's tables prints is made of an admission that is alike, as a text or as a pack
+  -- what a run that asks for the tables of admission `a` prints is made of an admission `b` that is alike, as a text or
+  -- as a pack
   made_here : (a : Admission) → AsksForTables r a → (text : Text) → Prints r text →
       (spell : Graph → Compiled → Text) × (b : Admission) × AreAlike a b × IsMadeOf b spell text
   made_here a (graph, inl asks) text p = let q = printed r _ _ asks.has text p in
@@ -101,7 +102,8 @@ module _ (r : Ran) where
   tables_faultless a (graph, inl asks) = asks.faultless
   tables_faultless a (graph, inr asks) = asks.faultless
 
-  -- if a run that asks for a graph's tables stops, memory ran out, or the graph is late or too wide
+  -- if a run that asks for the tables of admission `a` stops with halt `h`, memory ran out, or the graph is late or too
+  -- wide
   tables_left : (a : Admission) → AsksForTables r a → (h : Halt) → Stops r h → CompileLeft a h
   tables_left a (graph, inl asks) h stops = elim (stopped_by r _ _ asks.has h stops) [
     | inl memory ↦ inl (ap status_of memory)
@@ -112,13 +114,13 @@ module _ (r : Ran) where
     | inr q ↦ let k = on_graph a q.0 (λ b. IsUncompiled b h) q.1 q.2 in compile_left a k.0 k.1 h k.2
   ]
 
-  -- a run that asks for a verdict is one whose shelf and sinks meet no fault
+  -- a run that asks for a verdict on tables `t` is one whose shelf and sinks meet no fault
   check_faultless : (a : Admission) (t : Tables) → AsksVerdict r a t → IsFaultless r
   check_faultless a t (graph, pack, inl asks) = asks.faultless
   check_faultless a t (graph, pack, inr (inl play)) = play.asks.faultless
   check_faultless a t (graph, pack, inr (inr audit)) = audit.asks.faultless
 
-  -- the tables that a run is asked to judge are lawful
+  -- the tables `t` that a run is asked to judge are lawful
   pub tables_lawful : (a : Admission) (t : Tables) → AsksVerdict r a t → AreLawful t
   tables_lawful a t (graph, pack, inl asks) = (values_lawful None (files_of (Check graph pack)) r.shelf.old.history
       r.shelf.new.history (graph_value a ∷ tables_value t ∷ []) asks.has.reads).1.0
@@ -129,7 +131,7 @@ module _ (r : Ran) where
       (values_lawful None (files_of (Audit graph pack audit.path)) r.shelf.old.history r.shelf.new.history
       (graph_value a ∷ tables_value t ∷ log_value audit.log ∷ []) audit.asks.has.reads).1.0
 
-  -- if a run that asks to judge tables has an output, they have the graph's head and are valid
+  -- if a run that asks to judge tables `t` has an output, they have the graph's head and are valid
   judged_here : (a : Admission) (t : Tables) → AsksVerdict r a t → (text : Text) → Prints r text →
       IsHeadFor a.graph t.head × IsValid a.graph t.nodes
   judged_here a t (graph, pack, inl asks) text p =
@@ -144,7 +146,8 @@ module _ (r : Ran) where
       let lawful : AreLawful t = tables_lawful a t (graph, pack, inr (inr audit)) in
       judged_is a k.0 k.1 t lawful k.2.1.judged
 
-  -- if a run that asks to judge tables stops, memory ran out, or they are another graph's, or they aren't valid
+  -- if a run that asks to judge tables `t` stops with halt `h`, memory ran out, or they are another graph's, or they
+  -- aren't valid
   verdict_left : (a : Admission) (t : Tables) → AsksVerdict r a t → (h : Halt) → Stops r h →
       (h ≡ Memory) ⊎ CheckLeft a t h
   verdict_left a t (graph, pack, inl asks) h stops = elim (stopped_by r _ _ asks.has h stops) [
@@ -176,7 +179,7 @@ module _ (r : Ran) where
   no_output f text p = subst (λ (k : Command). PutsOut k p.values text)
       (same_Some p.command (Live f.pack f.name f.stream) (sym p.has.words ∙ f.words)) p.puts
 
-  -- a run that follows a stream hasn't read one pack alone: it has made two fetches
+  -- a run that follows a stream (`f`) hasn't read one pack alone: it has made two fetches
   read_one : (f : Follows r) (name : Text) (vs : List Value) →
       Reads None (file PackFile name ∷ []) r.shelf.old.history r.shelf.new.history vs → ⊥
   read_one f name [] reads = reads
@@ -187,14 +190,14 @@ module _ (r : Ran) where
   pub one_file : (f : Follows r) {pack name stream : Text} (vs : List Value) → Has r (Live pack name stream) vs → ⊥
   one_file f {pack = pack} vs has = read_one f pack vs has.reads
 
-  -- a run that follows a stream isn't stopped by its pack, as it has fetched the stream too
+  -- a run that follows a stream (`f`) isn't stopped by its pack, as it has fetched the stream too
   one_stop : (f : Follows r) (h : Halt) →
       StopsReading None (files_of (Live f.pack f.name f.stream)) r.shelf.old.history r.shelf.new.history h → ⊥
   one_stop f h (fetch, inl here) = one_is_two fetch f.fetch f.read r.shelf.old.history (sym here.1 ∙ f.history)
   one_stop f h (fetch, inr there) = there.2
 
-  -- A run that follows a stream doesn't stop before: not in its words, as something was fetched, nor by its pack, nor
-  -- after its pack alone was read.
+  -- A run that follows a stream (`f`) doesn't stop before with a halt `h`: not in its words, as something was fetched,
+  -- nor by its pack, nor after its pack alone was read.
   no_stop : (f : Follows r) (h : Halt) → Stops r h → ⊥
   no_stop f h (inl words) = none_is_two f.fetch f.read r.shelf.old.history (sym words.unread ∙ f.history)
   no_stop f h (inr (inl files)) = one_stop f h
@@ -233,7 +236,8 @@ module _ (r : Ran) where
     with_safe : IsFaultless r → (r.status ≡ 0) ⊎ (r.status ≡ 8)
     with_safe faultless = elim with.ending [ inl p ↦ inl p.status | inr c ↦ absurd (faultless.out c.out.rose) ]
 
-    -- if tables are printed, no item of a graph without a given order is too wide under its first order
+    -- if the tables of a graph without a given order are asked for, and an item `x` is too wide under its first order,
+    -- the run ends with 6, or memory ran out (8)
     with_wide : (a : Admission) (x : ℕ) → AsksForTables r a → a.graph.order ≡ None →
         IsWide a.graph (first_order a.graph a.order) x →
         (r.status ≡ 6) ⊎ (r.status ≡ 8)
@@ -412,7 +416,7 @@ module _ (r : Ran) where
         let is = refused_of halt (status_at 4 four (λ e. omega arith)) in
         (is.0, subst (Stops r) is.1 by.stops, subst (IsTold r) is.1 (told_at 4 four (λ e. omega arith)))
 
-    -- with status 5 the run stops as a process is late
+    -- with status 5 the run stops as a process `p` is late in a scenario `s`, and ends at `finish` there
     by_tardy : r.status ≡ 5 →
         (a : Admission) × (s : Scenario) × (p : ℕ) × (finish : ℕ) × Stops r (Late a s p finish) ×
         IsTold r (Late a s p finish)
@@ -426,7 +430,7 @@ module _ (r : Ran) where
           subst (IsTold r) is.4 (told_at 5 five (λ e. omega arith)),
         )
 
-    -- with status 6 the run stops as an item is too wide
+    -- with status 6 the run stops as an item `x` is too wide
     by_width : r.status ≡ 6 → (a : Admission) × (x : ℕ) × Stops r (TooWide a x) × IsTold r (TooWide a x)
     by_width six =
         let is = wide_of halt (status_at 6 six (λ e. omega arith)) in

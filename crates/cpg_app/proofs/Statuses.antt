@@ -51,7 +51,7 @@ read_of (TooWide a x) e = absurd (omega arith)
 read_of (Unsafe a f) e = absurd (omega arith)
 read_of Memory e = absurd (omega arith)
 
--- the status 4 is that of a refusal
+-- a halt `h` with status 4 is that of a refusal `r`
 pub refused_of : (h : Halt) → status_of h ≡ 4 → (r : Refusal) × (h ≡ Refused r)
 refused_of Words four = absurd (omega arith)
 refused_of Read four = absurd (omega arith)
@@ -61,7 +61,7 @@ refused_of (TooWide a x) four = absurd (omega arith)
 refused_of (Unsafe a f) four = absurd (omega arith)
 refused_of Memory four = absurd (omega arith)
 
--- the status 5 is that of a late process
+-- a halt `h` with status 5 is that of a process `p` that is late in a scenario `s`
 pub late_of : (h : Halt) → status_of h ≡ 5 →
     (a : Admission) × (s : Scenario) × (p : ℕ) × (finish : ℕ) × (h ≡ Late a s p finish)
 late_of Words five = absurd (omega arith)
@@ -72,7 +72,7 @@ late_of (TooWide a x) five = absurd (omega arith)
 late_of (Unsafe a f) five = absurd (omega arith)
 late_of Memory five = absurd (omega arith)
 
--- the status 6 is that of an item that is too wide
+-- a halt `h` with status 6 is that of an item `x` that is too wide
 pub wide_of : (h : Halt) → status_of h ≡ 6 → (a : Admission) × (x : ℕ) × (h ≡ TooWide a x)
 wide_of Words six = absurd (omega arith)
 wide_of Read six = absurd (omega arith)
@@ -82,7 +82,7 @@ wide_of (TooWide a x) six = (a, x, refl)
 wide_of (Unsafe a f) six = absurd (omega arith)
 wide_of Memory six = absurd (omega arith)
 
--- the status 7 is that of tables that break a rule
+-- a halt `h` with status 7 is that of tables that break a rule, with a fault `f`
 pub unsafe_of : (h : Halt) → status_of h ≡ 7 → (a : Admission) × (f : Fault) × (h ≡ Unsafe a f)
 unsafe_of Words seven = absurd (omega arith)
 unsafe_of Read seven = absurd (omega arith)
@@ -114,7 +114,7 @@ not_zero Memory e = omega arith
 
 -- ---- what a file stops a run with
 
--- equal halts have one status
+-- equal halts `h` and `k` have one status, so one of `h` is at least 4 if that of `k` is
 as_halt : (h k : Halt) → h ≡ k → 4 ≤ status_of k → 4 ≤ status_of h
 as_halt h k e l = let same = ap status_of e in omega (arith, same, l)
 
@@ -142,7 +142,7 @@ of_scenario : (fault : ScenarioFault) → 4 ≤ status_of (halt_of_scenario faul
 of_scenario (ScenarioFault.Bad cause) = omega arith
 of_scenario ScenarioFault.OutOfMemory = omega arith
 
--- a refusal of a file's bytes has a status from 4 on
+-- a halt `h` by which the bytes of a file of kind `k` are rejected has a status from 4 on
 of_bytes : (g : Option Graph) (k : FileKind) (bytes : Text) (h : Halt) → Refuses g k bytes h → 4 ≤ status_of h
 of_bytes g GraphFile bytes h (inl faulty) = as_halt h _ faulty.halt_is (of_reading faulty.fault)
 of_bytes g GraphFile bytes h (inr none) = let b = none.breaks in as_halt h _ b.halt_is (of_rules none.graph b.fault)
@@ -153,7 +153,7 @@ of_bytes (Some g) LogFile bytes h none = as_halt h _ none.halt_is (omega arith)
 of_bytes None ScenarioFile bytes h none = absurd none
 of_bytes None LogFile bytes h none = absurd none
 
--- a file stops a run as its fetch failed, or with a status from 4 on
+-- file `f` stops a run as its fetch failed, or by a halt `h` with a status from 4 on
 of_file : (g : Option Graph) (f : File) (fetch : Fetch) (h : Halt) → StopsAt g f fetch h →
     ((h ≡ Read) × (fetch.failed ≡ true)) ⊎ (4 ≤ status_of h)
 of_file g f fetch h (inl unread) = inl (unread.halt_is, unread.failed)
@@ -163,12 +163,14 @@ of_file g f fetch h (inr (inr (inr wanting))) = inr (as_halt h _ wanting.halt_is
 
 -- the last fetch failed
 pub record FailsLast (now : List Fetch) : Type 0 where
+  -- the newest fetch, and those before it
   pub fetch : Fetch
   pub past : List Fetch
   pub last : now ≡ fetch ∷ past
+  -- the newest failed
   pub failed : fetch.failed ≡ true
 
--- files stop a run by a fetch that failed, or with a status of at least 4
+-- files stop a run by a fetch that failed, or by a halt `h` with a status of at least 4
 pub of_files : (g : Option Graph) (files : List File) (past now : List Fetch) (h : Halt) →
     StopsReading g files past now h →
     ((h ≡ Read) × FailsLast now) ⊎ (4 ≤ status_of h)
@@ -187,11 +189,11 @@ of_compile a (CompileFault.TooWide x) = omega arith
 of_compile a (CompileFault.Late s p time) = omega arith
 of_compile a CompileFault.OutOfMemory = omega arith
 
--- the halt by which a compile fails has a status from 4 on
+-- the halt `h` by which a compile fails has a status from 4 on
 of_made : (a : Admission) (h : Halt) → IsUncompiled a h → 4 ≤ status_of h
 of_made a h wrong = as_halt h _ wrong.halt_is (of_compile a wrong.fault)
 
--- the halt by which a check stops has a status from 4 on
+-- the halt `h` by which a check of tables `t` stops has a status from 4 on
 of_verdict : (a : Admission) (t : Tables) (h : Halt) → StopsVerdict a t h → 4 ≤ status_of h
 of_verdict a t h (inl other) = as_halt h _ other.halt_is (omega arith)
 of_verdict a t h (inr broken) = as_halt h _ broken.halt_is (omega arith)
@@ -207,7 +209,7 @@ of_parts (HyperFault.LongName p) = omega arith
 of_parts (HyperFault.Order p) = omega arith
 of_parts HyperFault.OutOfMemory = omega arith
 
--- a command's work stops a run with a status of at least 4
+-- the work of command `c` stops a run by a halt `h` with a status of at least 4
 pub of_work : (c : Command) (vs : List Value) (h : Halt) → StopsWork c vs h → 4 ≤ status_of h
 of_work (Show graph) vs h (a, is, wrong) = of_made a h wrong
 of_work (Compile graph) vs h (a, is, wrong) = of_made a h wrong

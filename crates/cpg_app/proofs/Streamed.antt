@@ -56,7 +56,7 @@ module _ (r : Ran) (f : Follows r) where
   not_shown a (graph, inl asks) = other_words (Some (Show graph)) refl asks.has.words
   not_shown a (graph, inr asks) = other_words (Some (Compile graph)) refl asks.has.words
 
-  -- it doesn't ask to judge tables
+  -- it doesn't ask to judge any tables `t`
   not_judged : (a : Admission) (t : Tables) → AsksVerdict r a t → ⊥
   not_judged a t (graph, pack, inl asks) = other_words (Some (Check graph pack)) refl asks.has.words
   not_judged a t (graph, pack, inr (inl play)) =
@@ -115,7 +115,8 @@ module _ (r : Ran) (f g : Follows r) where
   same_end = ap (λ (e : Fetch). stream_end (table_of g) e.given) (sym same_fetch)
       ∙ ap (λ t. stream_end t f.fetch.given) same_table
 
--- if the fetch of the stream didn't fail, no fetch of the run did: that of the pack, which was read, didn't either
+-- if the fetch of the stream that `r` follows didn't fail, no fetch of the run did: that of the pack, which was read,
+-- didn't either
 sound_all : (r : Ran) (f : Follows r) → f.fetch.failed ≡ false → AreSound r.shelf.old.history r.shelf.new.history
 sound_all r f sound =
     let past = f.read ∷ r.shelf.old.history in

@@ -20,7 +20,7 @@ row_named g faults (Late finish) is = tt
 row_named g faults (Wide item) is =
     subst (λ n. item < n) (items_same g (best_parts g) faults (best_parts_of g).one_each) is.answer.wide.within
 
--- if a row of a tuning names an item, it is an item of the graph
+-- if a row of a tuning `t` names an item, it is an item of the graph
 pub rows_named : (g : Graph) (t : Tuning) → IsTuning IsJudged g t → All (IsNamedRow g) t.rows
 rows_named g t is k d l =
     let nine = is.rows.long in

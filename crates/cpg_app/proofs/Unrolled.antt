@@ -12,7 +12,7 @@ use Rattle.cpg_hyper.specs.Refusals.{Exceeds, FailsFirst, HasFewEnough, HasShort
 use Rattle.cpg_hyper.specs.Refusals.{FitsPeriod, GivesNoOrder, ShowsUnrolled}
 use Rattle.cpg_hyper.specs.Unrolled.{first_graph, unrolled}
 
--- if a fact holds of each part, no part is the first of which it doesn't
+-- if a fact `P` holds of each part, no part `p` is the first of which it doesn't
 none_fails : (P : ℕ → Part → Type 0) (parts : List Part) (p : ℕ) → HoldsOfEach P parts → FailsFirst P parts p → ⊥
 none_fails P [] p holds fails = let l = fails.within in omega (arith, l)
 none_fails P (d ∷ parts) p holds fails = fails.fails d (holds p d fails.within)
@@ -26,7 +26,7 @@ enough What.Edges g over few = let l = few.edges in let m = over.1 in omega (ari
 enough (What.Number place) g over few = over
 enough What.Conditions g over few = let l = few.conditions in let m = over.2 in omega (arith, l, m)
 
--- parts have one hyperperiod
+-- parts have one hyperperiod, so `n` and `m` are equal
 one_hyperperiod : (parts : List Part) (n m : ℕ) → IsHyperperiod parts n → IsHyperperiod parts m → n ≡ m
 one_hyperperiod parts n m a b = dvd_antisymm (a.least m b.common) (b.least n a.common)
 

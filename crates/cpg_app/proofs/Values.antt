@@ -9,13 +9,13 @@ use Rattle.cpg_base.specs.Graph.{Graph, process_count, condition_count}
 use Rattle.cpg_base.specs.Scenario.{IsScenario}
 use Rattle.cpg_app.specs.Trial.{true_scenario}
 
--- setting the first of the false values after c true ones gives one true value more; by induction on c
+-- setting the first of `n + 1` false values after `c` true ones gives one true value more; by induction on `c`
 one_true : (c n : ℕ) →
     slice_set (replicate c true ++ replicate (suc n) false) c true ≡ replicate (suc c) true ++ replicate n false
 one_true zero n = refl
 one_true (suc c) n = ap (λ vs. true ∷ vs) (one_true c n)
 
--- setting the next value to true makes one true value more
+-- setting the value after `c` true ones of `vs` to true makes one true value more, in `new`
 pub next_true : (count c : ℕ) (vs new : List Bool) → c < count → vs ≡ replicate c true ++ replicate (count - c) false →
     new ≡ slice_set vs c true →
     new ≡ replicate (c + 1) true ++ replicate (count - (c + 1)) false

@@ -27,12 +27,12 @@ use Rattle.cpg_app.specs.Tunes.{IsTuningText}
 
 -- ---- answers
 
--- if one fact of a value implies another, a result whose value has the first has the second
+-- if `P` of a value implies `Q`, a result `r` whose value has `P` has `Q`
 pub if_ok : {T E : Type 0} {P Q : T → Type 0} (r : Result T E) → ((x : T) → P x → Q x) → IfOk r P → IfOk r Q
 if_ok (Ok x) f p = f x p
 if_ok (Err e) f p = p
 
--- if one fact of an error implies another, a result whose error has the first has the second
+-- if `P` of an error implies `Q`, a result `r` whose error has `P` has `Q`
 pub if_err : {T E : Type 0} {P Q : E → Type 0} (r : Result T E) → ((e : E) → P e → Q e) → IfErr r P → IfErr r Q
 if_err (Ok x) f p = p
 if_err (Err e) f p = f e p
@@ -51,7 +51,7 @@ module _ (c : Command) (vs : List Value) (r : Result Output Halt) where
   known : (d : Command) → c ≡ d → IfOk r (Answers d vs) → IfOk r (Answers c vs)
   known d e = subst (λ k. IfOk r (Answers k vs)) (sym e)
 
-  -- the same as `put_on`, for a result
+  -- if each text of which `P` holds is one of which `Q` holds, an output that `P` holds of is one that `Q` holds of
   puts : {P Q : Text → Type 0} → ((text : Text) → P text → Q text) → IfOk r (λ o. Puts o P) → IfOk r (λ o. Puts o Q)
   puts f = if_ok r (λ o. put_on o f)
 
@@ -195,7 +195,7 @@ IsText (OfNode tables node) = Unit {0}
 IsText (Pack made) = Unit {0}
 IsText (Stream follower path) = ⊥
 
--- an output that is a text opens no follower
+-- an output `o` that is a text opens no follower
 not_opened : (t : Tables) (name stream : Text) (o : Output) → IsText o → Opens t name stream o → ⊥
 not_opened t name stream (Lines text) is opens = opens
 not_opened t name stream (Shown made) is opens = opens
@@ -203,7 +203,7 @@ not_opened t name stream (OfNode tables node) is opens = opens
 not_opened t name stream (Pack made) is opens = opens
 not_opened t name stream (Stream follower path) is opens = is
 
--- an answer that is a text is the output that the command puts out
+-- an answer `o` that is a text is the output that command `c` puts out
 pub text_of : (c : Command) (vs : List Value) (o : Output) → IsText o → Answers c vs o → Puts o (PutsOut c vs)
 text_of (Show graph) vs o is answers = answers
 text_of (Compile graph) vs o is answers = answers
@@ -218,11 +218,14 @@ text_of (Audit graph pack log) vs o is answers = answers
 
 -- the command is `live`, on the stream with this path, and the follower is the node that it names in the tables
 pub record IsLive (c : Command) (vs : List Value) (f : Follower) (path : Text) : Type 0 where
+  -- the paths of the pack and the name of the node that the command gives
   pub pack : Text
   pub name : Text
   pub command : c ≡ Live pack name path
+  -- the tables that the pack says, and nothing else was read
   pub tables : Tables
   pub said : vs ≡ tables_value tables ∷ []
+  -- the follower is the node of this name in them
   pub follower : IsFollower tables name f
 
 -- if a node that is to follow a stream answers a command, the command is `live`, and this is its node; by the command

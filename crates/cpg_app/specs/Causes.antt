@@ -31,7 +31,7 @@ pub record IsUncompiled (a : Admission) (halt : Halt) : Type 0 where
   pub fault : CompileFault
   -- the halt that reports it
   pub halt_is : halt ≡ halt_of_compile a fault
-  -- the graph is late or too wide as the fault says, or memory ran out
+  -- the graph is late or too wide as the fault says; this asks nothing if the fault is that memory ran out
   pub shows : ShowsCompileFault a.graph a.order fault
 
 -- the tables are another graph's, and the halt says the first part of their head that differs

@@ -51,6 +51,7 @@ pub record Ran : Type 0 where
 
 -- the run's words are this command, and its files were read, one after the other, and say these values
 pub record Has (r : Ran) (command : Command) (values : List Value) : Type 0 where
+  -- the words form the command
   pub words : command_of r.words ≡ Some command
   -- the fetches of the files are those between the two histories of the shelf
   pub reads : Reads None (files_of command) r.shelf.old.history r.shelf.new.history values
@@ -110,26 +111,38 @@ pub record Prints (r : Ran) (text : Text) : Type 0 where
 
 -- the output was taken whole, and nothing was written to `err`
 pub record IsPrinted (r : Ran) (text : Text) : Type 0 where
+  -- the status is 0
   pub status : r.status ≡ 0
+  -- `out` took the whole text
   pub out : Whole r.out text
+  -- `err` took nothing
   pub err : Untouched r.err
 
 -- `out` met a fault before it had taken the whole output, and `err` took the line that reports it, whole or in part
 pub record IsCut (r : Ran) (text : Text) : Type 0 where
+  -- the status is that of a fault of a sink
   pub status : r.status ≡ 3
+  -- `out` met a fault before it had taken the whole text
   pub out : Part r.out text
+  -- `err` took the line of a write fault, whole or in part
   pub err : Whole r.err write_fault_line ⊎ Part r.err write_fault_line
 
 -- the line that says why the run stops was taken whole, and nothing was written to `out`
 pub record IsTold (r : Ran) (halt : Halt) : Type 0 where
+  -- the status is the halt's
   pub status : r.status ≡ status_of halt
+  -- `out` took nothing
   pub out : Untouched r.out
+  -- `err` took the whole line
   pub err : Whole r.err (line_of halt)
 
 -- `err` met a fault before it had taken that whole line, and nothing was written to `out`
 pub record IsMuted (r : Ran) (halt : Halt) : Type 0 where
+  -- the status is that of a fault of a sink
   pub status : r.status ≡ 3
+  -- `out` took nothing
   pub out : Untouched r.out
+  -- `err` met a fault before it had taken the whole line
   pub err : Part r.err (line_of halt)
 
 -- a run has this output, and it was taken whole or cut
@@ -175,6 +188,7 @@ pub record EndsAtClose (r : Ran) : Type 0 where
   pub follows : Follows r
   -- `out` took all lines of the stream, up to that of the close
   pub completes : Completes follows.tables.head (table_of follows) (stream_of r follows)
+  -- the run succeeds, and `err` took nothing
   pub status : r.status ≡ 0
   pub err : Untouched r.err
 

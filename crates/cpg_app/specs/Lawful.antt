@@ -65,6 +65,7 @@ pub record AsksPlay (r : Ran) (graph pack : Text) (a : Admission) (t : Tables) :
 pub record AsksAudit (r : Ran) (graph pack : Text) (a : Admission) (t : Tables) : Type 0 where
   -- the file of the log
   pub path : Text
+  -- the log that the file says
   pub log : Log
   pub asks : Asks r (Audit graph pack path) (graph_value a ∷ tables_value t ∷ log_value log ∷ [])
 
@@ -78,6 +79,7 @@ pub record IsFailed (r : Ran) : Type 0 where
   -- the last fetch, and the history before it
   pub fetch : Fetch
   pub past : List Fetch
+  -- it is the newest, and it failed
   pub last : r.shelf.new.history ≡ fetch ∷ past
   pub failed : fetch.failed ≡ true
 
@@ -88,31 +90,37 @@ status_of_end (Err fault) = 4
 
 -- a stream was followed to its close, and the lines of all its records were written
 pub record IsClosedStream (r : Ran) : Type 0 where
+  -- the run follows a stream
   pub follows : Follows r
   -- the lines of all its records, that of the close among them
   pub lines : Text
   pub closed : IsClosed follows.tables.head (table_of follows) follows.fetch lines
+  -- `out` took these lines whole, and `err` nothing
   pub out : Whole r.out lines
   pub err : Untouched r.err
 
 -- the shelf met a fault in a stream, and the lines of the records before it were written
 pub record IsUnreadStream (r : Ran) : Type 0 where
+  -- the run follows a stream
   pub follows : Follows r
   -- the lines of the records before the fault, all of them lawful
   pub lines : Text
   pub lawful : IsLawfulSoFar follows.tables.head (table_of follows) follows.fetch lines
+  -- `out` took these lines whole
   pub out : Whole r.out lines
   -- `err` took the line that says that a file couldn't be read
   pub err : Whole r.err (line_of Read)
 
 -- a stream was rejected, and the lines of the lawful records before the place of the fault were written
 pub record IsRefusedStream (r : Ran) : Type 0 where
+  -- the run follows a stream
   pub follows : Follows r
   -- why it is rejected
   pub fault : StreamFault
   -- the lines of the records before the fault
   pub lines : Text
   pub refused : IsRefused follows.tables.head (table_of follows) follows.fetch fault lines
+  -- `out` took these lines whole
   pub out : Whole r.out lines
   -- `err` took the line that says the fault
   pub err : Whole r.err (fault_line fault)

@@ -6,7 +6,7 @@ use Rattle.cpg_order.specs.Urgency.{IsTopological, first_order}
 use Rattle.cpg_order.proofs.Urgent.{one_urgency_order}
 use Rattle.cpg_tracks.proofs.TrackLaws.{order_of_tracks_topological}
 use Rattle.cpg_core.specs.declared.compiling.Compiled.{Compiled}
-use Rattle.cpg_expand.specs.Measured.{IsMeasured}
+use Rattle.cpg_core.specs.Measured.{IsMeasured}
 use Rattle.cpg_core.specs.Compilation.{IsCompilation}
 use Rattle.cpg_core.proofs.Compilations.{measured}
 use Rattle.cpg_core.proofs.CompiledLaws.{first_topological, one_measure, one_shown, one_compiled, one_wide}

@@ -21,7 +21,7 @@ use Rattle.cpg_hyper.specs.declared.part.Part.{Part}
 use Rattle.cpg_hyper.specs.Refusals.{ShowsUnrolled}
 use Rattle.cpg_scenario.specs.Text.{scenario_text}
 use Rattle.cpg_scenario.specs.declared.reading.Played.{Played}
-use Rattle.cpg_expand.specs.declared.built_rows.BuiltRows.{BuiltRows}
+use Rattle.cpg_core.specs.declared.built_rows.BuiltRows.{BuiltRows}
 use Rattle.cpg_core.specs.declared.compiling.Compiled.{Compiled}
 use Rattle.cpg_core.specs.Compilation.{IsCompilation}
 use Rattle.cpg_cluster.specs.Correct.{IsCorrect, IsLively, IsSteady, EndsAsPlanned}
@@ -75,14 +75,16 @@ pub record IsMadeOf (a : Admission) (spell : Graph → Compiled → Text) (bytes
   pub compilation : IsCompilation a.graph a.order compiled
   -- its tables can be written as a pack and read again
   pub pack : ArePackOf a.graph compiled.built.tables
+  -- they are safe
   pub safe : AreSafe a.graph compiled.built.tables.nodes
+  -- the bytes are those that `spell` gives for it
   pub spelled : bytes ≡ spell a.graph compiled
 
 -- the text of a compilation's tables
 abbrev pub shown : Graph → Compiled → Text
 shown g c = table_text g c.order c.built.tables.nodes c.built.worst
 
--- the same text, by the rows of the tables
+-- the text of a compilation's tables, by their rows
 abbrev pub shown_by : Graph → BuiltRows → Text
 shown_by g r = text_of_rows g r.order r.rows.items r.worst.time
 
@@ -146,7 +148,9 @@ pub record IsTrialText (number : ℕ) (text : Text) : Type 0 where
   -- the figures, which are those of the number's trial
   pub trial : Figures
   pub is : IsTrial number trial
+  -- the tables of the compile are safe
   pub safe : AreSafe is.admission.graph is.compiled.built.tables.nodes
+  -- the text is that of the figures
   pub spelled : text ≡ trial_text number trial
 
 -- the follower is the first node that has this name, before its stream

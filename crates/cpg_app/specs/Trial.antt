@@ -24,8 +24,8 @@ IsGenerated g = (number : ℕ) × (g ≡ generated number)
 abbrev pub planned_world : Graph → Scenario → World
 planned_world g s = record { scenario = s; lengths = full_lengths g s }
 
--- this is the end of a scenario's play that a number drives until each node is done: its greatest end, and how often a
--- node that was asked had to wait
+-- `e` is how a play of scenario `s` ends that `number` drives until each node is done: it says the greatest end that any
+-- node reached, and how often a node that was asked had to wait
 pub record IsEnding (g : Graph) (tables : List NodeTable) (s : Scenario) (number : ℕ) (e : Ending) : Type 0 where
   -- the nodes at the end
   pub cluster : Cluster
@@ -77,4 +77,5 @@ pub record IsTrial (number : ℕ) (t : Trial) : Type 0 where
   -- what its compile gives
   pub compiled : Compiled
   pub compilation : IsCompilation admission.graph admission.order compiled
+  -- the figures are those of this graph and this compile
   pub figures : AreFiguresOf admission.graph compiled number t

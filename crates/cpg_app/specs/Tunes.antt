@@ -28,9 +28,11 @@ IsCompileAnswer g urgency (Wide item) = IsLeastWide g (first_order g urgency) it
 
 -- the graph is admitted, with these orders and guards, and this is its answer
 pub record IsJudged (g : Graph) (judged : Judged) : Type 0 where
+  -- the graph is admitted with this order and these guards
   pub order : List ℕ
   pub guards : Guards
   pub admitted : IsAdmitted g order guards
+  -- `judged` is the answer of its compile
   pub answer : IsCompileAnswer g order judged
 
 -- the text is that of the graph's tuning, by the answers of its compiles
@@ -38,4 +40,5 @@ pub record IsTuningText (g : Graph) (text : Text) : Type 0 where
   -- the tuning that the text says
   pub tuning : Tuning
   pub is_tuning : IsTuning IsJudged g tuning
+  -- the text is that of this tuning
   pub spelled : text ≡ tuning_text g tuning

@@ -33,6 +33,7 @@ pub(crate) fn column_total(tables: &Tables) -> u64
     ensures { result ≡ columns_in tables.now.nodes }
 {
     let mut count = 0;
+    // there are at most 16 nodes, so the cast keeps their number
     for node in 0..tables.head().nodes().len() as u32 {
         count = add_table(count, tables.node(node));
     }

@@ -6,7 +6,7 @@ ghost use Rattle.cpg_table.specs.Writing.{AreWritable};
 ghost use Rattle.cpg_outputs.specs.Told.{IsWritten, sent};
 
 use cpg_codec::WriteFault;
-use cpg_expand::BuiltRows;
+use cpg_core::BuiltRows;
 use cpg_io::Sink;
 use cpg_live::Follower;
 use cpg_packing::write_made;
@@ -70,7 +70,7 @@ pub fn put_tables<O: Sink>(alloc: Global, made: Made, out: &mut O) -> Result<(),
     written
 }
 
-/// Writes the table of a node as a text. An error is a fault of the sink, or that memory runs out.
+/// Writes the table of the node number `node` as a text. An error is a fault of the sink, or that memory runs out.
 pub fn put_node_table<O: Sink>(
     alloc: Global,
     tables: Tables,

@@ -26,6 +26,7 @@ fn unadmitted(fault: RuleFault) -> OutOfMemory
 {
     match fault {
         RuleFault::OutOfMemory => OutOfMemory,
+        // the clause rules every other fault out
         _ => unreachable!(),
     }
 }
@@ -36,6 +37,7 @@ fn uncompiled(fault: CompileFault) -> OutOfMemory
 {
     match fault {
         CompileFault::OutOfMemory => OutOfMemory,
+        // the clause rules every other fault out
         _ => unreachable!(),
     }
 }
@@ -96,12 +98,13 @@ fn figures_of(
     ensures { IfOk result (AreFiguresOf admitted.now.graph compiled.now number) }
 {
     let built = &compiled.built;
-    // compiled tables are valid, so this check of the compile and of the checker never fails
+    // compiled tables are valid and the checker finds all valid ones so, so this never happens: the check is made to show it
     if !are_valid(alloc, admitted, &built.tables)? {
         unreachable!();
     }
     let endings = endings_of(alloc, admitted, compiled, number)?;
     let problem = admitted.problem();
+    // there are at most 128 processes and 256 edges, so the casts keep their numbers
     Ok(Trial {
         processes: problem.processes().len() as u32,
         edges: problem.edges().len() as u32,

@@ -27,7 +27,7 @@ fn admit_again(alloc: Global, problem: Problem) -> Result<Admitted, OutOfMemory>
         Ok(admitted) => Ok(admitted),
         Err(refused) => match refused.fault {
             RuleFault::OutOfMemory => Err(OutOfMemory),
-            // each other fault is of a broken rule
+            // each other fault is of a broken rule, and the graph breaks none
             _ => unreachable!(),
         },
     }

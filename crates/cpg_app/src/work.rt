@@ -96,7 +96,7 @@ fn verdict_of(alloc: Global, admitted: Admitted, tables: Tables) -> Result<Outpu
     ensures halt { IfErr result (OrMemory (StopsVerdict admitted tables)) }
 {
     let judged = judged(alloc, admitted, &tables);
-    // the run ends with this output, and a drop would go over all columns
+    // the run ends with this output, and to drop the tables would go over all their columns
     forget(tables);
     let _admitted = judged?;
     match String::from_str(alloc, "safe\n") {
@@ -105,8 +105,9 @@ fn verdict_of(alloc: Global, admitted: Admitted, tables: Tables) -> Result<Outpu
     }
 }
 
-/// Returns the text of a play of tables if they are safe for an admitted graph. Otherwise the halt says why not, or
-/// that memory ran out.
+/// Returns the text of a play of tables if they are safe for an admitted graph. `played` has the scenario and the lengths
+/// of executions, and `turns` fixes the order of the nodes' turns. A halt says why the tables aren't safe, or that memory
+/// ran out.
 fn play(
     alloc: Global,
     admitted: Admitted,
@@ -141,14 +142,14 @@ fn audited(alloc: Global, admitted: Admitted, tables: &Tables, log: &Log) -> Res
     }
 }
 
-/// Whether a node's name is this one.
+/// Whether `node`, a node's name, is `name`, byte for byte.
 fn is_named(node: &Name, name: &str) -> bool
     ensures { result ≡ bytes_eq node.now name.now }
 {
     node.as_str() == name
 }
 
-/// Returns the number of the first node that has this name, or `None` if no node has it.
+/// Returns the number of the first node of the head that has this name, or `None` if no node has it.
 fn first_named(head: &Head, name: &str) -> Option<usize>
     ensures first { result ≡ first_named head.now name.now }
     ensures within { IfSome result (λ node. node < length head.now.nodes) }
@@ -157,8 +158,8 @@ fn first_named(head: &Head, name: &str) -> Option<usize>
     head.nodes().iter().position(|node| is_named(node, name))
 }
 
-/// Returns the table of the first node that has this name, to be written as a text. The one halt is that no node has
-/// it.
+/// Returns the table of the first node that has this name, to be written as a text. The one halt is the refusal of a
+/// name that no node has.
 fn node_named(tables: Tables, name: &str) -> Result<Output, Halt>
     ensures text { IfOk result (λ o. Puts o (IsNodeText tables name.now)) }
     ensures halt { IfErr result (OrMemory (StopsNaming tables name.now)) }
@@ -171,15 +172,16 @@ fn node_named(tables: Tables, name: &str) -> Result<Output, Halt>
     Ok(Output::NodeTable { tables, node })
 }
 
-/// Returns the first node that has this name, which is to follow the stream. A halt says that no node has it, or that
-/// memory ran out.
-fn opened(alloc: Global, tables: Tables, name: &str, stream: Word) -> Result<Output, Halt>
+/// Returns the first node that has this name as a follower of the stream, before its first byte. A halt says that no
+/// node has it, or that memory ran out.
+fn follower_named(alloc: Global, tables: Tables, name: &str, stream: Word) -> Result<Output, Halt>
     ensures opens { IfOk result (Opens tables name.now stream) }
     ensures halt { IfErr result (OrMemory (StopsNaming tables name.now)) }
 {
     let Some(node) = first_named(tables.head(), name) else {
         return Err(Halt::Refused(Refusal::UnknownNode));
     };
+    // tables have at most 16 nodes, so the cast keeps it
     match Follower::new(alloc, tables, node as u32) {
         Ok(follower) => Ok(Output::Stream { follower, stream }),
         Err(_) => Err(Halt::Memory),
@@ -224,7 +226,7 @@ pub fn work(alloc: Global, inputs: Inputs) -> Result<Output, Halt>
             tables,
             name,
             stream,
-        } => opened(alloc, tables, name.as_str(), stream),
+        } => follower_named(alloc, tables, name.as_str(), stream),
         Inputs::Hyper(parts) => unrolled_text(alloc, parts.as_slice()),
         Inputs::Trial(number) => trial(alloc, number),
     }

@@ -73,14 +73,16 @@ logged_in (m ∷ ls) x time e = elim (cases_eq m.item x) [
 
 -- in scenario `s` no column that matches has a time that the log excludes, and each logged item is active
 pub record Fits (g : Graph) (tables : List NodeTable) (log : Log) (s : Scenario) : Type 0 where
+  -- no column that matches has a time that the log excludes
   pub times : (x : ℕ) (c : Column) → Match tables s x c → is_excluded log.until (logged_time log.acts x) c.time ≡ false
+  -- each logged item is active
   pub active : (l : Logged) → Contains log.acts l → item_active g s.values (item_at g l.item) ≡ true
 
 -- a scenario in which at most one column of each item of the tables matches, and one exactly if the item is active; and
 -- a log
 module _ {g : Graph} {tables : List NodeTable} {s : Scenario} (k : Setting g tables s) (log : Log)
     (is : IsLog g log) where
-  -- for a column that matches, an act of its item is due at its time
+  -- if column `c` of item `x` matches, an act of `x` is due at its time
   act_of : (x : ℕ) (c : Column) → Match tables s x c →
       (a : Act) × Contains (all_asked g tables s) a × (a.time ≡ c.time) × (a.item ≡ x)
   act_of x c m =
@@ -93,11 +95,11 @@ module _ {g : Graph} {tables : List NodeTable} {s : Scenario} (k : Setting g tab
         refl,
       )
 
-  -- for an act that is due, a column of its item matches, with its time
+  -- for an act `a` that is due in scenario `s`, a column `c` of its item matches, and has its time
   match_of : (a : Act) → Contains (all_asked g tables s) a → (c : Column) × Match tables s a.item c × (c.time ≡ a.time)
   match_of a h = let q = all_asked_parts k a h in (q.column, asked_match q, q.time)
 
-  -- if the scenario gives the log, a column matches for each logged act, with its item and time
+  -- if scenario `s` gives the log, a column `c` matches for each logged act `l`, with its item and time
   match_due : Gives g tables log s → (l : Logged) → Contains log.acts l →
       (c : Column) × Match tables s l.item c × (c.time ≡ l.time)
   match_due gives l c =
@@ -115,9 +117,9 @@ module _ {g : Graph} {tables : List NodeTable} {s : Scenario} (k : Setting g tab
     active = λ l c. let m = match_due gives l c in match_active k l.item m.0 m.1;
   }
     where
-      -- the time of a column that matches isn't excluded. If the item isn't logged, the time is after the log's end,
-      -- since the log names each act that is due by then. If it is logged, the logged act is of this column, as no
-      -- other of the item matches, so the time is the logged one
+      -- The time of column `c` of item `x`, which matches, isn't excluded. If the item isn't logged, the time is after
+      -- the log's end, since the log names each act that is due by then. If it is logged, the logged act is of this
+      -- column, as no other of the item matches, so the time is the logged one.
       times : (x : ℕ) (c : Column) → Match tables s x c → (o : Option ℕ) → logged_time log.acts x ≡ o →
           is_excluded log.until o c.time ≡ false
       times x c m None e = false_from_ne_true (nat_le c.time log.until) (λ early.
@@ -148,8 +150,8 @@ module _ {g : Graph} {tables : List NodeTable} {s : Scenario} (k : Setting g tab
         (a.0, a.1, same_logged (logged a.0) l.time l.item (a.2 ∙ same) a.3);
   }
     where
-      -- an act that is due by the log's end, at the time of a column that isn't excluded, is logged: were its item not,
-      -- the log would exclude the time; so it is logged, at just this time
+      -- an act `a` that is due by the log's end, at the time of column `c`, which isn't excluded, is logged: were its
+      -- item not, the log would exclude the time; so it is logged, at just this time
       named : (a : Act) (c : Column) (o : Option ℕ) → logged_time log.acts a.item ≡ o →
           is_excluded log.until (logged_time log.acts a.item) c.time ≡ false → c.time ≡ a.time →
           a.time ≤ log.until →
@@ -270,13 +272,13 @@ module _ (g : Graph) (order : List ℕ) (tables : List NodeTable)
     least = λ t law gives. first.least t law (gives_left t law gives);
   }
 
-  -- if the cubes leave no scenario, none gives the log
+  -- if `r`, the first scenario that the cubes leave, is none, then no scenario `s` gives the log
   pub none_gives : (r : Option Scenario) → IsFirst g order (is_left by []) r →
       IfNone r ((s : Scenario) → IsScenario g s → Gives g tables log s → ⊥)
   none_gives None first = λ s law gives. true≢false (sym (gives_left s law gives) ∙ first s law)
   none_gives (Some s) first = tt
 
--- if an item's columns are on variables of the graph, so are its excluded cubes
+-- if the columns of item `x` are on variables of the graph, so are its excluded cubes
 pub excluded_known : (g : Graph) (tables : List NodeTable) (log : Log) (x : ℕ) →
     All (λ (c : Column). IsKnown g c.cube) (columns_of tables x) →
     All (IsKnown g) (excluded_of tables log x)
@@ -285,7 +287,8 @@ excluded_known g tables log x known =
     All-map (IsKnown g) (λ (c : Column). c.cube) (filter excluded (columns_of tables x))
     (All-filter excluded (λ (c : Column). IsKnown g c.cube) (columns_of tables x) known)
 
--- if kept cubes and idle columns are on variables of the graph, so are the kept cubes followed by those of the columns
+-- if the `kept` cubes and the `idle` columns are on variables of the graph, so are the kept cubes followed by those of
+-- the columns
 pub idle_known : (g : Graph) (kept : List (List Literal)) (idle : List Column) → All (IsKnown g) kept →
     All (λ (c : Column). IsKnown g c.cube) idle →
     All (IsKnown g) (kept ++ map (λ (c : Column). c.cube) idle)

@@ -43,15 +43,14 @@ idle_from false n e = refl
 idle_at : (active : Bool) → not active ≡ true → idle_time active ≡ Some 0
 idle_at true e = absurd (true_false (sym e))
   where
-    -- `true` isn't `false`: an active item isn't inactive
+    -- `true` isn't `false`: an item that is active isn't inactive
     true_false : true ≡ false → ⊥
     true_false e = cc
 idle_at false e = refl
 
--- an item's idle times as a tree, and the tree's columns, in a scenario
--- `a`, `tree`, `active`: the tree that says where item `x` is active; `t`, `is`, `each`: its image, the tree of idle
--- times
--- `columns`, `all`: the columns of `t`, in some order; `s`, `law`: a scenario
+-- given an item's idle times as a tree, and the tree's columns, in a scenario. `a`, `tree`, `active`: the tree that says
+-- where item `x` is active; `t`, `is`, `each`: its image, the tree of idle times; `columns`, `all`: the columns of `t`, in
+-- some order; `s`, `law`: a scenario
 module _ (g : Graph) (x : ℕ) (a : TreeState Bool) (tree : IsTree g a) (active : IsActivityOf g x a)
     (t : TreeState (Option ℕ)) (is : IsMap (λ b z. z ≡ idle_time b) a t)
     (each : HasOnePathEach t.faults t.paths) (columns : List Column)

@@ -27,9 +27,9 @@ use Rattle.cpg_audit.specs.Narrowing.{IsRange}
 
 -- ---- where a literal doesn't hold
 
--- a scenario in which a literal doesn't hold
+-- given a scenario in which a literal doesn't hold
 module _ (s : Scenario) (l : Literal) (off : holds s l ≡ false) where
-  -- if the number of the literal's variable isn't below its range, it is above it
+  -- if the number of the literal's variable isn't below the literal's range, it is above it, up to `most`
   pub above_range : (most : ℕ) → l.low ≤ number_of s l.variable → number_of s l.variable ≤ most →
       holds s (record { variable = l.variable; low = l.high + 1; high = most }) ≡ true
   above_range most h k = elim (cases_lt l.high (number_of s l.variable)) [
@@ -38,7 +38,7 @@ module _ (s : Scenario) (l : Literal) (off : holds s l ≡ false) where
     | inr within ↦ absurd (both_ways (holds s l) off (holds-from s l h within))
   ]
 
-  -- if the number isn't above its range, it is below it
+  -- if the number of the literal's variable isn't above the literal's range, it is below it, from `least` on
   pub below_range : (least : ℕ) → least ≤ number_of s l.variable → number_of s l.variable ≤ l.high →
       holds s (record { variable = l.variable; low = least; high = l.low - 1 }) ≡ true
   below_range least h k = elim (cases_lt (number_of s l.variable) l.low) [
@@ -70,7 +70,8 @@ before_place f xs place x held some within is =
     turn false false true = refl
     turn false false false = refl
 
--- if nothing passes from the place before on, nothing passes from the place on, nor does the element before it
+-- if no element of `xs` from the place before on passes `f`, none from the place on does, nor does `x`, the element
+-- before it
 pub one_before : {X : Type 0} (f : X → Bool) (xs : List X) (place : ℕ) (x : X) → 0 < place → place ≤ length xs →
     x ≡ get_or xs (place - 1) x →
     list_any f (drop (place - 1) xs) ≡ false →
@@ -103,9 +104,9 @@ any_within f n m xs off = any_taken f m (drop n xs) (any_dropped f n xs off)
 
 -- ---- a list of cubes that one more is added to, or isn't
 
--- cubes that are kept, the next one, and a scenario
+-- given cubes that are kept, the next one, and a scenario
 module _ (kept : List (Bor (List Literal))) (cube : Bor (List Literal)) (s : Scenario) where
-  -- one of these cubes matches the scenario
+  -- whether one of these cubes matches the scenario
   abbrev matched : List (Bor (List Literal)) → Bool
   matched bs = list_any (λ (b : Bor (List Literal)). matches b.now s) bs
 
@@ -114,7 +115,8 @@ module _ (kept : List (Bor (List Literal))) (cube : Bor (List Literal)) (s : Sce
   pushed = list_any-append (λ (b : Bor (List Literal)). matches b.now s) kept (cube ∷ [])
       ∙ ap (λ b. matched kept || b) (or-false (matches cube.now s))
 
-  -- the same without it, if it matches only where one of the kept does
+  -- without the cube, one of the kept matches just if one of them or the cube does, if the cube doesn't match where none of
+  -- them does
   pub passed : (matched kept ≡ false → matches cube.now s ≡ false) → matched kept ≡ (matched kept || matches cube.now s)
   passed h = elim (cases_Bool (matched kept)) [
     | inl on ↦ on ∙ sym (ap (λ b. b || matches cube.now s) on)
@@ -130,13 +132,15 @@ any_flat p f [] = refl
 any_flat p f (x ∷ xs) = ap (list_any p) (flat_map-cons f x xs) ∙ list_any-append p (f x) (flat_map f xs)
     ∙ ap (λ b. list_any p (f x) || b) (any_flat p f xs)
 
--- something in a flat map of a list passes just if something does in that of the list in another order
+-- if `ys` are the elements of `xs` in another order, some element of their lists by `f` passes `p` exactly if one does
+-- for `xs`
 pub any_in_order : {X Y : Type 0} (p : Y → Bool) (f : X → List Y) (xs ys : List X) → IsPermutation xs ys →
     list_any p (flat_map f ys) ≡ list_any p (flat_map f xs)
 any_in_order p f xs ys perm =
     any_flat p f ys ∙ sym (list_any-IsPermutation (λ x. list_any p (f x)) xs ys perm) ∙ sym (any_flat p f xs)
 
--- the flat map of one element more of a mapped list has that element's list at its end
+-- the lists by `f` of one element more of what `g` makes of `xs` have at their end the list of that element, the one at
+-- place `i`
 pub flat_more : {X Y Z : Type 0} (f : Y → List Z) (g : X → Y) (xs : List X) (i : ℕ) (d : X) → i < length xs →
     flat_map f (map g (take (i + 1) xs)) ≡ flat_map f (map g (take i xs)) ++ f (g (get_or xs i d))
 flat_more f g xs i d within =
@@ -147,31 +151,31 @@ flat_more f g xs i d within =
 
 -- ---- one literal more
 
--- the literal at place `i` of a cube, and a space; `o` is the one of the first `i` that may not hold in the whole
--- space, if there is one
+-- given a space, and the literal at place `i` of a cube; `o` is the one of the first `i` literals that may not hold in the
+-- whole space, if there is one
 module _ (space : Space) (ls : List Literal) (i : ℕ) (d : Literal) (within : i < length ls) where
-  -- a literal that holds in the whole space
+  -- given that this literal holds in the whole space
   module _ (told : (s : Scenario) → IsInSpace space s → holds s (get_or ls i d) ≡ true) where
-    -- in the space, the first `i + 1` match just where the first `i` do
+    -- in the space, the first `i + 1` literals match just where the first `i` do
     same_with_told : (s : Scenario) → IsInSpace space s → matches (take (i + 1) ls) s ≡ matches (take i ls) s
     same_with_told s lies = list_all_more (holds s) ls i d within ∙ ap (λ b. matches (take i ls) s && b) (told s lies)
         ∙ and-true (matches (take i ls) s)
 
-    -- if there was none, so that the first `i` match everywhere in the space, the first `i + 1` do
+    -- if there is no `o`, so that the first `i` match everywhere in the space, the first `i + 1` do
     pub none_with_told : (o : Option Literal) →
         IfNone o ((s : Scenario) → IsInSpace space s → matches (take i ls) s ≡ true)
         → IfNone o ((s : Scenario) → IsInSpace space s → matches (take (i + 1) ls) s ≡ true)
     none_with_told None h = λ s lies. same_with_told s lies ∙ h s lies
     none_with_told (Some l) h = tt
 
-    -- if there was one, so that the first `i` match in the space just where it holds, the first `i + 1` do
+    -- if there is an `o`, and the first `i` match in the space just where it holds, so do the first `i + 1`
     pub some_with_told : (o : Option Literal) →
         IfSome o (λ l. (s : Scenario) → IsInSpace space s → matches (take i ls) s ≡ holds s l) →
         IfSome o (λ l. (s : Scenario) → IsInSpace space s → matches (take (i + 1) ls) s ≡ holds s l)
     some_with_told None h = tt
     some_with_told (Some l) h = λ s lies. same_with_told s lies ∙ h s lies
 
-  -- if there was none, the first `i + 1` match in the space just where the next one holds
+  -- if there is no `o`, the first `i + 1` match in the space just where the literal at place `i` holds
   pub first_open : (o : Option Literal) → o ≡ None →
       IfNone o ((s : Scenario) → IsInSpace space s → matches (take i ls) s ≡ true) → (s : Scenario) →
       IsInSpace space s →
@@ -183,15 +187,15 @@ module _ (space : Space) (ls : List Literal) (i : ℕ) (d : Literal) (within : i
 
 -- ---- the cube of a space
 
--- a space of the graph's scenarios
+-- given a space of the graph's scenarios
 module _ (g : Graph) (space : Space) where
-  -- ranges of the space on variables below a bound are such below a greater one
+  -- if `cube` has only ranges of the space on variables below `m`, they are such below `n` too, which is not less
   pub ranges_weaker : (m n : ℕ) → m ≤ n → (cube : List Literal) → All (IsRange g space m) cube →
       All (IsRange g space n) cube
   ranges_weaker m n h cube all = All-weaker (IsRange g space m) (IsRange g space n)
       (λ l r. record { known = r.known; below = omega (arith, r.below); told = r.told }) cube all
 
-  -- a cube of ranges of a space matches each scenario in it
+  -- if `cube` has only ranges of the space, on variables below `n`, it matches each scenario `s` in the space
   pub matches_space : (n : ℕ) (cube : List Literal) → All (IsRange g space n) cube → (s : Scenario) →
       IsInSpace space s →
       matches cube s ≡ true
@@ -203,8 +207,8 @@ module _ (g : Graph) (space : Space) where
   known_ranges n cube all =
       All-weaker (IsRange g space n) (λ (l : Literal). IsVariable g l.variable) (λ l r. r.known) cube all
 
--- kept cubes of all cubes; `by`, the cubes that are taken off: the kept ones, then the idle ones; the cube of what the
--- kept ones leave of all scenarios; and a scenario
+-- given the kept ones of all cubes; `by`, the cubes that are taken off, which are the kept ones and then the idle ones; the
+-- cube of what the kept ones leave of all scenarios; and a scenario
 module _ (kept by : List (Bor (List Literal))) (idle all : List (List Literal)) (cube : List Literal)
     (s : Scenario) where
   -- the cube that a reference is to

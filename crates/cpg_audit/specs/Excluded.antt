@@ -17,7 +17,8 @@ abbrev pub is_excluded : ℕ → Option ℕ → ℕ → Bool
 is_excluded until None time = nat_le time until
 is_excluded until (Some logged) time = not (time == logged)
 
--- the cubes of those of an item's columns whose times a log excludes; `logged` is when the log names the item
+-- the cubes of those of an item's columns whose times a log until `until` excludes; `logged` is when the log names the
+-- item, if it does
 abbrev pub excluded_cubes : ℕ → Option ℕ → List Column → List (List Literal)
 excluded_cubes until logged columns = map (λ c. c.cube) (filter (λ c. is_excluded until logged c.time) columns)
 

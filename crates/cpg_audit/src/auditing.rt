@@ -40,7 +40,8 @@ fn is_excluded(until: u64, logged: Option<u64>, time: u64) -> bool
     }
 }
 
-/// The cubes of those of an item's columns whose times a log excludes.
+/// The cubes of those of an item's columns whose times a log until `until` excludes. `logged` is when the log names the item,
+/// if it does. The one error is `OutOfMemory`.
 fn excluded_cubes<'a>(
     alloc: Global,
     until: u64,
@@ -60,7 +61,7 @@ fn excluded_cubes<'a>(
 
 /// The cubes of those columns of all items whose times a log excludes. A scenario that one of them matches doesn't give
 /// the log. `space` is narrowed, item by item, to what they leave of it, as far as ranges can say; cubes that are found
-/// to match nothing of the rest are left out.
+/// to match nothing of the rest are left out. The one error is `OutOfMemory`.
 fn excluded<'a>(
     alloc: Global,
     problem: &Problem,
@@ -87,7 +88,7 @@ fn excluded<'a>(
     Ok(kept)
 }
 
-/// Adds the cubes of these columns to `by`.
+/// Adds the cubes of these columns to `by`. The one error is `OutOfMemory`.
 fn push_cubes<'a>(columns: &'a [Column], by: &mut Vec<&'a Cube>) -> Result<(), OutOfMemory>
     ensures { IfOk result (λ _. map (λ b. b.now) by.new.items ≡ map (λ b. b.now) by.old.items ++ map (λ c. c.cube) columns.now) }
 {

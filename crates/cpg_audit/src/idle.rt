@@ -26,7 +26,8 @@ fn idle_time(active: bool) -> Option<u64>
     if active { None } else { Some(0) }
 }
 
-/// The tree that has a time just where `active` is false, so that its columns match just there.
+/// The tree that has a time just where `active` is false, so that its columns match just there. The one error is
+/// `OutOfMemory`.
 fn idle(active: &Tree<bool>) -> Result<Tree<Option<u64>>, OutOfMemory>
     ensures is { IfOk result (IsMap (λ x z. z ≡ idle_time x) active.now) }
     ensures each { IfOk result (λ t. HasOnePathEach t.faults t.paths) }
@@ -35,7 +36,7 @@ fn idle(active: &Tree<bool>) -> Result<Tree<Option<u64>>, OutOfMemory>
     active.map(&|active: bool| idle_time(active))
 }
 
-/// Columns that match just in the scenarios in which an item isn't active.
+/// Columns that match just in the scenarios in which an item isn't active. The one error is `OutOfMemory`.
 fn idle_columns(alloc: Global, admitted: &Admitted, item: u32) -> Result<Vec<Column>, OutOfMemory>
     requires { is_act admitted.now.graph item ≡ true }
     ensures known { IfOk result (λ columns. All (λ c. IsKnown admitted.now.graph c.cube) columns.items) }

@@ -57,8 +57,8 @@ fn extent_of(space: &Space, literals: &[Literal]) -> Extent
     }
 }
 
-/// The range that a variable is in wherever in a space a literal on it doesn't hold. `None` if what the literal leaves
-/// of the space's range isn't one range, or is nothing or all of it.
+/// A range that a literal's variable is in, in all scenarios of a space in which the literal doesn't hold. `None` if the
+/// space leaves the variable numbers on both sides of the literal's range, or only numbers in it.
 fn range_outside(space: &Space, literal: Literal) -> Option<Literal>
     ensures { IfSome result (λ l. (s : Scenario) → IsInSpace space.now s → holds s literal ≡ false → holds s l ≡ true) }
 {
@@ -100,7 +100,7 @@ fn exclude(space: &mut Space, literal: Literal)
 }
 
 /// Narrows a space to the scenarios that a cube doesn't match, if that depends on one variable, and adds the cube to
-/// `kept`, unless it matches nothing of the space.
+/// `kept`, unless it matches nothing of the space. The one error is `OutOfMemory`.
 fn take_off<'a>(
     space: &mut Space,
     cube: &'a Cube,
@@ -125,7 +125,7 @@ fn take_off<'a>(
 /// Narrows a space to the scenarios that none of these cubes matches, as far as each depends on one variable, and adds
 /// to `kept` those that match something of what is left at their turn. It goes from the last cube back: if an item's
 /// cubes rise by the number of faults, each then takes off the greatest number that is left, down to the one that the
-/// log gives.
+/// log gives. The one error is `OutOfMemory`.
 pub fn take_off_all<'a>(
     space: &mut Space,
     by: &[&'a Cube],
@@ -161,8 +161,8 @@ pub fn narrow(space: &mut Space, by: &[&Cube])
     }
 }
 
-/// Adds to a cube the space's ranges of the variables from `first` up to `end`, this one left out, except those that
-/// leave out no number of the variable.
+/// Adds to a cube the space's ranges of the variables from `first` up to `end`, `end` itself left out, except those ranges
+/// that have all numbers of the variable. The one error is `OutOfMemory`.
 fn push_ranges(
     problem: &Problem,
     space: &Space,
@@ -190,13 +190,15 @@ fn push_ranges(
     Ok(())
 }
 
-/// A cube that matches all scenarios of a space: it has the space's ranges of all variables.
+/// A cube that matches all scenarios of a space: it has the space's ranges of all variables, except those that have all
+/// numbers. The one error is `OutOfMemory`.
 pub fn cube_of(alloc: Global, problem: &Problem, space: &Space) -> Result<Cube, OutOfMemory>
     ensures matches { IfOk result (λ cube. (s : Scenario) → IsInSpace space.now s → matches cube s ≡ true) }
     ensures known { IfOk result (IsKnown problem.now) }
 {
     let mut cube = Cube::whole(alloc);
-    // the fault counts are numbered from 0 on, the values from `FIRST_VALUE` on
+    // the fault counts of at most 128 processes are numbered from 0 on, the values of at most 32 conditions from
+    // `FIRST_VALUE` (128) on, so all numbers fit a byte
     let processes = problem.processes().len() as u8;
     let end = FIRST_VALUE + problem.conditions() as u8;
     push_ranges(problem, space, 0, processes, &mut cube)?;

@@ -11,10 +11,10 @@ use Rattle.cpg_base.specs.Numbers.{are_apart}
 use Rattle.cpg_base.specs.Graph.{Process, Slot}
 use Rattle.cpg_base.proofs.Lists.{list_any_false, from_any_false}
 
--- given a test that fails for two elements if and only if they are related
+-- given: x and y are related by R exactly if the test `same` fails for them
 module _ {X : Type 0} (same : X → X → Bool) (R : X → X → Type 0) (to : (x y : X) → same x y ≡ false → R x y)
     (back : (x y : X) → R x y → same x y ≡ false) where
-  -- if the test passes for no element and a later one, all pairs are related
+  -- if no element of xs passes the test with a later one, all pairs of xs are related
   pub pairs_from_apart : (xs : List X) → are_apart same xs ≡ true → AllPairs R xs
   pairs_from_apart [] e = λ i j d l h. absurd (omega arith)
   pairs_from_apart (x ∷ xs) e =
@@ -22,7 +22,7 @@ module _ {X : Type 0} (same : X → X → Bool) (R : X → X → Type 0) (to : (
       AllPairs-cons R x xs (λ k d l. to x (get_or xs k d) (from_any_false (same x) xs (get_or xs k d)
       (not-true (list_any (same x) xs) p.0) (Contains-get_or xs k d l))) (pairs_from_apart xs p.1)
 
-  -- if all pairs are related, the test passes for no element and a later one
+  -- if all pairs of xs are related, no element of xs passes the test with a later one
   pub apart_from_pairs : (xs : List X) → AllPairs R xs → are_apart same xs ≡ true
   apart_from_pairs [] h = refl
   apart_from_pairs (x ∷ xs) h = and_from (not (list_any (same x) xs)) (are_apart same xs)
@@ -30,7 +30,7 @@ module _ {X : Type 0} (same : X → X → Bool) (R : X → X → Type 0) (to : (
       (λ y c. back x y (subst (R x) c.2 (h 0 (suc c.0) y (omega arith) (omega (arith, c.1)))))))
       (apart_from_pairs xs (λ i j d l m. h (suc i) (suc j) d (omega arith) (omega arith)))
 
-  -- the test says whether it is so
+  -- the answer b of the test of xs says whether all pairs of xs are related
   pub apart_iff : (b : Bool) (xs : List X) → are_apart same xs ≡ b → IsTrue b ↔ AllPairs R xs
   apart_iff true xs e = (λ _. pairs_from_apart xs e, λ _. refl)
   apart_iff false xs e = (λ h. absurd (true≢false (sym h)), λ h. absurd (true≢false (sym (apart_from_pairs xs h) ∙ e)))

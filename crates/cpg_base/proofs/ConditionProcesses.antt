@@ -17,7 +17,7 @@ use Rattle.cpg_base.proofs.Inputs.{outputs-Contains}
 use Rattle.cpg_base.specs.Order.{place}
 use Rattle.cpg_base.proofs.Places.{position-place, place-le, place-lt, get_or-place}
 
--- in a rising list each number has one place
+-- in a rising list the place of the number at place k is k
 place-get_or : (xs : List ℕ) (k : ℕ) → IsStrictlyIncreasing xs → k < length xs → place xs (get_or xs k 0) ≡ k
 place-get_or xs k rises h =
     let c = Contains-get_or xs k 0 h in

@@ -10,8 +10,9 @@ use Rattle.cpg_base.specs.Scenario.{Scenario, IsScenario, is_before}
 use Rattle.cpg_base.specs.First.{IsFirst, earlier, first_of}
 use Rattle.cpg_base.proofs.ScenarioOrder.{not_before_transitive, before_one_way, one_least}
 
+-- given: a graph, and an order of its processes
 module _ (g : Graph) (order : List ℕ) where
-  -- the first scenario that passes a test is that of another test with the same answers
+  -- if o is the first scenario that passes p, and q answers as p does, o is the first that passes q
   pub first_same : (p q : Scenario → Bool) (o : Option Scenario) → ((s : Scenario) → IsScenario g s → p s ≡ q s) →
       IsFirst g order p o →
       IsFirst g order q o
@@ -26,7 +27,8 @@ module _ (g : Graph) (order : List ℕ) where
   pub first_none : (p : Scenario → Bool) → ((s : Scenario) → IsScenario g s → p s ≡ false) → IsFirst g order p None
   first_none p h = h
 
-  -- the first scenario that passes one of two tests is the earlier of theirs
+  -- if a is the first scenario that passes p, and b the first that passes q, the earlier of both is the first that
+  -- passes p or q
   pub first_or : (p q : Scenario → Bool) (a b : Option Scenario) → IsFirst g order p a → IsFirst g order q b →
       IsFirst g order (λ s. p s || q s) (earlier g order a b)
   first_or p q None None f h = λ s i. or_from (p s) (q s) (f s i) (h s i)

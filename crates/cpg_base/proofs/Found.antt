@@ -17,7 +17,7 @@ use Rattle.cpg_base.proofs.Inputs.{outputs_parts}
 use Rattle.cpg_base.proofs.Items.{disjunctions_rise}
 
 module _ (g : Graph) where
-  -- a process with a conditional output has an edge with a `when`
+  -- a process with a condition has a conditional output among the edges
   from_output : (p : ℕ) → is_disjunction g p ≡ true → has_conditional_output g.edges p ≡ true
   from_output p h =
       let a = list_any_parts (λ e. is_some (edge_at g e).when) (outputs g p) h in
@@ -25,7 +25,7 @@ module _ (g : Graph) where
       list_any_true (is_conditional_output p) g.edges (edge_at g a.0) (Contains-get_or g.edges a.0 _ o.0)
       (and_from (source g a.0 == p) (is_some (edge_at g a.0).when) (eq-eqb (source g a.0) p o.1) a.2)
 
-  -- a process with a conditional output among the edges is a disjunction: that edge is among its outputs
+  -- a process with a conditional output among the edges has a condition, since that edge is among its outputs
   to_output : (p : ℕ) → has_conditional_output g.edges p ≡ true → is_disjunction g p ≡ true
   to_output p h =
       let a = list_any_parts (is_conditional_output p) g.edges h in

@@ -22,7 +22,7 @@ or_false false b h = h
 
 -- given a place in the list of edges
 module _ (edges : List Edge) (i : ℕ) (d : Edge) (within : i < length edges) where
-  -- with one more edge, a process has a conditional output if it had one or this is one
+  -- a process has a conditional output among the first i + 1 edges if it has one among the first i or the next edge is one
   more : (p : ℕ) →
       has_conditional_output (take (i + 1) edges) p
       ≡ (has_conditional_output (take i edges) p || is_conditional_output p (get_or edges i d))
@@ -54,8 +54,8 @@ module _ (edges : List Edge) (i : ℕ) (d : Edge) (within : i < length edges) wh
 pub no_marks : (p : ℕ) → p < 128 → get_or (replicate 128 false) p false ≡ false
 no_marks p l = get_or-replicate 128 p false false l
 
--- With more numbers no fewer pass a test.
--- By induction on how many more: the next number passes, or it doesn't.
+-- Of the numbers below m + n no fewer pass a test than of those below n.
+-- By induction on m: the last number passes, or it doesn't.
 filter_grows_by : (p : ℕ → Bool) (n m : ℕ) →
     length (filter p (numbers_below n)) ≤ length (filter p (numbers_below (m + n)))
 filter_grows_by p n zero = subst (λ k. length (filter p (numbers_below n)) ≤ length (filter p (numbers_below k)))

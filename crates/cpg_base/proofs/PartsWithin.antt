@@ -17,7 +17,8 @@ graph_of faults deadline nodes slots processes edges = record {
   order = None;
 }
 
--- a test of some parts is one of the graph that has equal parts
+-- If `is` says whether the graph of some parts has its parts within the limits, it says so of the graph of equal
+-- parts. Each list comes twice: as it was tested (ns, ss, ps, es), and in full words.
 pub tested_of : (is : Bool) (faults deadline : ℕ) (ns nodes : List (List ℕ)) (ss slots : List Slot)
     (ps processes : List Process) (es edges : List Edge) → ns ≡ nodes → ss ≡ slots → ps ≡ processes → es ≡ edges →
     (IsTrue is ↔ HasPartsWithin (graph_of faults deadline ns ss ps es)) →
@@ -26,7 +27,7 @@ tested_of is faults deadline ns nodes ss slots ps processes es edges n s p e tes
     subst (λ g. IsTrue is ↔ HasPartsWithin g) (ap₂ (λ x y. graph_of faults deadline x y ps es) n s
     ∙ ap₂ (λ x y. graph_of faults deadline nodes slots x y) p e) tested
 
--- such a graph is within the limits if its parts are and it has few enough conditions
+-- a graph that gives no order is within the limits if its parts are and it has few enough conditions
 pub within_by_parts : (faults deadline : ℕ) (nodes : List (List ℕ)) (slots : List Slot) (processes : List Process)
     (edges : List Edge) → HasPartsWithin (graph_of faults deadline nodes slots processes edges) →
     condition_count (graph_of faults deadline nodes slots processes edges) ≤ MOST_CONDITIONS →
@@ -48,7 +49,7 @@ within_by_parts faults deadline nodes slots processes edges parts few = record {
   order = tt;
 }
 
--- and its parts are, if it is
+-- the parts of a graph within the limits are within them
 pub parts_of : (g : Graph) → IsWithinLimits g → HasPartsWithin g
 parts_of g within = record {
   faults = within.faults;

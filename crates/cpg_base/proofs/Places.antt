@@ -127,6 +127,7 @@ places_rise xs apart i j d h l =
 
 -- ---- an order of all the numbers below n
 
+-- given: an order of all the numbers below n
 module _ (n : ℕ) (order : List ℕ) (all : IsPermutation (numbers_below n) order) where
   -- an order of the numbers below n has n of them
   pub length_order : length order ≡ n

@@ -42,21 +42,22 @@ same_pieces f h (y ∷ ys) l e x c =
     (λ (d : Contains ys x). same_pieces f h ys l r.1 x d)
     (Contains-cases y ys x c)
 
+-- given: a graph, and an order of its processes
 module _ (g : Graph) (order : List ℕ) where
   -- no scenario is before itself
   pub before_irreflexive : (s : Scenario) → is_before g order s s ≡ false
   before_irreflexive s = below_irreflexive (key g order s)
 
-  -- a scenario that is before one that is before a third is before the third
+  -- if s is before t, and t is before u, s is before u
   pub before_transitive : (s t u : Scenario) → is_before g order s t ≡ true → is_before g order t u ≡ true →
       is_before g order s u ≡ true
   before_transitive s t u h k = below_transitive (key g order s) (key g order t) (key g order u) h k
 
-  -- of two scenarios at most one is before the other
+  -- if s is before t, t isn't before s
   pub before_one_way : (s t : Scenario) → is_before g order s t ≡ true → is_before g order t s ≡ false
   before_one_way s t h = below_one_way (key g order s) (key g order t) h
 
-  -- what is not before a scenario that is not before a third is not before the third
+  -- if t isn't before s, and u isn't before t, u isn't before s
   pub not_before_transitive : (s t u : Scenario) → is_before g order t s ≡ false → is_before g order u t ≡ false →
       is_before g order u s ≡ false
   not_before_transitive s t u h k = not_below_transitive (key g order s) (key g order t) (key g order u) h k
@@ -72,6 +73,7 @@ module _ (g : Graph) (order : List ℕ) where
 piece : Graph → Scenario → ℕ → List ℕ
 piece g s p = fault_of s p ∷ value_in_key s.values (condition_of g p)
 
+-- given: two scenarios of a graph
 module _ (g : Graph) (s t : Scenario) where
   -- a key in which the value is no less is not below, if its rest is not below
   not_below_value : (o : Option ℕ) (xs ys : List ℕ) →
@@ -135,7 +137,7 @@ module _ (g : Graph) (order : List ℕ) (all : IsPermutation (numbers_below (pro
       let n = i.faults in
       let e = same_piece p (omega arith) in cc)
 
-  -- and the same values
+  -- both scenarios have the same values
   same_values : s.values ≡ t.values
   unfolding piece
   same_values = ext_get_or false s.values t.values (i.values ∙ sym j.values) (λ c l.
@@ -158,7 +160,7 @@ module _ (g : Graph) (order : List ℕ) (all : IsPermutation (numbers_below (pro
           (subst (λ o. fault_of s (process_of g c) ∷ value_in_key s.values o
           ≡ fault_of t (process_of g c) ∷ value_in_key t.values o) is e)
 
-  -- so they are one scenario
+  -- two scenarios with the same key are one
   pub same_scenario : s ≡ t
   same_scenario = ap₂ (λ vs fs. let r : Scenario = record { values = vs; faults = fs } in r) same_values same_faults
 
@@ -171,7 +173,7 @@ before_total g order all s t i j h k = same_scenario g order all s t i j (same_k
 
 -- ---- the least scenario of a fact
 
--- a fact has at most one least scenario
+-- at most one scenario is the least with a fact
 pub one_least : (g : Graph) (order : List ℕ) → IsPermutation (numbers_below (process_count g)) order →
     (fact : Scenario → Type 0) (s t : Scenario) → IsLeast g order fact s →
     IsLeast g order fact t →

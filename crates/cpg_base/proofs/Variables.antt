@@ -3,6 +3,7 @@ use Rattle.std.proofs.Common.{ℕ, ◌-◌, ◌<◌, ◌≤◌, ◌≡◌, arith
 use Rattle.std.proofs.lemmas.Bool.{cond-true, cond-false}
 use Rattle.cpg_base.specs.Graph.{Graph, process_count, condition_count, process_of, process_of_variable, IsVariable}
 
+-- given: a variable v of a graph
 module _ (g : Graph) (v : ℕ) where
   -- a variable of a count belongs to the process of its number
   pub of_count : process_count g ≤ 128 → v < process_count g → v ≡ process_of_variable g v

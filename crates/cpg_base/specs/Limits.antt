@@ -4,42 +4,51 @@ use Rattle.cpg_base.specs.declared.limits.TheConstants.{MOST_FAULTS, MOST_NODES,
 use Rattle.cpg_base.specs.declared.limits.TheConstants.{MOST_CONDITIONS, MOST_PARTS, LONGEST, LARGEST}
 use Rattle.cpg_base.specs.Graph.{Graph, Process, Edge, Slot, process_count, edge_count, condition_count}
 
--- a process is on one of this many nodes, and each of its numbers is in range
+-- a process is on one of `nodes` nodes, and each of its numbers is in range
 pub record IsProcessWithin (nodes : ℕ) (p : Process) : Type 0 where
   -- its node is one of the graph
   pub node : p.node < nodes
-  -- its work takes at least 1 unit of time, and not too many
+  -- its work takes at least 1 unit of time
   pub works : 1 ≤ p.wcet
+  -- its work isn't longer than the longest time
   pub wcet : p.wcet ≤ LONGEST
-  -- it is cut into at least 1 part, and not too many
+  -- it is cut into at least 1 part
   pub divided : 1 ≤ p.parts
+  -- it isn't cut into too many parts
   pub parts : p.parts ≤ MOST_PARTS
-  -- the costs of a detection, a checkpoint and a recovery
+  -- the cost of a detection
   pub alpha : p.alpha ≤ LONGEST
+  -- the cost of a checkpoint
   pub chi : p.chi ≤ LONGEST
+  -- the cost of a recovery
   pub mu : p.mu ≤ LONGEST
-  -- its release, before which it doesn't start, and its own deadline, if it has one
+  -- its release, before which it doesn't start
   pub release : p.release ≤ LONGEST
+  -- its own deadline, if it has one
   pub deadline : IfSome p.deadline (λ d. d ≤ LONGEST)
 
--- a slot belongs to one of this many nodes, and its length and its bytes are in range
+-- a slot belongs to one of `nodes` nodes, and its length and its bytes are in range
 pub record IsSlotWithin (nodes : ℕ) (s : Slot) : Type 0 where
   -- the node that sends in it is one of the graph
   pub node : s.node < nodes
-  -- its length in time units
+  -- it takes at least 1 unit of time
   pub lasts : 1 ≤ s.length
+  -- it isn't longer than the longest time
   pub length : s.length ≤ LONGEST
-  -- how many bytes a frame in it holds
+  -- a frame in it holds at least 1 byte
   pub holds : 1 ≤ s.bytes
+  -- a frame in it doesn't hold too many bytes
   pub bytes : s.bytes ≤ LARGEST
 
--- an edge leads from one of this many processes to one of them, and its size in bytes is in range
+-- an edge leads from one of `processes` processes to one of them, and its size in bytes is in range
 pub record IsEdgeWithin (processes : ℕ) (e : Edge) : Type 0 where
-  -- both its ends are processes of the graph
+  -- the process that it leads away from is one of the graph
   pub from : e.from < processes
+  -- the process that it leads to is one of the graph
   pub to : e.to < processes
-  -- the size of its message in bytes
+  -- its message has at least 1 byte
   pub sized : 1 ≤ e.size
+  -- its message doesn't have too many bytes
   pub size : e.size ≤ LARGEST
 
 -- The numbers of an order that the file gives are those of processes, and none stands twice. It need not have all.
@@ -52,22 +61,27 @@ pub record IsOrderWithin (processes : ℕ) (order : List ℕ) : Type 0 where
 -- A graph is within the limits of a file: there are few enough of each kind, each number is in range, no two nodes or
 -- processes have one name, and no two slots one node.
 pub record IsWithinLimits (g : Graph) : Type 0 where
-  -- the faults and the deadline are in range
+  -- a cycle has few enough faults
   pub faults : g.faults ≤ MOST_FAULTS
+  -- the deadline is no later than the longest time
   pub deadline : g.deadline ≤ LONGEST
-  -- there are few enough of each
+  -- there are few enough nodes, slots, processes, edges and conditions
   pub few_nodes : length g.nodes ≤ MOST_NODES
   pub few_slots : length g.slots ≤ MOST_NODES
   pub few_processes : process_count g ≤ MOST_PROCESSES
   pub few_edges : edge_count g ≤ MOST_EDGES
   pub few_conditions : condition_count g ≤ MOST_CONDITIONS
-  -- each slot, process and edge is within its own limits
+  -- each slot is within its own limits
   pub slots : All (IsSlotWithin (length g.nodes)) g.slots
+  -- each process is within its own limits
   pub processes : All (IsProcessWithin (length g.nodes)) g.processes
+  -- each edge is within its own limits
   pub edges : All (IsEdgeWithin (process_count g)) g.edges
-  -- no two nodes and no two processes have the same name, and no two slots belong to the same node
+  -- no two nodes have the same name
   pub node_names : AllPairs (λ a b. a ≢ b) g.nodes
+  -- no two processes have the same name
   pub process_names : AllPairs (λ p q. p.name ≢ q.name) g.processes
+  -- no two slots belong to the same node
   pub own_slots : AllPairs (λ s t. s.node ≢ t.node) g.slots
   -- the order, if the file gives one, is within its limits too
   pub order : IfSome g.order (IsOrderWithin (process_count g))

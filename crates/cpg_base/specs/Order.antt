@@ -13,7 +13,7 @@ place order p = unwrap_or (position (λ q. q == p) order) 0
 abbrev pub before : List ℕ → ℕ → List ℕ
 before order p = take (place order p) order
 
--- the processes before one in an order that are on its node
+-- the processes before process p in an order that are on its node
 abbrev pub before_on_node : Graph → List ℕ → ℕ → List ℕ
 before_on_node g order p = filter (λ q. node_of g q == node_of g p) (before order p)
 

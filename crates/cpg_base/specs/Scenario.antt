@@ -59,8 +59,9 @@ is_before g order s t = is_below (key g order s) (key g order t)
 
 -- s is the first scenario of the graph, along the order, in which the fact holds
 pub record IsLeast (g : Graph) (order : List ℕ) (fact : Scenario → Type 0) (s : Scenario) : Type 0 where
-  -- it is a scenario of the graph, and the fact holds in it
+  -- it is a scenario of the graph
   pub lawful : IsScenario g s
+  -- the fact holds in it
   pub holds : fact s
   -- no scenario with the fact comes before it
   pub least : (t : Scenario) → IsScenario g t → fact t → is_before g order t s ≡ false

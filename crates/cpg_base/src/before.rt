@@ -14,7 +14,7 @@ fn at_process(problem: &Problem, process: u32, first: &Scenario, second: &Scenar
     requires second { IsScenario problem.now second.now }
     // whatever processes follow in the order, the answer is that of the whole comparison
     ensures differ { IfSome result (λ before. (rest : List ℕ) → is_before problem.now (process ∷ rest) first.now second.now ≡ before) }
-    // if there is none, the processes that follow decide
+    // without an answer here, the processes that follow decide
     ensures same { IfNone result ((rest : List ℕ) →
         is_before problem.now (process ∷ rest) first.now second.now ≡ is_before problem.now rest first.now second.now) }
 {

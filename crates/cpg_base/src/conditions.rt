@@ -71,7 +71,7 @@ impl Conditions {
         self.count += 1;
     }
 
-    /// Returns the conditions of this many processes with these edges, and `None` exactly if there are more than 32.
+    /// Returns the conditions of `processes` processes with these edges, and `None` exactly if there are more than 32.
     pub fn of(processes: usize, edges: &[Edge]) -> Option<Conditions>
         requires few { processes ≤ 128 }
         requires sources { All (λ e. e.from < 128) edges.now }
@@ -88,6 +88,7 @@ impl Conditions {
                 if conditions.count() == MOST_CONDITIONS {
                     return None;
                 }
+                // below 128, so the cast keeps it
                 conditions.push(process as u32);
             }
         }
@@ -115,6 +116,7 @@ impl Conditions {
         ensures { result ≡ position (λ other. other == process) self.now }
     {
         match process_index(self.processes(), process) {
+            // a place below 32, so the cast keeps it
             Some(condition) => Some(condition as u32),
             None => None,
         }

@@ -34,6 +34,7 @@ impl Lengths {
         let count = problem.processes().len();
         let mut lengths = Vec::new(alloc);
         lengths.reserve(count)?;
+        // there are at most 128 processes, so the cast keeps their count
         for process in 0..count as u32 {
             lengths.push(problem.duration(process, scenario.fault(process)))?;
         }

@@ -49,7 +49,7 @@ fn is_window_within(process: &Process) -> bool
     process.release <= LONGEST && due
 }
 
-/// Whether a process is on one of this many nodes, and each of its numbers is in range.
+/// Whether a process is on one of `nodes` nodes, and each of its numbers is in range.
 fn is_process_within(process: &Process, nodes: usize) -> bool
     ensures { IsTrue result ↔ IsProcessWithin nodes process.now }
 {
@@ -64,7 +64,7 @@ fn is_process_within(process: &Process, nodes: usize) -> bool
     are_costs_within(process) && is_window_within(process)
 }
 
-/// Whether a slot belongs to one of this many nodes, and its numbers are in range.
+/// Whether a slot belongs to one of `nodes` nodes, and its numbers are in range.
 fn is_slot_within(slot: &Slot, nodes: usize) -> bool
     ensures { IsTrue result ↔ IsSlotWithin nodes slot.now }
 {
@@ -75,7 +75,7 @@ fn is_slot_within(slot: &Slot, nodes: usize) -> bool
     1 <= slot.bytes && slot.bytes <= LARGEST
 }
 
-/// Whether an edge leads from one of this many processes to one of them, and its size is in range.
+/// Whether an edge leads from one of `processes` processes to one of them, and its size is in range.
 fn is_edge_within(edge: &Edge, processes: usize) -> bool
     ensures { IsTrue result ↔ IsEdgeWithin processes edge.now }
 {
@@ -86,7 +86,7 @@ fn is_edge_within(edge: &Edge, processes: usize) -> bool
     1 <= edge.size && edge.size <= LARGEST
 }
 
-/// Whether all these processes are within the limits, in a graph of this many nodes.
+/// Whether all these processes are within the limits, in a graph of `nodes` nodes.
 pub fn are_processes_within(processes: &[Process], nodes: usize) -> bool
     ensures { IsTrue result ↔ All (IsProcessWithin nodes) processes.now }
 {
@@ -95,14 +95,14 @@ pub fn are_processes_within(processes: &[Process], nodes: usize) -> bool
         .all(|process| is_process_within(process, nodes))
 }
 
-/// Whether all these slots are within the limits, in a graph of this many nodes.
+/// Whether all these slots are within the limits, in a graph of `nodes` nodes.
 pub fn are_slots_within(slots: &[Slot], nodes: usize) -> bool
     ensures { IsTrue result ↔ All (IsSlotWithin nodes) slots.now }
 {
     slots.iter().all(|slot| is_slot_within(slot, nodes))
 }
 
-/// Whether all these edges are within the limits, in a graph of this many processes.
+/// Whether all these edges are within the limits, in a graph of `processes` processes.
 pub fn are_edges_within(edges: &[Edge], processes: usize) -> bool
     ensures { IsTrue result ↔ All (IsEdgeWithin processes) edges.now }
 {

@@ -32,7 +32,7 @@ fn places_of(processes: &Vec<u32>) -> Result<Vec<u32>, OutOfMemory>
 {
     let mut places = vec![in *processes.allocator(); 0u32; processes.len()]?;
     for (i, process) in processes.as_slice().iter().enumerate() {
-        // there are at most 128 places
+        // there are at most 128 places, so the cast keeps this one
         places[*process as usize] = i as u32;
     }
     Ok(places)
@@ -75,7 +75,7 @@ impl Order {
         self.places[process as usize]
     }
 
-    /// Returns the process at a place, counted from 0.
+    /// Returns the process that stands at the place `at`, counted from 0.
     pub fn at(&self, at: u32) -> u32
         requires { at < length self.now }
         ensures process { result ≡ get_or self.now at 0 }

@@ -19,7 +19,7 @@ use std::marker::Model;
 /// fields but `conditions`.
 #[derive(Drop)]
 pub struct Problem {
-    /// The most faults in one cycle.
+    /// The most faults in one cycle, called k.
     faults: u8,
     /// The time by which all executions have to have ended.
     deadline: u64,
@@ -67,7 +67,7 @@ impl Model for Problem {
     } in IsWithinLimits g × (p.conditions ≡ disjunctions g) };
 }
 
-/// Whether there are few enough of each kind of part, and the fault number and the deadline are in range.
+/// Whether there are few enough nodes, slots, processes and edges, and the most faults and the deadline are in range.
 fn are_counts_within(
     faults: u8,
     deadline: u64,
@@ -132,7 +132,7 @@ fn are_parts_within(
     are_slots_apart(slots)
 }
 
-/// The length of a round of these slots.
+/// Returns how long these slots last together, in time units: the length of a round.
 fn round_of(slots: &[Slot]) -> u64
     requires { sum_by (λ s. s.length) slots.now < 2 ^ 64 }
     ensures { result ≡ sum_by (λ s. s.length) slots.now }
@@ -315,6 +315,7 @@ impl Problem {
         ensures count { result ≡ condition_count self.now }
         ensures few { result ≤ 32 }
     {
+        // at most 32, so the cast keeps it
         self.conditions.count() as u32
     }
 
@@ -336,7 +337,7 @@ impl Problem {
         self.conditions.processes()[condition as usize]
     }
 
-    /// Returns how long an execution of a process with this many faults lasts at most: the work, for each part a detection
+    /// Returns how long an execution of a process with `faults` faults lasts at most: the work, for each part a detection
     /// and a checkpoint, and for each fault a recovery and one part, rounded up, with its detection once more.
     pub fn duration(&self, process: u32, faults: u8) -> u64
         requires process { process < process_count self.now }

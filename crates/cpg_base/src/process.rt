@@ -61,7 +61,7 @@ pub struct Slot {
 }
 
 impl Process {
-    /// Returns how long an execution with this many faults lasts at most, in time units.
+    /// Returns how long an execution with `faults` faults lasts at most, in time units.
     pub fn duration(&self, faults: u8) -> u64
         requires within { (nodes : ℕ) × IsProcessWithin nodes self.now }
         requires faults { faults ≤ 8 }

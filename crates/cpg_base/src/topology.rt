@@ -54,7 +54,7 @@ impl Problem {
     pub fn item_count(&self) -> u32
         ensures { result ≡ item_count self.now }
     {
-        // at most 128, 256 and 32, so the sum doesn't overflow
+        // at most 128, 256 and 32, so the cast keeps the sum, and it doesn't overflow
         let conditions = self.conditions();
         (self.processes().len() + self.edges().len()) as u32 + conditions
     }
@@ -65,6 +65,7 @@ impl Problem {
         ensures item { result ≡ message_item self.now edge }
         ensures within { result < item_count self.now }
     {
+        // at most 128 processes, so the cast keeps their count
         self.processes().len() as u32 + edge
     }
 
@@ -77,6 +78,7 @@ impl Problem {
         // asked only for its clause: there are at most 32 conditions, so the sum doesn't overflow
         let conditions = self.conditions();
         prove!(condition < conditions);
+        // at most 128 processes and 256 edges, so the cast keeps their sum
         (self.processes().len() + self.edges().len()) as u32 + condition
     }
 
@@ -87,6 +89,7 @@ impl Problem {
         ensures within { IsItem self.now result }
         ensures number { number ≡ number_of_item self.now result }
     {
+        // there are at most 128 processes and 256 edges, so the casts keep their counts
         let messages = self.processes().len() as u32;
         // the first numbers are those of starts
         if number < messages {

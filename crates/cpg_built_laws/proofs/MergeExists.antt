@@ -66,12 +66,13 @@ module _ {X : Type 0} (is_after : X → X → Bool)
 
 -- ---- columns
 
+-- given: a variable v
 module _ (v : ℕ) where
   -- whether a column is after another at a variable
   abbrev column_after : Column → Column → Bool
   column_after c d = is_lt (column_cmp v d c)
 
-  -- an order that is less isn't less the other way
+  -- a comparison that is less isn't less the other way round
   lt_one_way : (o : Ordering) → is_lt o ≡ true → is_lt (ordering_reverse o) ≡ false
   lt_one_way Less h = refl
   lt_one_way Equal h = refl
@@ -123,24 +124,24 @@ module _ (g : Graph) (few : process_count g ≤ 128) where
             (permutation_in_order (column_after v) (column_one_way v) (column_chain v) xs) is,
       )
 
-  -- columns may be joined at n variables from `first` on, one after another
-  pass_over : (first n : ℕ) → ((v : ℕ) → first ≤ v → v < first + n → IsVariable g v) → (xs : List Column) →
+  -- columns may be joined at n variables from `low` on, one after another
+  pass_over : (low n : ℕ) → ((v : ℕ) → low ≤ v → v < low + n → IsVariable g v) → (xs : List Column) →
       IsShorn g xs →
-      (ys : List Column) × IsPassed g (IsBetween first (first + n)) xs ys
+      (ys : List Column) × IsPassed g (IsBetween low (low + n)) xs ys
   -- by induction on n: the last variable comes after the others
-  pass_over first zero known xs h =
-      (xs, passed_none g (IsBetween first (first + 0)) (λ v m. omega (arith, m.0, m.1)) xs h)
-  pass_over first (suc n) known xs h =
-      let a = pass_over first n (λ v l k. known v l (omega (arith, k))) xs h in
-      let b = pass_on (first + n) (known (first + n) (omega arith) (omega arith)) a.0 a.1.good in (
+  pass_over low zero known xs h =
+      (xs, passed_none g (IsBetween low (low + 0)) (λ v m. omega (arith, m.0, m.1)) xs h)
+  pass_over low (suc n) known xs h =
+      let a = pass_over low n (λ v l k. known v l (omega (arith, k))) xs h in
+      let b = pass_on (low + n) (known (low + n) (omega arith) (omega arith)) a.0 a.1.good in (
         b.0,
-        passed_through g (IsBetween first (first + n)) (λ u. u ≡ first + n) (IsBetween first (first + suc n))
+        passed_through g (IsBetween low (low + n)) (λ u. u ≡ low + n) (IsBetween low (low + suc n))
             (λ v m. at_end v m.0 m.1) xs a.0 b.0 a.1 b.1,
       )
     where
       -- a variable among n + 1 is among the first n, or is the last
-      at_end : (v : ℕ) → first ≤ v → v < first + suc n → IsBetween first (first + n) v ⊎ (v ≡ first + n)
-      at_end v l k = elim (cases_eq v (first + n)) [ inl e ↦ inr e | inr ne ↦ inl (l, omega (arith, k, ne)) ]
+      at_end : (v : ℕ) → low ≤ v → v < low + suc n → IsBetween low (low + n) v ⊎ (v ≡ low + n)
+      at_end v l k = elim (cases_eq v (low + n)) [ inl e ↦ inr e | inr ne ↦ inl (l, omega (arith, k, ne)) ]
 
   -- columns may be joined at each variable of the graph: at all fault counts, then at all values
   pass_all : (xs : List Column) → IsShorn g xs → (ys : List Column) × IsPassed g (IsVariable g) xs ys
@@ -185,6 +186,7 @@ module _ (g : Graph) (few : process_count g ≤ 128) where
 
   -- ---- in order by their least scenarios
 
+  -- given: the urgency order, in which each process stands once
   module _ (urgency : List ℕ) (all : IsPermutation (numbers_below (process_count g)) urgency) where
     -- a column has to go behind another if its least scenario comes later
     abbrev lows_after : Column → Column → Bool

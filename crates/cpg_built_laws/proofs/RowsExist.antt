@@ -68,10 +68,10 @@ module _ (g : Graph) (urgency order : List ℕ) (frozen : List (Option ℕ)) (ti
     -- by whether the item's producer stands at i
     next_row x l = elim (cases_eq (place order (producer g x)) i) [
       | inl here ↦
-          let before = earlier (place order (producer g x)) (omega (arith, here)) in
-          let e = entries_exist g urgency order frozen timed rows x l before in
+          let earlier_rows = earlier (place order (producer g x)) (omega (arith, here)) in
+          let e = entries_exist g urgency order frozen timed rows x l earlier_rows in
           let m = merge_exists g timed.admitted.formed.few_processes urgency timed.admitted.urgent.all e.0
-          (entries_have_times g urgency order frozen rows x e.0 timed l before e.1).0 in (
+          (entries_have_times g urgency order frozen rows x e.0 timed l earlier_rows e.1).0 in (
             m.0,
             record { same = λ h. absurd (omega (arith, h, here)); entries = e.0; found = λ h. e.1; merge = λ h. m.1 },
           )
@@ -103,9 +103,9 @@ module _ (g : Graph) (urgency order : List ℕ) (frozen : List (Option ℕ)) (ti
                   }
               -- an item of an earlier process keeps its row
               | inr there ↦
-                  let before : place order (producer g x) < i = omega (arith, h, there) in
+                  let sooner : place order (producer g x) < i = omega (arith, h, there) in
                   row_alike g urgency order frozen timed rows r.0 x l (same (place order (producer g x))
-                  (omega (arith, before))) (sym ((r.2 x l).same before)) (are.each x l before)
+                  (omega (arith, sooner))) (sym ((r.2 x l).same sooner)) (are.each x l sooner)
             ];
           },
         )

@@ -20,7 +20,7 @@ use Rattle.cpg_order.specs.Queue.{rank_of_item}
 use Rattle.cpg_base.proofs.ConditionProcesses.{condition_of_below, condition_of_process_of, process_of_condition_of}
 use Rattle.cpg_bus.specs.Plan.{broadcasts_of, queue_of}
 
--- ---- lists in which each element is so to each later one
+-- ---- lists in which each element has a relation to each later one
 
 -- a map of a list rises if the list rises by what it gives
 Rises-map : {X Y : Type 0} (R : Y → Y → Type 0) (f : X → Y) (xs : List X) → Rises (λ a b. R (f a) (f b)) xs →
@@ -29,7 +29,7 @@ Rises-map R f [] h = tt
 Rises-map R f (x ∷ xs) h =
     (λ y k. let r = Contains-map_parts f xs y k in subst (R (f x)) r.2 (h.0 r.0 r.1), Rises-map R f xs h.1)
 
--- in a list that rises, each place is related to each later one
+-- if xs rises by R, the number at place i is related to that at each later place j
 at_places : (R : ℕ → ℕ → Type 0) (xs : List ℕ) → Rises R xs → (i j d : ℕ) → i < j → j < length xs →
     R (get_or xs i d) (get_or xs j d)
 at_places R [] h i j d l m = absurd (omega arith)
@@ -176,7 +176,7 @@ module _ (g : Graph) where
   broadcasts_rise None = tt
   broadcasts_rise (Some c) = go (ltb 1 (length g.nodes))
     where
-      -- which goes only if there is another node
+      -- the broadcast goes only if there is another node
       go : (b : Bool) → Rises (λ a b. rank_at a < rank_at b) (if b then broadcast_item g c ∷ [] else [])
       go true = (λ y k. absurd (Contains-nil y k), tt)
       go false = tt

@@ -10,6 +10,10 @@ use Rattle.cpg_base.proofs.Bounds.{round-le}
 use Rattle.cpg_base.proofs.Slots.{slot_place-lt}
 use Rattle.cpg_bus.specs.Share.{HasSlot, ShareState, IsShare, share_of}
 
+-- the slot that stands for one that isn't there: it belongs to node 0, takes no time and carries no bytes
+abbrev no_slot : Slot
+no_slot = record { node = 0; length = 0; bytes = 0 }
+
 -- In a graph within the limits, the slot of a node that has one takes time and lies in the round.
 -- The slots before it and itself are some of the slots of the round.
 pub is_share : (g : Graph) (node : ℕ) → IsWithinLimits g → HasSlot g node → IsShare (share_of g node)
@@ -19,7 +23,7 @@ is_share g node within has =
       lasts = (within.slots (slot_place g node) _ l).lasts;
       inside = omega (
         arith,
-        sum_by_more (λ (s : Slot). s.length) g.slots (slot_place g node) (record { node = 0; length = 0; bytes = 0 }) l,
+        sum_by_more (λ (s : Slot). s.length) g.slots (slot_place g node) no_slot l,
         sum_by-take-le (λ (s : Slot). s.length) g.slots (slot_place g node + 1),
       );
       short = round-le g within;
@@ -41,11 +45,10 @@ module _ (g : Graph) (node place : ℕ) (found : Option ℕ) (slots : List Slot)
   offset_is = ap₂ (λ k xs. sum_by (λ (s : Slot). s.length) (take k xs)) place_is same
 
   -- the slot at that place is as long as the node's
-  pub length_is : (get_or slots place (record { node = 0; length = 0; bytes = 0 })).length ≡ slot_length g node
-  length_is =
-      ap₂ (λ k xs. (get_or xs k (let s : Slot = record { node = 0; length = 0; bytes = 0 } in s)).length) place_is same
+  pub length_is : (get_or slots place no_slot).length ≡ slot_length g node
+  length_is = ap₂ (λ k xs. (get_or xs k no_slot).length) place_is same
 
--- equal numbers are a share if the others are
+-- s is a share if t is one, and the two have equal numbers
 pub is_share_of : (s t : ShareState) → s.offset ≡ t.offset → s.length ≡ t.length → s.round ≡ t.round → IsShare t →
     IsShare s
 is_share_of s t a b c is =

@@ -31,7 +31,7 @@ pub record PlanState : Type 0 where
   -- the share of each node, if it has a slot, by node number
   pub shares : List (Option ShareState)
   -- the length of the round, in time units
-  pub turn : ℕ
+  pub round : ℕ
 
 -- the plan of a graph
 abbrev pub plan_of : Graph → PlanState
@@ -39,5 +39,5 @@ plan_of g = record {
   links = links_of g;
   queues = map (queue_of g) (numbers_below (process_count g));
   shares = map (share_if g) (numbers_below (length g.nodes));
-  turn = round g;
+  round = round g;
 }

@@ -57,7 +57,7 @@ impl Model for Plan {
 
     ghost Value = { PlanState };
 
-    ghost view = { λ p. record { links = p.links; queues = p.queues.items; shares = p.shares.items; turn = p.round } };
+    ghost view = { λ p. record { links = p.links; queues = p.queues.items; shares = p.shares.items; round = p.round } };
 }
 
 /// Returns the broadcast of a process's condition; an empty list if it has none, or there is no other node to hear it.
@@ -106,6 +106,7 @@ fn queues(alloc: Global, problem: &Problem, links: &Links) -> Result<Vec<ItemLis
 {
     let mut queues = Vec::new(alloc);
     queues.reserve(problem.processes().len())?;
+    // there are at most 128 processes, so the cast keeps their count
     for process in 0..problem.processes().len() as u32 {
         queues.push(queue(alloc, problem, links, process)?)?;
     }
@@ -136,6 +137,7 @@ fn shares(alloc: Global, problem: &Problem) -> Result<Vec<Option<Share>>, OutOfM
 {
     let mut shares = Vec::new(alloc);
     shares.reserve(problem.nodes().len())?;
+    // there are at most 16 nodes, so the cast keeps their count
     for node in 0..problem.nodes().len() as u32 {
         shares.push(share_if(problem, node))?;
     }
@@ -197,7 +199,7 @@ impl Plan {
         requires { self.now ≡ plan_of problem.now }
         ensures { result ≡ round problem.now }
     {
-        // called for its clause: the graph is within its limits
+        // asked only for its clause: the graph is within its limits
         let _slots = problem.slots();
         self.round
     }

@@ -25,7 +25,8 @@ fn uncommented(line: &str) -> &str {
     }
 }
 
-/// Returns the bytes that a text spells, in words of two hexadecimal digits, with comments from a `#` on.
+/// Returns the bytes that a text spells, in words of two hexadecimal digits, with comments from a `#` on. An error is a
+/// word that spells none, or that memory runs out.
 fn spelled(alloc: Global, text: &str) -> Result<Vec<u8>, Stopped> {
     let mut bytes = Vec::new(alloc);
     for line in text.lines() {
@@ -34,7 +35,8 @@ fn spelled(alloc: Global, text: &str) -> Result<Vec<u8>, Stopped> {
     Ok(bytes)
 }
 
-/// Returns the bytes of a file of the folder or, if its name ends in `.hex`, the bytes that it spells.
+/// Returns the bytes of a file of the folder or, if its name ends in `.hex`, the bytes that it spells. An error is that
+/// the file can't be read, that it spells no bytes, or that memory runs out.
 fn folder_bytes(rt: &HostRuntime, name: &str) -> Result<Vec<u8>, Stopped> {
     if name.ends_with(".hex") {
         let text = fs::read_to_string(rt, name)?;
@@ -43,7 +45,8 @@ fn folder_bytes(rt: &HostRuntime, name: &str) -> Result<Vec<u8>, Stopped> {
     Ok(fs::read(rt, name)?)
 }
 
-/// Returns the bytes of the file that an item made or, if none made it, of a file of the folder.
+/// Returns the bytes of the file that an item made or, if none made it, of a file of the folder. An error is that it
+/// can't be read, that it spells no bytes, or that memory runs out.
 pub fn bytes_of(rt: &HostRuntime, files: &mut MemoryShelf, name: &str) -> Result<Vec<u8>, Stopped> {
     match read_all(rt.alloc(), files, name, MOST_BYTES) {
         Ok(bytes) => Ok(bytes),
@@ -52,7 +55,7 @@ pub fn bytes_of(rt: &HostRuntime, files: &mut MemoryShelf, name: &str) -> Result
     }
 }
 
-/// Returns three texts as one.
+/// Returns three texts as one, one after the other. The one error is that memory runs out.
 fn joined(alloc: Global, before: &str, new: &str, after: &str) -> Result<String, Stopped> {
     Ok(format!(in alloc; "{before}{new}{after}")?)
 }

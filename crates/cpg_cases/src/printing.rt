@@ -27,7 +27,8 @@ fn text_of(bytes: &[u8]) -> Option<&str> {
     }
 }
 
-/// Prints the first lines of a text behind a mark, and says if there are more, or if the last line has no line feed.
+/// Prints the first `lines` lines of a text, each behind a mark, and says if there are more, or if the last line has no
+/// line feed.
 fn print_text(rt: &HostRuntime, mark: &str, text: &str, lines: usize) -> io::Result<()> {
     for line in text.lines().take(lines) {
         println!(rt; "{mark} {line}")?;
@@ -50,7 +51,7 @@ fn print_row(rt: &HostRuntime, mark: &str, row: &[u8]) -> io::Result<()> {
     println!(rt)
 }
 
-/// Prints the first rows of bytes, 16 in each, and says if there are more.
+/// Prints the first `rows` rows of bytes, 16 in each, behind a mark each, and says if there are more.
 fn print_rows(rt: &HostRuntime, mark: &str, bytes: &[u8], rows: usize) -> io::Result<()> {
     for row in bytes.chunks(16).take(rows) {
         print_row(rt, mark, row)?;
@@ -61,7 +62,8 @@ fn print_rows(rt: &HostRuntime, mark: &str, bytes: &[u8], rows: usize) -> io::Re
     Ok(())
 }
 
-/// Prints the first lines of what a sink took: as a text if all its bytes are plain, otherwise as digits.
+/// Prints the first `lines` lines of what a sink took, each behind a mark: as a text if all its bytes are plain, and
+/// otherwise as rows of digits.
 fn print_bytes(rt: &HostRuntime, mark: &str, bytes: &[u8], lines: usize) -> io::Result<()> {
     match text_of(bytes) {
         Some(text) => print_text(rt, mark, text, lines),
@@ -69,7 +71,7 @@ fn print_bytes(rt: &HostRuntime, mark: &str, bytes: &[u8], lines: usize) -> io::
     }
 }
 
-/// Prints a run: the first lines of its output, all of its error output, and its status.
+/// Prints a run: the first `lines` lines of its output, all of its error output, and its status.
 pub fn print_outcome(rt: &HostRuntime, got: &Outcome, lines: usize) -> io::Result<()> {
     let status = got.status;
     print_bytes(rt, ">", got.out.taken(), lines)?;
@@ -77,7 +79,7 @@ pub fn print_outcome(rt: &HostRuntime, got: &Outcome, lines: usize) -> io::Resul
     println!(rt; "status {status}")
 }
 
-/// Prints how many of many runs ended as they should.
+/// Prints how many of many runs ended as they should, behind `what`, the item that made them.
 pub fn print_sweep(rt: &HostRuntime, what: &str, sweep: Sweep) -> io::Result<()> {
     let Sweep { runs, well } = sweep;
     println!(rt; "{what}: {well} of {runs}")

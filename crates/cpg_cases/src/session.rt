@@ -54,8 +54,8 @@ impl Session {
         Ok(self.files.put(name, bytes)?)
     }
 
-    /// Does `feeds NAME COUNT`; `rest` is what follows the first word. Each function below is for one item of the table
-    /// in `main`, unless it says otherwise.
+    /// Does `feeds NAME COUNT`: makes a file of COUNT line feeds. `rest` is what follows the first word, here and
+    /// below.
     fn feeds(&mut self, alloc: Global, rest: &str) -> Result<(), Stopped> {
         let (name, count) = split(rest)?;
         let count = number(count)?;
@@ -63,7 +63,7 @@ impl Session {
         self.put(name, bytes.as_slice())
     }
 
-    /// Does `edit NAME FROM OLD => NEW`.
+    /// Does `edit NAME FROM OLD => NEW`: makes a text of the text of FROM, with NEW in place of its first OLD.
     fn edit(&mut self, rt: &HostRuntime, rest: &str) -> Result<(), Stopped> {
         let (name, rest) = split(rest)?;
         let (from, rest) = split(rest)?;
@@ -73,7 +73,7 @@ impl Session {
         self.put(name, text.as_bytes())
     }
 
-    /// Does `set NAME FROM PLACE BYTE ..`.
+    /// Does `set NAME FROM PLACE BYTE ..`: makes bytes of the bytes of FROM, with others from PLACE on.
     fn set(&mut self, rt: &HostRuntime, rest: &str) -> Result<(), Stopped> {
         let (name, rest) = split(rest)?;
         let (from, rest) = split(rest)?;
@@ -84,12 +84,12 @@ impl Session {
         self.put(name, made.as_slice())
     }
 
-    /// Does `keep NAME`.
+    /// Does `keep NAME`: makes a file of the last output.
     fn keep(&mut self, name: &str) -> Result<(), Stopped> {
         Ok(self.files.put(name, self.wrote.as_slice())?)
     }
 
-    /// Does `room OUT ERR`.
+    /// Does `room OUT ERR`: the sinks of the next run take OUT and ERR bytes.
     fn room(&mut self, rest: &str) -> Result<(), Stopped> {
         let (out, err) = split(rest)?;
         self.next.out = number(out)?;
@@ -97,19 +97,19 @@ impl Session {
         Ok(())
     }
 
-    /// Does `fail CALL`.
+    /// Does `fail CALL`: the call of the shelf with this number, from 0, fails in the next run.
     fn fail(&mut self, call: &str) -> Result<(), Stopped> {
         self.next.failing = Some(call.parse::<u64>()?);
         Ok(())
     }
 
-    /// Does `first LINES`.
+    /// Does `first LINES`: of the next run's output only so many lines are printed.
     fn first(&mut self, lines: &str) -> Result<(), Stopped> {
         self.next.lines = number(lines)?;
         Ok(())
     }
 
-    /// Prints a run, and keeps its output for `keep`.
+    /// Prints a run, keeps its output for `keep`, and leaves the next run with the usual setting.
     fn note(&mut self, rt: &HostRuntime, got: &Outcome) -> Result<(), Stopped> {
         print_outcome(rt, got, self.next.lines)?;
         self.wrote = Vec::from_slice(rt.alloc(), got.out.taken())?;
@@ -118,7 +118,7 @@ impl Session {
         Ok(())
     }
 
-    /// Does `run WORD ..`.
+    /// Does `run WORD ..`: runs the program on these words, and prints what comes of it.
     fn run(&mut self, rt: &HostRuntime, words: &[String]) -> Result<(), Stopped> {
         let got = run_words(rt, &mut self.files, words, self.next)?;
         self.note(rt, &got)
@@ -171,7 +171,7 @@ impl Session {
         Ok(print_sweep(rt, "parts", sweep)?)
     }
 
-    /// Does `parts COUNT NAME WORD ..`.
+    /// Does `parts COUNT NAME WORD ..`: runs words with the COUNT longest proper beginnings of pack NAME in its place.
     fn parts(&mut self, rt: &HostRuntime, rest: &str) -> Result<(), Stopped> {
         let (count, rest) = split(rest)?;
         let (name, rest) = split(rest)?;

@@ -32,7 +32,8 @@ use Rattle.cpg_check.proofs.Verdicts.{other_head, faulty_tables}
 
 -- ---- heads
 
--- a head first differs from the graph's in one part: of two such parts, the later one says that the earlier is equal
+-- head `h` first differs from the graph's in one part, so `p` and `q` are equal: of two such parts, the later one says
+-- that the earlier is equal
 one_part : (g : Graph) (h : Head) (p q : HeadPart) → IsFirstDifference g h p → IsFirstDifference g h q → p ≡ q
 one_part g h HeadPart.Faults HeadPart.Faults d e = refl
 one_part g h HeadPart.Faults HeadPart.Nodes d e = absurd (d e.faults)
@@ -57,14 +58,14 @@ one_part g h HeadPart.Edges HeadPart.Edges d e = refl
 fault_of : ℕ → ℕ → Option ℕ → Scenario → Fault
 fault_of rule item column scenario = record { rule = rule; item = item; column = column; scenario = scenario }
 
--- violations with the same rule, item, column and scenario are the same
+-- violations `e` and `f` with the same rule, item, column and scenario are the same
 same_fault : (e f : Fault) → e.rule ≡ f.rule → e.item ≡ f.item → e.column ≡ f.column → e.scenario ≡ f.scenario → e ≡ f
 unfolding fault_of
 same_fault e f rule item column scenario =
     ap (λ r. fault_of r e.item e.column e.scenario) rule ∙ ap (λ i. fault_of f.rule i e.column e.scenario) item
     ∙ ap (λ c. fault_of f.rule f.item c e.scenario) column ∙ ap (λ s. fault_of f.rule f.item f.column s) scenario
 
--- numbers of which neither is less than the other are equal
+-- numbers `n` and `m` of which neither is less than the other are equal
 same_number : (n m : ℕ) → (n < m → ⊥) → (m < n → ⊥) → n ≡ m
 same_number n m below above = elim (cases_lt n m) [
   | inl l ↦ absurd (below l)
@@ -78,7 +79,7 @@ same_number n m below above = elim (cases_lt n m) [
 
 -- node tables, and the rules V1 to V9
 module _ (g : Graph) (tables : List NodeTable) where
-  -- a test joined to `false` by `and` adds nothing to one that fails
+  -- if `r` is false, so is the test that passes if both `b` and `false` do, or `r` does
   off : (b r : Bool) → r ≡ false → ((b && false) || r) ≡ false
   off true r e = e
   off false r e = e
@@ -90,7 +91,7 @@ module _ (g : Graph) (tables : List NodeTable) where
   present_never s x earlier (c ∷ cs) =
       off (matches c.cube s) (list_any (breaks_at Rule.Present g tables s x earlier) cs) (present_never s x earlier cs)
 
-  -- a rule is broken only at columns, or only for lack of one (V3)
+  -- a rule is broken at item `x` only at columns, or only for lack of one (V3), not both
   none_or_some : (rule : Rule) (s t : Scenario) (x i : ℕ) → breaks rule g tables s x None ≡ true →
       breaks rule g tables t x (Some i) ≡ true → ⊥
   none_or_some Rule.Present s t x i e k = both_ways (breaks Rule.Present g tables t x (Some i))
@@ -112,8 +113,8 @@ module _ (g : Graph) (tables : List NodeTable) where
     Before column =
         IfSome column (λ j. (i : ℕ) (s : Scenario) → i < j → IsScenario g s → breaks rule g tables s x (Some i) ≡ false)
 
-    -- the first column at which the rule is broken is one: of two, the earlier is before the later, where it isn't
-    -- broken
+    -- the first column at which the rule is broken is one, so `c` and `d` are equal: of two, the earlier is before the
+    -- later, where it isn't broken
     one_column : (c d : Option ℕ) (s t : Scenario) → IsScenario g s → IsScenario g t →
         breaks rule g tables s x c ≡ true → breaks rule g tables t x d ≡ true → Before c → Before d → c ≡ d
     one_column None None s t is it h k before earlier = refl
@@ -129,8 +130,8 @@ module _ (g : Graph) (tables : List NodeTable) where
     abbrev LeastAt : Rule → ℕ → Option ℕ → Scenario → Type 0
     LeastAt rule x column s = IsLeast g order (λ t. IsTrue (breaks rule g tables t x column)) s
 
-    -- a rule has one first violation: its item is the least at which the rule is broken, so one; then its column is the
-    -- first there, and its scenario the least there
+    -- first violations `e` and `f` of `rule` are one: the item is the least at which `rule` is broken, so one; then the
+    -- column is the first there, and the scenario the least there
     one_violation : (rule : Rule) (e f : Fault) → IsFirstViolation g order tables rule e →
         IsFirstViolation g order tables rule f → e ≡ f
     one_violation rule e f a b =
@@ -160,7 +161,7 @@ module _ (g : Graph) (tables : List NodeTable) where
     some_broken (rule ∷ rules) e (inl a) all = broken rule e a all.0
     some_broken (rule ∷ rules) e (inr a) all = some_broken rules e a.1 all.1
 
-    -- rules, one after another, have one first violation: it is of the first rule that doesn't hold
+    -- first violations `e` and `f` of `rules`, one after another, are one: they are of the first rule that doesn't hold
     one_of : (rules : List Rule) (e f : Fault) → IsFirstOf g order tables rules e → IsFirstOf g order tables rules f →
         e ≡ f
     one_of [] e f a b = absurd a
@@ -171,7 +172,7 @@ module _ (g : Graph) (tables : List NodeTable) where
 
 -- ---- V10
 
--- a row of columns that are equal to others doesn't differ from them at a first place
+-- if the row `r`, if there is one, has just these columns, it doesn't first differ from them at a place
 differ : (columns : List Column) (place : ℕ) (r : Option (List Column)) → IfSome r (λ cs. cs ≡ columns) →
     IsSomeAnd r (λ cs. DifferFirstAt cs columns place) → ⊥
 differ columns place None e d = d
@@ -188,7 +189,8 @@ slice_get-take (x ∷ xs) (suc i) (suc j) l = slice_get-take xs i j (omega arith
 taken : (xs ys : List Column) (i j : ℕ) → i < j → take j xs ≡ take j ys → slice_get xs i ≡ slice_get ys i
 taken xs ys i j l e = sym (slice_get-take xs i j l) ∙ ap (λ zs. slice_get zs i) e ∙ slice_get-take ys i j l
 
--- a row of columns first differs from others at one place: below the later of two such places they are equal
+-- a row `r` first differs from columns at one place, so `i` and `j` are equal: below the later of two such places they
+-- are equal
 one_place : (columns : List Column) (i j : ℕ) (r : Option (List Column)) →
     IsSomeAnd r (λ cs. DifferFirstAt cs columns i) → IsSomeAnd r (λ cs. DifferFirstAt cs columns j) → i ≡ j
 one_place columns i j None d e = absurd d
@@ -208,7 +210,8 @@ module _ (g : Graph) (tables : List NodeTable) where
   heard_badly x (Some place) h well = differ (due_columns g tables x) place
       (row_columns (table_at tables h.node).hears x) (well h.node h.within) h.differ
 
-  -- an item is first heard otherwise at one place: the least such node is one, and so is the place there
+  -- item `x` is first heard otherwise at one place, so `o` and `p` are equal: the least such node is one, and so is the
+  -- place there
   one_hear_place : (x : ℕ) (o p : Option ℕ) → FirstAt x o → FirstAt x p → o ≡ p
   one_hear_place x None p h k = absurd h
   one_hear_place x (Some i) None h k = absurd k
@@ -221,7 +224,8 @@ module _ (g : Graph) (tables : List NodeTable) where
       (subst (λ n. IsSomeAnd (row_columns (table_at tables n).hears x) (λ cs. DifferFirstAt cs columns i)) node
       h.differ) k.differ)
 
-  -- V10 has one first violation: its item is the least that isn't heard well, so one, and its place is the first there
+  -- first violations `e` and `f` of V10 are one: the item is the least that isn't heard well, so one, and the place is
+  -- the first there
   one_hear : (e f : Fault) → IsFirstHearFault g tables e → IsFirstHearFault g tables f → e ≡ f
   one_hear e f a b =
       let item : e.item ≡ f.item = same_number e.item f.item
@@ -231,7 +235,7 @@ module _ (g : Graph) (tables : List NodeTable) where
       (one_hear_place f.item e.column f.column (subst (λ x. FirstAt x e.column) item a.column) b.column)
       (a.scenario ∙ sym b.scenario)
 
-  -- node tables have one first violation: it is of V10 only if the other nine rules hold
+  -- first violations `e` and `f` of node tables are one: they are of V10 only if the other nine rules hold
   one_fault : (order : List ℕ) (e f : Fault) → IsTopological g order → IsFirstFault g order tables e →
       IsFirstFault g order tables f → e ≡ f
   one_fault order e f along (inl a) (inl b) = one_of g tables order along.all column_rules e f a b
@@ -241,7 +245,8 @@ module _ (g : Graph) (tables : List NodeTable) where
 
 -- ---- verdicts
 
--- of two verdicts that are shown, neither excludes the other, so they are of one kind; and of each kind there is one
+-- of two verdicts `v` and `w` that are shown, neither excludes the other, so they are of one kind; and of each kind
+-- there is one
 one_verdict : (g : Graph) (order : List ℕ) (t : Tables) (v w : Verdict) → IsTopological g order →
     length t.nodes ≡ length g.nodes → ShowsVerdict g order t v → ShowsVerdict g order t w → v ≡ w
 one_verdict g order t Yes Yes along count a b = refl

@@ -19,7 +19,7 @@ use Rattle.cpg_check_rows.specs.Hears.{DifferFirstAt, IsFirstHear, due_columns}
 use Rattle.cpg_check.specs.Verdict.{IsFirstFault}
 use Rattle.cpg_violation.specs.declared.heads.HeadPart.{HeadPart}
 
--- a head that differs from the graph's in some part isn't the graph's
+-- a head `h` that differs from the graph's in the part `part` isn't the graph's
 pub other_head : (g : Graph) (h : Head) (part : HeadPart) → IsFirstDifference g h part → IsHeadFor g h → ⊥
 other_head g h HeadPart.Faults d k = d k.faults
 other_head g h HeadPart.Nodes d k = d.nodes k.nodes
@@ -47,7 +47,7 @@ module _ (g : Graph) (tables : List NodeTable) where
       let hears = valid.hears node (table_at tables node) (slice_get-get_or tables node empty_table l) in
       differ.here (ap (λ ds. slice_get ds place) (heard_due x _ cs (sym (ap (λ rows. row_columns rows x) hears) ∙ e)))
 
-  -- so no place of a column is where an item is first heard otherwise than it is due
+  -- so in valid tables there is no place at which item `x` is first heard otherwise than is due
   first_hear : IsValid g tables → length tables ≡ length g.nodes → (x : ℕ) (o : Option ℕ) →
       IsSomeAnd o (IsFirstHear tables (length g.nodes) x (due_columns g tables x)) → ⊥
   first_hear valid count x None shown = shown

@@ -11,7 +11,7 @@ use Rattle.cpg_check.specs.Verdict.{IsFirstFault, ShowsVerdict}
 use Rattle.cpg_violation.specs.declared.heads.HeadPart.{HeadPart}
 use Rattle.cpg_check.specs.declared.verdict.Verdict.{Verdict}
 
--- of two answers to a check that its contract allows, both are the same
+-- any two answers that the contract of a check allows are the same
 pub record HaveOneVerdict : Type 0 where
   -- a head differs from a graph's first in one part
   pub parts : (g : Graph) (h : Head) (p q : HeadPart) → IsFirstDifference g h p → IsFirstDifference g h q → p ≡ q

@@ -1,4 +1,5 @@
-//! Whether tables are valid for a graph.
+//! The verdict on tables for a graph: first their head is compared with the graph's, and then V1 to V10 are checked,
+//! one rule after another.
 ghost use Rattle.std.specs.Prelude.{◌≡◌, ◌∷◌, IfNone, IfOk, IfSome};
 ghost use Rattle.cpg_base.specs.Graph.{item_count};
 ghost use Rattle.cpg_table.specs.declared.rule.Rule.{Rule};
@@ -32,7 +33,8 @@ pub enum Verdict {
     No(Fault),
 }
 
-/// The first violation of V1 to V3. `None` exactly if they hold. `trees` are those of all rows.
+/// The first violation of V1 to V3, by rule, item and column, with its least scenario. `None` exactly if they hold.
+/// `trees` are those of all rows.
 fn row_fault(
     alloc: Global,
     admitted: &Admitted,
@@ -54,8 +56,9 @@ fn row_fault(
     Ok(fault)
 }
 
-/// The first violation of V4 to V9. `None` exactly if they hold. V1 to V3 have to hold, and `rows` to be those of all
-/// items: of these, the ones that may be asked are sifted.
+/// The first violation of V4 to V9, by rule, item and column, with its least scenario. `None` exactly if they hold. V1
+/// to V3 have to hold, and `rows` to be those of all items: of these, the ones that may be asked are sifted. `marks`
+/// says at which items the rules are known to hold.
 fn later_fault(
     alloc: Global,
     admitted: &Admitted,
@@ -81,7 +84,8 @@ fn later_fault(
     Ok(fault)
 }
 
-/// The first violation of V4 to V9. `None` exactly if they hold. V1 to V3 have to hold. `trees` are those of all rows.
+/// The first violation of V4 to V9, by rule, item and column, with its least scenario. `None` exactly if they hold. V1
+/// to V3 have to hold. `trees` are those of all rows.
 fn time_fault(
     alloc: Global,
     admitted: &Admitted,

@@ -26,19 +26,19 @@ use Rattle.cpg_check_heard.specs.TellingRows.{column_tells, is_telling, is_telli
 
 -- a bound, a scenario, and the time by which something has to be told
 module _ (g : Graph) (time : ℕ) (b : LiteralBound) (s : Scenario) where
-  -- a column whose frame comes later tells nothing
+  -- column `c`, whose frame comes later, tells nothing
   pub late_frame : (delay : ℕ) (o : Option ℕ) (c : Column) → time < c.time + delay →
       is_telling g (Frame delay o) time b s c ≡ false
   late_frame delay o c l = and_right (matches c.cube s) (column_tells g (Frame delay o) time b s c)
       (ap (λ t. t && list_any (tells b) (c.cube ++ value_fact s o)) (lt-leb (c.time + delay) time l))
 
-  -- a column whose execution starts later tells nothing, as it ends later, too
+  -- column `c`, whose execution starts later, tells nothing, as it ends later, too
   pub late_end : (p : ℕ) (c : Column) → time < c.time → is_telling g (End p) time b s c ≡ false
   late_end p c l = and_right (matches c.cube s) (column_tells g (End p) time b s c)
       (ap (λ t. t && list_any (tells b) (exactly p (number_of s p) ∷ value_fact s (condition_of g p)))
       (lt-leb (c.time + duration g p (number_of s p)) time (omega (arith, l))))
 
-  -- if a frame has come, its column matches, and one of the column's literals tells the bound, the column does
+  -- if the frame of column `c` has come, the column matches, and one of its literals tells the bound, the column does
   pub whole_frame : (delay : ℕ) (o : Option ℕ) (c : Column) → nat_le (c.time + delay) time ≡ true →
       list_any (tells b) c.cube ≡ true →
       matches c.cube s ≡ true →
@@ -47,7 +47,7 @@ module _ (g : Graph) (time : ℕ) (b : LiteralBound) (s : Scenario) where
       (and_from (nat_le (c.time + delay) time) (list_any (tells b) (c.cube ++ value_fact s o)) come
       (list_any-append (tells b) c.cube (value_fact s o) ∙ ap (λ t. t || list_any (tells b) (value_fact s o)) told))
 
-  -- with one column more, the columns tell the bound exactly if those before do or that one does
+  -- with column `a` added to `xs`, the columns tell the bound exactly if `xs` do or `a` does (`at`)
   pub tell_push : (xs : List Arrival) (a : Arrival) (at : Bool) → is_telling g a.means time b s a.column.now ≡ at →
       do_tell g time b (xs ++ a ∷ []) s ≡ (do_tell g time b xs s || at)
   tell_push xs a at e = list_any-append (λ (x : Arrival). is_telling g x.means time b s x.column.now) xs (a ∷ [])
@@ -55,17 +55,17 @@ module _ (g : Graph) (time : ℕ) (b : LiteralBound) (s : Scenario) where
 
 -- columns on variables of the graph
 module _ (g : Graph) where
-  -- with one lawful arrival more, all arrivals are lawful
+  -- if each of `xs` is an arrival of the graph, and so is `a`, each of `xs` with `a` at the end is
   pub each_push : (xs : List Arrival) (a : Arrival) → All (IsArrival g) xs → IsArrival g a →
       All (IsArrival g) (xs ++ a ∷ [])
   each_push xs a h is = All-append (IsArrival g) xs (a ∷ []) h one
     where
-      -- the list that is added has this one alone
+      -- the list that is added has the arrival `a` alone, at every place `j` of it
       one : (j : ℕ) (d : Arrival) → j < 1 → IsArrival g (get_or (a ∷ []) j d)
       one zero d l = is
       one (suc j) d l = absurd (omega arith)
 
-  -- if all columns of a row are on variables of the graph, the one that is found at a place is
+  -- if all columns of a row are on variables of the graph, column `c`, which is at place `i`, is
   pub known_column : (columns : List Column) (i : ℕ) (c : Column) → i < length columns →
       ((d : Column) → c ≡ get_or columns i d) → All (λ (d : Column). IsKnown g d.cube) columns →
       IsKnown g c.cube

@@ -10,11 +10,11 @@ use Rattle.cpg_cube.specs.declared.literal.Literal.{Literal}
 use Rattle.cpg_table.specs.Heard.{kept_high, is_heard}
 use Rattle.cpg_check_heard.specs.Bounds.{tells, is_free, low_of, high_of}
 
--- a number is at most the greater of two exactly if it is at most one of them
+-- number `n` is at most the greater of `a` and `b` exactly if it is at most one of them
 below_max : (n a b : ℕ) → nat_le n (max a b) ≡ (nat_le n a || nat_le n b)
 below_max n a b = grind (arith, nat_tests)
 
--- a number is at least the lesser of two exactly if it is at least one of them
+-- number `n` is at least the lesser of `a` and `b` exactly if it is at least one of them
 above_min : (n a b : ℕ) → nat_le (min a b) n ≡ (nat_le a n || nat_le b n)
 above_min n a b = grind (arith, nat_tests)
 
@@ -38,7 +38,7 @@ module _ {X : Type 0} (p : X → Bool) (f : X → ℕ) (n : ℕ) where
   any_max [] a = sym (or-false (nat_le n a))
   any_max (x ∷ xs) a = max_step (p x) x xs a (any_max xs)
 
-  -- the step of `any_min`, as above
+  -- the step of `any_min`: with `x` in front, which passes if `b`, the least is at most `n` by `a`, by `x` or by `xs`
   min_step : (b : Bool) (x : X) (xs : List X) (a : ℕ) →
       ((c : ℕ) → nat_le (fold min c (map f (filter p xs))) n ≡ (nat_le c n || list_any (λ x. p x && nat_le (f x) n) xs))
       → nat_le (fold min a (map f (cond b (x ∷ filter p xs) (filter p xs)))) n
@@ -59,8 +59,8 @@ module _ {X : Type 0} (p : X → Bool) (f : X → ℕ) (n : ℕ) where
 none_below : (n : ℕ) → nat_le n 0 ≡ (n == 0)
 none_below n = grind (arith, nat_tests)
 
--- a literal is heard exactly if its low and its high each leave out no number or are told by a known literal: what a
--- node keeps is the greatest of the known lows, from 0 on, and the least of the known highs, from the top on
+-- a literal `l` is heard exactly if its low and its high each leave out no number or are told by a known literal: what
+-- a node keeps is the greatest of the known lows, from 0 on, and the least of the known highs, from the top on
 pub heard_is : (k : ℕ) (known : List Literal) (l : Literal) →
     is_heard k known l ≡ ((is_free k (low_of l) || list_any (tells (low_of l)) known)
     && (is_free k (high_of l) || list_any (tells (high_of l)) known))
@@ -70,8 +70,9 @@ heard_is k known l = ap (λ t. t && nat_le (kept_high k known l.variable) l.high
     ∙ ap (λ t. (is_free k (low_of l) || list_any (tells (low_of l)) known) && t)
     (any_min (λ (m : Literal). m.variable == l.variable) (λ (m : Literal). m.high) l.high known (top k l.variable))
 
--- if `one` takes account of the low of a literal beside `old`, and `two` of its high beside `one`, then `two` takes
--- account of the literal beside `old`
+-- the step for one literal: `old`, `one` and `two` say whether a bound is untold among those so far, then with the
+-- literal's low added, and then with its high added; `both` says whether the low or the high is untold. So `two` is
+-- true exactly if `old` or `both` is.
 pub literal_more : (old one two low high both : Bool) → one ≡ (old || low) → two ≡ (one || high) →
     (low || high) ≡ both →
     two ≡ (old || both)

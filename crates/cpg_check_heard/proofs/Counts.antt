@@ -19,7 +19,8 @@ module _ (g : Graph) (p start time : ℕ) (come : start ≤ time) where
         lt-leb (start + duration g p n) time (omega (arith, r)) ∙ sym (le-ltb n count l)
   ]
 
-  -- if it lasts too long with none of the counts that there may be, it has ended by the time with all of them
+  -- if the execution of process `p` lasts too long with none of the counts that there may be, it has ended by the time
+  -- with each of them, `n`
   pub counts_all : ((n : ℕ) → n < g.faults + 1 → duration g p n ≤ time - start) → (n : ℕ) → n ≤ g.faults →
       nat_le (start + duration g p n) time ≡ nat_lt n (g.faults + 1)
   counts_all before n l = le-leb (start + duration g p n) time (omega (arith, before n (omega arith)))

@@ -37,7 +37,8 @@ use Rattle.cpg_check_heard.proofs.Untolds.{own_told}
 -- tables that keep V1 to V3, a scenario, a node and a time
 module _ (g : Graph) (tables : List NodeTable) (few : process_count g ≤ 128) (rules : AllHold g tables row_rules)
     (s : Scenario) (law : IsScenario g s) (node time : ℕ) where
-  -- the end of the process tells each bound of its variables that the number is within
+  -- if the process of the variable of bound `b` is active and has ended on the node, and the variable's number is
+  -- within the bound, the node's own ends tell the bound
   own_bound : (b : LiteralBound) → IsVariable g (variable_of b) → HasEnded g tables node (variable_of b) time →
       active g s.values (process_of_variable g (variable_of b)) ≡ true
       → side b (number_of s (variable_of b)) ≡ true → own_tells g tables node time b s ≡ true
@@ -65,7 +66,7 @@ module _ (g : Graph) (tables : List NodeTable) (few : process_count g ≤ 128) (
       refl (facts_told g tables time b s few (variable_within g (variable_of b) few known) node)
       (own_bound b known ended on within)
 
-  -- so it has heard a literal that holds: both its bounds are told
+  -- so the node has heard a literal `l` that holds: both its bounds are told
   pub ended_heard : (l : Literal) → IsVariable g l.variable → HasEnded g tables node l.variable time →
       active g s.values (process_of_variable g l.variable) ≡ true
       → holds s l ≡ true → is_literal_unheard g tables node time s l ≡ false

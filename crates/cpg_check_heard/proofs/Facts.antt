@@ -1,4 +1,4 @@
--- A node is told a bound exactly if the rows of its own ends tell it, or those that it hears do.
+-- A node is told a bound exactly if one of its own ends tells it, or the row of an item that it hears does.
 use Rattle.std.proofs.Common.{ℕ, ◌+◌, ◌-◌, ◌<◌, ◌≤◌, ◌≡◌, ◌≢◌, ◌==◌, Bool, true, false, cond, ◌&&◌, ◌||◌, List, [], ◌∷◌}
 use Rattle.std.proofs.Common.{◌++◌, filter, flat_map, Contains, Option, Some, None, arith, refl, sym, ap}
 use Rattle.std.proofs.Common.{◌∙◌, subst, inl, inr, lt-ltb, le-ltb, true≢false}
@@ -36,7 +36,8 @@ use Rattle.cpg_check_heard.proofs.Sides.{side, tells_exactly, value_side}
 
 -- ---- tests of lists that are made of others
 
--- some result of a flat map passes exactly if some result of some element does; by induction on the elements
+-- some element of the lists that `f` makes of `xs` passes exactly if, for some `x`, some element of its list does; by
+-- induction on `xs`
 any_flat_map : {X Y : Type 0} (test : Y → Bool) (f : X → List Y) (xs : List X) →
     list_any test (flat_map f xs) ≡ list_any (λ x. list_any test (f x)) xs
 any_flat_map test f [] = refl
@@ -78,7 +79,7 @@ any_one f t n one l off = same_truth (list_any f (filter t (numbers_below n))) (
     list_any_true f (filter t (numbers_below n)) one
     (Contains-filter t (numbers_below n) one parts.0 (Contains-numbers n one l)) parts.1)
 
--- a frame tells the value of the condition that it carries, and no value if it carries none
+-- the frame of item `i` tells the value of the condition that it carries, and no value if it carries none
 frame_carried : (s : Scenario) (i : Item) → frame_value s i ≡ value_fact s (carried i)
 frame_carried s (Start p) = refl
 frame_carried s (Message e) = refl
@@ -104,13 +105,13 @@ module _ (g : Graph) (tables : List NodeTable) (time : ℕ) (b : LiteralBound) (
       ap (λ t. matches c.cube s && t) (any_cond (tells b) (nat_le (c.time + duration g p (number_of s p)) time)
       (exactly p (number_of s p) ∷ value_fact s (condition_of g p))))
 
-  -- so they tell it exactly if the row of the start does
+  -- so the facts of a process's ends tell the bound exactly if the row of its start does
   start_row : (p : ℕ) → p < process_count g →
       list_any (tells b) (facts_of_end g tables s time p) ≡ item_tells g tables time b s p
   start_row p l =
       end_row p ∙ ap (λ i. row_tells g (means_of_item g p i) time b (columns_of tables p) s) (sym (item_at-start g p l))
 
-  -- if the bound isn't of the value of the condition, it isn't of a value that the condition has
+  -- if the bound isn't of the value of the condition, `o`, it isn't of a value that the condition has
   other_value : (o : Option ℕ) → ((c : ℕ) → o ≡ Some c → value_variable c ≢ variable_of b) →
       is_value o (variable_of b) ≡ false
   other_value None h = refl
@@ -130,7 +131,7 @@ module _ (g : Graph) (tables : List NodeTable) (time : ℕ) (b : LiteralBound) (
       n (sym (cond-false _ _ _ (le-ltb v 128 (omega (arith, e))) ∙ ap (process_of g) back
       ∙ process_of_condition_of g q c has))))
 
-  -- so the ends of any other process don't tell it
+  -- so the ends of any other process `q` don't tell the bound
   other_row : process_count g ≤ 128 → (q : ℕ) → q < process_count g → q ≢ process_of_variable g (variable_of b) →
       list_any (tells b) (facts_of_end g tables s time q) ≡ false
   other_row few q l n = end_row q ∙ list_any_false (is_telling g (End q) time b s) (columns_of tables q)

@@ -18,12 +18,12 @@ use Rattle.cpg_check_heard.specs.Untold.{are_told_by, item_tells, own_tells}
 use Rattle.cpg_check_heard.proofs.Facts.{facts_told}
 use Rattle.cpg_check_heard.proofs.Untolds.{told_heard}
 
--- an item that a node hears is one of the graph
+-- an item `x` that a node hears is one of the graph
 pub heard_below : (g : Graph) (node x : ℕ) → Contains (heard_by g node) x → x < item_count g
 heard_below g node x among = numbers-Contains (item_count g) x
     (Contains-filter_parts (λ y. is_heard_by g node (item_at g y)) (numbers_below (item_count g)) x among).0
 
--- if the row of one item that a node hears tells a bound, the node is told the bound
+-- if the row of item `x`, which a node hears, tells bound `b` by a time, the node is told the bound
 pub frame_told : (g : Graph) (tables : List NodeTable) (time : ℕ) (b : LiteralBound) (s : Scenario) →
     process_count g ≤ 128 →
     process_of_variable g (variable_of b) < process_count g
@@ -49,7 +49,7 @@ module _ {X : Type 0} (test : X → Bool) (xs : List X) (i : ℕ) (d : X) (l : i
       ∙ ap (λ t. list_any test ys || t) (or-false (test (get_or xs i d))) ∙ ap (λ t. t || test (get_or xs i d)) is ∙
       sym (list_any_more test xs i d l)
 
-  -- and also without it, if it fails the test
+  -- if the next element fails the test, this is so for one element more without it in `ys`
   pub left_more : test (get_or xs i d) ≡ false → list_any test ys ≡ list_any test (take (i + 1) xs)
   left_more off = is ∙ sym (or-false (list_any test (take i xs))) ∙ ap (λ t. list_any test (take i xs) || t) (sym off)
       ∙ sym (list_any_more test xs i d l)

@@ -33,14 +33,14 @@ use Rattle.cpg_check_heard.proofs.Sides.{side, range_holds, end_side, value_side
 
 -- ---- parts
 
--- the part for a test is the part for another that agrees with it in the graph's scenarios
+-- if tests `p` and `q` agree in the graph's scenarios, the part `o` for `p` is the part for `q`
 pub part_same : (g : Graph) (p q : Scenario → Bool) (o : Option (List Literal)) →
     ((s : Scenario) → IsScenario g s → p s ≡ q s) → IsPart g p o → IsPart g q o
 part_same g p q None h f = λ s i. sym (h s i) ∙ f s i
 part_same g p q (Some cube) h f = λ s i. f s i ∙ h s i
 
--- a cube narrowed by a literal is the part in which the cube matches and the literal holds; without scenarios there is
--- none
+-- the cube `base` narrowed by literal `l`, if that is `o`, is the part in which the cube matches and the literal holds;
+-- `None` if there is no scenario of that kind
 pub part_with : (g : Graph) (l : Literal) (base : List Literal) (o : Option (List Literal))
     → IfSome o (λ cube. (s : Scenario) → matches cube s ≡ (holds s l && matches base s)) →
     IfNone o ((s : Scenario) → (holds s l && matches base s) ≡ false) →
@@ -48,28 +48,29 @@ pub part_with : (g : Graph) (l : Literal) (base : List Literal) (o : Option (Lis
 part_with g l base None some none = λ s i. none s
 part_with g l base (Some cube) some none = λ s i. some s
 
--- a cube on variables of the graph stays that when it is narrowed by a literal on one
+-- if cube `base` is on variables of the graph, and so is literal `l`, the cube narrowed by it, `o`, is on variables of
+-- the graph
 pub known_with : (g : Graph) (l : Literal) (base : List Literal) (o : Option (List Literal)) → o ≡ with_literal l base →
     IsVariable g l.variable → IsKnown g base →
     IfSome o (IsKnown g)
 known_with g l base None e v k = tt
 known_with g l base (Some cube) e v k = subst (IsKnown g) (with-is l base cube (sym e)) (known-narrowed g l base v k)
 
--- the range of a bound is a literal on the bound's variable
+-- the range of bound `b` is a literal on the bound's variable
 pub range_variable : (k : ℕ) (b : LiteralBound) → (range_of k b).variable ≡ variable_of b
 range_variable k (Low v least) = refl
 range_variable k (High v most) = refl
 
 -- ---- of ends
 
--- three tests that all have to pass may be asked in another order
+-- three tests `h`, `r` and `m` that all have to pass may be asked in another order
 turned : (h r m : Bool) → (r && (h && m)) ≡ (m && (h && r))
 turned true true m = with_true m true refl
 turned true false m = sym (and_right m false refl)
 turned false true m = sym (and_right m false refl)
 turned false false m = sym (and_right m false refl)
 
--- if two of three tests don't both pass, not all three do
+-- if of three tests two, `h` and `m`, don't both pass, the three don't all pass
 off_both : (m h r : Bool) → (h && m) ≡ false → (m && (h && r)) ≡ false
 off_both true true r e = absurd (true≢false e)
 off_both true false r e = refl
@@ -101,7 +102,7 @@ module _ (g : Graph) (few : process_count g ≤ 128) (p : ℕ) (c : Column) (tim
         holds s (record { variable = p; low = 0; high = counts - 1 }) ≡ nat_lt (number_of s p) counts
     come_is s = come_holds (number_of s p) counts some
 
-    -- if the column matches with none of them, its end never tells the bound
+    -- if column `c` matches with none of the counts, its end never tells the bound
     pub end_apart : ((s : Scenario) →
         (holds s (record { variable = p; low = 0; high = counts - 1 }) && matches c.cube s) ≡ false) → (s : Scenario) →
         IsScenario g s →
@@ -110,8 +111,8 @@ module _ (g : Graph) (few : process_count g ≤ 128) (p : ℕ) (c : Column) (tim
         ∙ off_both (matches c.cube s) (nat_lt (number_of s p) counts) (holds s (range_of g.faults b))
         (ap (λ t. t && matches c.cube s) (sym (come_is s)) ∙ off s)
 
-    -- otherwise the part with these counts, narrowed by the bound's range, is that in which the column's end tells the
-    -- bound
+    -- otherwise the part with these counts, narrowed by the bound's range to `o`, is that in which the end of column
+    -- `c` tells the bound
     pub end_told : (part : List Literal) (o : Option (List Literal)) →
         ((s : Scenario) →
         matches part s ≡ (holds s (record { variable = p; low = 0; high = counts - 1 }) && matches c.cube s))
@@ -176,7 +177,7 @@ module _ (g : Graph) (few : process_count g ≤ 128) (delay : ℕ) (o : Option �
 
 -- a test, of which a part is added to a list of cubes
 module _ (g : Graph) (test : Scenario → Bool) where
-  -- one of the cubes matches exactly where one did before, or the test passes
+  -- with the part `o` added to `told`, one of the cubes matches exactly where one did before, or the test passes
   pub told_add : (told : List (List Literal)) (o : Option (List Literal)) → IsPart g test o → (s : Scenario) →
       IsScenario g s
       → list_any (λ b. matches b s) (told ++ option_to_list o) ≡ (list_any (λ b. matches b s) told || test s)
@@ -185,14 +186,14 @@ module _ (g : Graph) (test : Scenario → Bool) where
   told_add told (Some cube) f s i = list_any-append (λ b. matches b s) told (cube ∷ [])
       ∙ ap (λ t. list_any (λ b. matches b s) told || t) (or-false (matches cube s) ∙ f s i)
 
--- if the cubes and the part that is added are on variables of the graph, so are all
+-- if the cubes `told` and the part `o` that is added are on variables of the graph, so are all
 pub known_add : (g : Graph) (told : List (List Literal)) (o : Option (List Literal)) → All (IsKnown g) told →
     IfSome o (IsKnown g) →
     All (IsKnown g) (told ++ option_to_list o)
 known_add g told None h k = All-append (IsKnown g) told [] h (λ j d l. absurd (omega arith))
 known_add g told (Some cube) h k = All-append (IsKnown g) told (cube ∷ []) h (λ j d l. one j d l)
   where
-    -- the list that is added has this cube alone
+    -- the list that is added has this cube alone, at every place `j` of it
     one : (j : ℕ) (d : List Literal) → j < 1 → IsKnown g (get_or (cube ∷ []) j d)
     one zero d l = k
     one (suc j) d l = absurd (omega arith)

@@ -31,7 +31,7 @@ pub tells_exactly : (b : LiteralBound) (w n : ℕ) → tells b (exactly w n) ≡
 tells_exactly (Low v least) w n = refl
 tells_exactly (High v most) w n = refl
 
--- the variable of a fault count isn't that of a condition's value
+-- a variable `v` of a fault count isn't that of a condition's value, `o`
 is_value_off : (o : Option ℕ) (v : ℕ) → v < 128 → is_value o v ≡ false
 is_value_off None v h = refl
 is_value_off (Some c) v h = ne_eqb (value_variable c) v (λ e. omega (arith, e, h))
@@ -45,8 +45,8 @@ come_holds n c h = elim (cases_lt n c) [
       ∙ sym (le-ltb n c l)
 ]
 
--- the value of a condition, if there is one, tells a bound exactly if it is that of the bound's variable and the
--- variable's number is within the bound
+-- the value of a condition, if there is one (`o`), tells bound `b` exactly if it is that of the bound's variable and
+-- the variable's number is within the bound
 pub value_side : (s : Scenario) (b : LiteralBound) (o : Option ℕ) →
     list_any (tells b) (value_fact s o) ≡ (is_value o (variable_of b) && side b (number_of s (variable_of b)))
 value_side s b None = refl
@@ -56,13 +56,13 @@ value_side s b (Some c) = or-false (tells b (exactly (value_variable c) (number_
     (side b (number_of s (variable_of b)))
     (λ e. ap (λ v. side b (number_of s v)) (eqb-true (value_variable c) (variable_of b) e))
 
--- a variable of the graph is that of a fault count or that of a value
+-- a variable `v` of the graph is that of a fault count or that of a value
 variable_parts : (g : Graph) (v : ℕ) → process_count g ≤ 128 → IsVariable g v →
     (v < process_count g) ⊎ ((128 ≤ v) × (v - 128 < condition_count g))
 variable_parts g v few (inl l) = inl l
 variable_parts g v few (inr r) = inr (r.0, omega (arith, r.0, r.1))
 
--- the process of a variable is one of the graph's
+-- the process of variable `v` is one of the graph's
 pub variable_within : (g : Graph) (v : ℕ) → process_count g ≤ 128 → IsVariable g v →
     process_of_variable g v < process_count g
 variable_within g v few known =
@@ -89,7 +89,7 @@ module _ (g : Graph) (few : process_count g ≤ 128) (s : Scenario) (i : IsScena
       let t = top_of_count g.faults p (omega arith) in
       omega (arith, a, t)
 
-  -- the count and the value of a process tell a bound of one of its variables exactly if the variable's number is
+  -- the count and the value of process `p` tell bound `b` of one of its variables exactly if the variable's number is
   -- within the bound; by cases of whether the bound is of the count or of the value
   pub end_side : (b : LiteralBound) (p : ℕ) → IsVariable g (variable_of b) → p < process_count g →
       process_of_variable g (variable_of b) ≡ p

@@ -9,7 +9,7 @@ use Rattle.cpg_table.specs.Table.{NodeTable}
 use Rattle.cpg_check_heard.specs.declared.telling_rows.TellingRow.{TellingRow}
 use Rattle.cpg_check_heard.specs.TellingRows.{IsTellingRow, AreTellingRows}
 
--- a place of the first list has the same element in the joined list
+-- place `i` of list `xs` has the same element in `xs` joined with `ys`
 get_before : {X : Type 0} (xs ys : List X) (i : ℕ) → i < length xs → slice_get (xs ++ ys) i ≡ slice_get xs i
 get_before [] ys i h = absurd (omega arith)
 get_before (x ∷ xs) ys zero h = refl
@@ -26,8 +26,8 @@ module _ (g : Graph) (tables : List NodeTable) where
   pub rows_none : AreTellingRows g tables 0 []
   rows_none = record { count = refl; each = λ x t e. absurd (omega (arith, slice_get_within [] x t e)) }
 
-  -- with the row of the next item at its end, the list has the rows of one item more: each place below the end has an
-  -- earlier row, and the end the new one
+  -- with the row `t` of the next item at the end of `ts`, the list has the rows of one item more: each place below the
+  -- end has an earlier row, and the end the new one
   rows_push : (items : ℕ) (ts : List TellingRow) (t : TellingRow) → AreTellingRows g tables items ts →
       IsTellingRow g tables items t →
       AreTellingRows g tables (items + 1) (ts ++ t ∷ [])
@@ -45,14 +45,14 @@ module _ (g : Graph) (tables : List NodeTable) where
     ];
   }
 
-  -- the same of a list that is said to be so
+  -- if `more` is `ts` with the row `t` of the next item at its end, it has the rows of one item more
   pub rows_more : (items : ℕ) (ts more : List TellingRow) (t : TellingRow) → more ≡ ts ++ t ∷ [] →
       AreTellingRows g tables items ts → IsTellingRow g tables items t →
       AreTellingRows g tables (items + 1) more
   rows_more items ts more t e are is =
       subst (AreTellingRows g tables (items + 1)) (sym e) (rows_push items ts t are is)
 
-  -- the row that is looked up at an item's number is the item's
+  -- the row `t` that is looked up among `ts` at the number of item `x` is the item's
   pub row_at : (items : ℕ) (ts : List TellingRow) (x : ℕ) (t : TellingRow) → AreTellingRows g tables items ts →
       x < items →
       t ≡ get_or ts x t →

@@ -15,7 +15,7 @@ use Rattle.cpg_violation.proofs.Tests.{off_where, same_where}
 
 -- the cube of a column, and cubes where a bound is told
 module _ (g : Graph) (order : List ℕ) (cube : List Literal) (told : List (List Literal)) where
-  -- the answer of the search is the least scenario that they leave of the cube
+  -- the answer `o` of the search is the least scenario that the cubes `told` leave of the cube
   pub first_left : (o : Option Scenario) →
       IfNone o ((s : Scenario) → IsScenario g s → matches cube s ≡ true → list_any (λ b. matches b s) told ≡ true)
       → IfSome o (IsLeast g order (λ s. IsTrue (matches cube s && not (list_any (λ b. matches b s) told)))) →
@@ -44,11 +44,12 @@ module _ (start : List (List Literal)) (s : Scenario) where
   told_all first last own heard all none e f is =
       f ∙ ap (λ x. x || heard) (e ∙ ap (λ xs. list_any (λ b. matches b s) xs || own) none) ∙ sym is
 
--- what the heard rows tell is told
+-- what the heard rows tell (`heard`) is told (`all`)
 pub told_heard : (own heard all : Bool) → all ≡ (own || heard) → heard ≡ true → all ≡ true
 told_heard own heard all is t = is ∙ or_right own heard t
 
--- if a bound is told wherever the cube matches, there is no scenario of the cube in which it isn't
+-- if a bound is told (`facts`) wherever the cube matches, there is no scenario of the cube in which it isn't; it
+-- needn't be told if it is `free`
 pub untold_nowhere : (g : Graph) (cube : List Literal) (facts : Scenario → Bool) (free : Bool) →
     ((s : Scenario) → IsScenario g s → matches cube s ≡ true → facts s ≡ true) →
     (s : Scenario) →
@@ -56,7 +57,7 @@ pub untold_nowhere : (g : Graph) (cube : List Literal) (facts : Scenario → Boo
 untold_nowhere g cube facts free h s i =
     off_where (matches cube s) (not (free || facts s)) (λ m. ap not (or_right free (facts s) (h s i m)))
 
--- what a node's own ends tell is told
+-- what a node's own ends tell (`own`) is told (`all`)
 pub own_told : (free first own heard all : Bool) → first ≡ own → all ≡ (own || heard) → first ≡ true →
     (free || all) ≡ true
 own_told free first own heard all f is t = or_right free all (is ∙ ap (λ x. x || heard) (sym f ∙ t))
@@ -66,8 +67,8 @@ pub fewer_left : {A B : Type 0} (left : Bool) → (A → B) → OnFalse left A �
 fewer_left false f a = f a
 fewer_left true f a = tt
 
--- if the search finds no scenario that the cubes leave, then whatever holds where one of them matches holds wherever
--- the cube does
+-- if the search `o` finds no scenario of the cube that the cubes `told` leave, and `facts` say something wherever one
+-- of these matches, they say it wherever the cube does
 pub left_nowhere : (g : Graph) (order : List ℕ) (cube : List Literal) (told : List (List Literal)) (o : Option Scenario)
     (facts : Scenario → Bool)
     → ((s : Scenario) → IsScenario g s → matches cube s ≡ true →

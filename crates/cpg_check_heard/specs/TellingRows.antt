@@ -42,7 +42,7 @@ is_telling_at g means time b columns s i =
 abbrev pub row_tells : Graph → Means → ℕ → LiteralBound → List Column → Scenario → Bool
 row_tells g means time b columns s = list_any (is_telling g means time b s) columns
 
--- what tells may tell the bound: an end, only a bound on the count or the value of its own process; a frame, any
+-- these means can tell bound `b`: an end only one on the count or the value of its own process, a frame any
 abbrev pub CanTell : Graph → LiteralBound → Means → Type 0
 CanTell g b (End p) = (p < process_count g) × (process_of_variable g (variable_of b) ≡ p)
 CanTell g b (Frame delay condition) = Unit {0}
@@ -53,7 +53,7 @@ carried (Start p) = None
 carried (Message e) = None
 carried (Broadcast c) = Some c
 
--- whether variable `v` is the value of the condition, if there is one
+-- whether variable `v` is the value of the condition; false if there is no condition
 abbrev pub is_value : Option ℕ → ℕ → Bool
 is_value None v = false
 is_value (Some c) v = value_variable c == v
@@ -69,7 +69,7 @@ means_of_item g x (Broadcast c) = Frame (slot_length g (home g x)) (Some c)
 abbrev pub means_of : Graph → ℕ → Means
 means_of g x = means_of_item g x (item_at g x)
 
--- the cube matches in just the scenarios that pass a test; `None` only if none passes
+-- the cube matches in just the scenarios of the graph that pass a test; it is `None` only if none passes
 abbrev pub IsPart : Graph → (Scenario → Bool) → Option (List Literal) → Type 0
 IsPart g test None = (s : Scenario) → IsScenario g s → test s ≡ false
 IsPart g test (Some cube) = (s : Scenario) → IsScenario g s → matches cube s ≡ test s
@@ -77,7 +77,7 @@ IsPart g test (Some cube) = (s : Scenario) → IsScenario g s → matches cube s
 -- `t` has the row of item `x`, and the means by which it tells
 pub record IsTellingRow (g : Graph) (tables : List NodeTable) (x : ℕ) (t : TellingRow) : Type 0 where
   -- the row has the columns of the item in the tables
-  pub row : IsSievedRow (columns_of tables x) t.row.now
+  pub sieved : IsSievedRow (columns_of tables x) t.sieved.now
   -- the means are those of the item
   pub means : t.means ≡ means_of g x
 

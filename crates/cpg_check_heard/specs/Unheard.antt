@@ -24,7 +24,7 @@ is_one_untold g tables node time bounds s = list_any (λ b. not (is_told g table
 abbrev pub is_column_unheard : Graph → List NodeTable → ℕ → Scenario → Column → Bool
 is_column_unheard g tables node s c = list_any (is_literal_unheard g tables node c.time s) c.cube
 
--- whether there is a column at place `i` of the row of item `x`, and it breaks V4: it matches in a scenario in which
--- the item's node hasn't heard one of its literals
+-- whether there is a column at place `i` of these columns of item `x`, and it breaks V4 in scenario `s`: it matches in
+-- it, and the item's node hasn't heard one of the column's literals
 abbrev pub is_unheard : Graph → List NodeTable → ℕ → List Column → ℕ → Scenario → Bool
 is_unheard g tables x columns i s = is_broken (λ t c. breaks_heard g tables t x c) columns i s

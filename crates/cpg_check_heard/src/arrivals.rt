@@ -46,7 +46,8 @@ pub(crate) fn may_have_come(means: Means, start: u64, time: u64) -> bool
     }
 }
 
-/// Adds the column at a place, if there is one and what it begins may have come by a time.
+/// Adds to `arrivals` the column at `place`, if there is one and what it begins may have come by `time`. `means` are
+/// those of its row.
 fn add_column<'a>(
     means: Means,
     columns: &'a [Column],
@@ -71,8 +72,8 @@ fn add_column<'a>(
     Ok(())
 }
 
-/// Adds the columns of a row that may match together with a cube, and whose frames may have come by a time. Where the
-/// cube matches, they tell just what the whole row tells (`told`).
+/// Adds to `arrivals` the columns of a row that may match together with a cube, and whose ends or frames may have come
+/// by a time. Where the cube matches, they tell just what the whole row tells (`told`).
 fn add_row<'a>(
     alloc: Global,
     row: &TellingRow<'a>,
@@ -80,15 +81,15 @@ fn add_row<'a>(
     time: u64,
     arrivals: &mut Vec<Arrival<'a>>,
 ) -> Result<(), OutOfMemory>
-    requires { IsSievedRow row.now.row.now.columns.now row.now.row.now }
-    ensures each { IfOk result (λ _. (g : Graph) → All (λ c. IsKnown g c.cube) row.now.row.now.columns.now
+    requires { IsSievedRow row.now.sieved.now.columns.now row.now.sieved.now }
+    ensures each { IfOk result (λ _. (g : Graph) → All (λ c. IsKnown g c.cube) row.now.sieved.now.columns.now
         → ((b : LiteralBound) → CanTell g b row.now.means) → All (IsArrival g) arrivals.old.items
         → All (IsArrival g) arrivals.new.items) }
     ensures told { IfOk result (λ _. (g : Graph) (b : LiteralBound) (s : Scenario) → matches cube.now s ≡ true
         → do_tell g time b arrivals.new.items s ≡ (do_tell g time b arrivals.old.items s
-        || row_tells g row.now.means time b row.now.row.now.columns.now s)) }
+        || row_tells g row.now.means time b row.now.sieved.now.columns.now s)) }
 {
-    let sieved = row.row;
+    let sieved = row.sieved;
     // even the first column comes too late
     if !may_have_come(row.means, sieved.first, time) {
         return Ok(());
@@ -154,7 +155,7 @@ fn tells_whole(
     cube.within(&column.cube, problem)
 }
 
-/// Whether one of these columns tells a bound by a time wherever a cube matches, as `tells_whole` finds out. False
+/// Whether one of these columns tells a bound by a time, by a literal of its frame, wherever a cube matches. False
 /// guarantees nothing.
 pub(crate) fn tells_one_whole(
     problem: &Problem,

@@ -83,6 +83,7 @@ pub fn sift_heard(
 ) -> Result<(), OutOfMemory>
     ensures { IfOk result (λ _. (count : ℕ) → AreSievedRows tables.now.nodes count rows.old → AreSievedRows tables.now.nodes count rows.new) }
 {
+    // there are at most 16 nodes, so the cast keeps their number
     for node in 0..problem.nodes().len() as u32 {
         sift_of_node(alloc, tables, rows, node, marks)?;
     }

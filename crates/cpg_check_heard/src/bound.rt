@@ -71,7 +71,7 @@ impl LiteralBound {
         }
     }
 
-    /// Whether one of these literals implies it.
+    /// Whether one of these literals implies it, as `is_told_by` says.
     pub(crate) fn is_told_by_any(&self, literals: &[Literal]) -> bool
         ensures { result ≡ list_any (tells self.now) literals.now }
     {

@@ -23,7 +23,7 @@ impl Hearing<'_> {
             return false;
         }
         let longest = problem.duration(process, problem.faults());
-        let row = self.telling_rows[process as usize].row;
+        let row = self.telling_rows[process as usize].sieved;
         has_come(row.last, longest, time)
     }
 }

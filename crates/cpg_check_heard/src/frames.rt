@@ -29,8 +29,8 @@ pub(crate) struct RowRank {
     item: u32,
 }
 
-/// Those of some bounds that none of these columns tells wherever a column matches, as `tells_one_whole` finds out.
-/// Those left out are told there, so a test that is false of told bounds passes at one left exactly where it does at
+/// Those of some bounds that none of `arrivals` is found to tell wherever a column matches, by the column's time. Those
+/// left out are told there, so a test that is false of told bounds passes at one that is left exactly where it does at
 /// one of all (`left`).
 fn left_open(
     alloc: Global,

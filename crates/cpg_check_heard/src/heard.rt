@@ -23,7 +23,7 @@ use cpg_violation::{SievedRow, is_marked};
 use std::alloc::Global;
 
 /// The place of the first column of an item's row that matches in a scenario in which the item's node hasn't heard one
-/// of its literals by its time, with the least such scenario. `None` exactly if there is none.
+/// of the column's literals by its time, with the least such scenario. `None` exactly if there is none.
 fn first_unheard(
     alloc: Global,
     hearing: &Hearing<'_>,

@@ -86,8 +86,9 @@ fn may_leave(
 }
 
 impl Hearing<'_> {
-    /// Adds to `told`, where `cube` matches, the parts of cubes in which the node's own ends tell a bound by a time.
-    /// Only the process of the bound's variable may tell it by its end, and only if it is on the node.
+    /// Adds to `told` cubes such that, where `cube` matches, one of the added ones does exactly where an end on the
+    /// node tells a bound by a time. Only the process of the bound's variable may tell it by its end, and only if it is
+    /// on the node.
     fn add_own(
         &self,
         alloc: Global,
@@ -175,8 +176,8 @@ impl Hearing<'_> {
         Ok(())
     }
 
-    /// Adds to `bounds` those of a column's literal that the node's own ends leave open where the column matches, at
-    /// its time. So one of `bounds` is untold exactly where one was before, or the literal isn't heard (`unheard`).
+    /// Adds to `bounds` the bounds of a column's literal that the node's own ends leave open where the column matches,
+    /// at its time. So one of `bounds` is untold exactly where one was before, or the literal isn't heard (`unheard`).
     fn add_literal(
         &self,
         alloc: Global,
@@ -233,7 +234,8 @@ impl Hearing<'_> {
     }
 
     /// The least scenario that a column matches and in which a node hasn't been told a bound by its time. `None`
-    /// exactly if there is none. `arrivals` are those for this column. Only the contract names `items`.
+    /// exactly if there is none. `items`, which only the contract names, are all that the node hears, and `arrivals`
+    /// are those of their columns that may tell something by this column's time.
     fn least_untold(
         &self,
         alloc: Global,
@@ -270,7 +272,8 @@ impl Hearing<'_> {
     }
 
     /// The least scenario that a column matches and in which a node hasn't been told one of these bounds by its time.
-    /// `None` exactly if there is none.
+    /// `None` exactly if there is none. `items` are all that the node hears, and `arrivals` are those of their columns
+    /// that may tell something by this column's time.
     fn least_of_bounds(
         &self,
         alloc: Global,

@@ -20,8 +20,8 @@ use cpg_cube::{Column, Cube, Literal};
 use cpg_violation::has_come;
 use std::alloc::Global;
 
-/// With how many of the fault counts, from 0 on, an execution that starts at `start` ends by `time`: with counts below
-/// the result it does, and with greater ones it doesn't.
+/// With how many of the fault counts, from 0 on, an execution that starts at `start` ends by `time`: with fewer faults
+/// than the result it does, and with as many or more it doesn't.
 fn counts_by(problem: &Problem, process: u32, start: u64, time: u64) -> u8
     requires { process < process_count problem.now }
     ensures limits { IsWithinLimits problem.now }
@@ -63,7 +63,7 @@ fn end_part(
     if counts == 0 {
         return Ok(None);
     }
-    // the counts with which it has ended by then; their variable has the number of the process
+    // the counts with which it has ended by then; their variable has the number of the process, which is below 128
     let come = Literal {
         variable: process as u8,
         low: 0,
@@ -147,7 +147,8 @@ pub(crate) fn part_of(
     }
 }
 
-/// What `part_of` gives for the column at a place; `None` also if there is no column.
+/// The part of the cube of the column at `place` in which its end or frame has come by a time and tells a bound. `None`
+/// only if there is no such scenario, or no column is there.
 fn part_at(
     problem: &Problem,
     means: Means,
@@ -169,7 +170,7 @@ fn part_at(
     Ok(part)
 }
 
-/// Adds a part to `told`, if there is one.
+/// Adds a part to `told`; nothing if it is `None`.
 pub(crate) fn add(told: &mut Vec<Cube>, part: Option<Cube>) -> Result<(), OutOfMemory>
     ensures { IfOk result (λ _. told.new.items ≡ told.old.items ++ option_to_list part) }
 {
@@ -193,16 +194,16 @@ pub(crate) fn add_row(
 ) -> Result<(), OutOfMemory>
     requires can { CanTell problem.now bound row.now.means }
     requires variable { IsVariable problem.now (variable_of bound) }
-    requires columns { All (λ c. IsKnown problem.now c.cube) row.now.row.now.columns.now }
-    requires row { IsSievedRow row.now.row.now.columns.now row.now.row.now }
+    requires columns { All (λ c. IsKnown problem.now c.cube) row.now.sieved.now.columns.now }
+    requires row { IsSievedRow row.now.sieved.now.columns.now row.now.sieved.now }
     requires told { All (IsKnown problem.now) told.old.items }
     ensures known { IfOk result (λ _. All (IsKnown problem.now) told.new.items) }
     ensures told { IfOk result (λ _. (s : Scenario) → IsScenario problem.now s → matches cube.now s ≡ true
         → list_any (λ b. matches b s) told.new.items
         ≡ (list_any (λ b. matches b s) told.old.items
-        || row_tells problem.now row.now.means time bound row.now.row.now.columns.now s)) }
+        || row_tells problem.now row.now.means time bound row.now.sieved.now.columns.now s)) }
 {
-    let sieved = row.row;
+    let sieved = row.sieved;
     // even the first column comes too late
     if !may_have_come(row.means, sieved.first, time) {
         return Ok(());

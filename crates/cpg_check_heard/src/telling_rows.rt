@@ -26,7 +26,7 @@ pub(crate) enum Means {
 #[derive(Clone, Copy)]
 pub(crate) struct TellingRow<'a> {
     /// The columns of the item, sieved.
-    pub(crate) row: &'a SievedRow<'a>,
+    pub(crate) sieved: &'a SievedRow<'a>,
     /// By what means these columns tell.
     pub(crate) means: Means,
     /// How many literals its longest cube has.
@@ -71,12 +71,12 @@ pub(crate) fn telling_rows<'a>(
     let problem = admitted.problem();
     let mut telling_rows = Vec::new(alloc);
     for item in 0..problem.item_count() {
-        let row = &rows[item as usize];
+        let sieved = &rows[item as usize];
         let means = means_of(problem, item);
         telling_rows.push(TellingRow {
-            row,
+            sieved,
             means,
-            most_literals: most_literals(row.columns),
+            most_literals: most_literals(sieved.columns),
         })?;
     }
     Ok(telling_rows)

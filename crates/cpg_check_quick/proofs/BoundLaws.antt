@@ -16,16 +16,16 @@ use Rattle.cpg_check_quick.specs.Bounds.{bounds_of, high_of, low_of, unknown_bou
 use Rattle.cpg_check_quick.specs.Hearing.{IsAllHeard, IsHeardIn}
 use Rattle.cpg_check_quick.specs.HeardRows.{AreToldIn, IsToldIn}
 
--- a list that is empty or has one element has no other
+-- in a list that is empty if `b` holds, and has only `x` otherwise, each element `y` is `x`
 one_of : {X : Type 0} (b : Bool) (x y : X) → Contains (cond b [] (x ∷ [])) y → x ≡ y
 one_of true x y h = absurd (Contains-nil y h)
 one_of false x y h = elim (Contains-cases x [] y h) [ inl e ↦ e | inr k ↦ absurd (Contains-nil y k) ]
 
--- it has that element if the test fails that would empty it
+-- a list that is empty if `b` holds, and has only `x` otherwise, has `x` if `b` doesn't hold
 one_there : {X : Type 0} (b : Bool) (x : X) → b ≡ false → Contains (cond b [] (x ∷ [])) x
 one_there b x e = subst (λ xs. Contains xs x) (sym (cond-false b [] (x ∷ []) e)) (Contains-first x [])
 
--- a literal of a list implies its own low and high
+-- literal `l`, one of a list, implies each of its own bounds `w`, its low and its high
 bound_wider : (k : ℕ) (literals : List Literal) (l w : Literal) → Contains literals l → Contains (bounds_of k l) w →
     IsToldIn literals w
 bound_wider k literals l w there h = elim (Contains-append_cases (low_of k l) (high_of k l) w h) [
@@ -37,16 +37,16 @@ bound_wider k literals l w there h = elim (Contains-append_cases (low_of k l) (h
       (record { by = l; there = there; variable = refl; low = omega arith; high = omega arith })
 ]
 
--- the bounds of a literal are listed if its variable isn't known
+-- an element `x` of `xs` is in a list that is empty if `b` holds, and `xs` otherwise, if `b` doesn't hold
 unknown_there : {X : Type 0} (b : Bool) (xs : List X) (x : X) → b ≡ false → Contains xs x → Contains (cond b [] xs) x
 unknown_there b xs x e h = subst (λ ys. Contains ys x) (sym (cond-false b [] xs e)) h
 
--- what is listed is one of the bounds
+-- each element `x` of a list that is empty if `b` holds, and `xs` otherwise, is one of `xs`
 unknown_parts : {X : Type 0} (b : Bool) (xs : List X) (x : X) → Contains (cond b [] xs) x → Contains xs x
 unknown_parts true xs x h = absurd (Contains-nil x h)
 unknown_parts false xs x h = h
 
--- each bound that is listed for some literals is implied by one of them
+-- each bound `w` that is listed for some literals is implied by one of them
 bounds_wider : (k : ℕ) (known : List Bool) (literals : List Literal) (w : Literal) →
     Contains (flat_map (unknown_bounds k known) literals) w →
     IsToldIn literals w
@@ -94,7 +94,8 @@ module _ (g : Graph) (tables : List NodeTable) (node : ℕ) (c : Column) (known 
   pub all_wider : AreToldIn c.cube wanted
   all_wider w h = bounds_wider g.faults known c.cube w (subst (λ ws. Contains ws w) is h)
 
-  -- if the literals on known variables are heard, and all these bounds, then all literals of the column are
+  -- if each literal `l` of the column that is on a known variable is heard, and each of these bounds, then all literals
+  -- of the column are
   pub column_heard :
       ((l : Literal) → Contains c.cube l → get_or known l.variable false ≡ true → IsHeardIn g tables node c l) →
       ((l : Literal) → Contains wanted l → IsHeardIn g tables node c l) →

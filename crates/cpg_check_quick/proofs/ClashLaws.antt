@@ -21,7 +21,7 @@ use Rattle.cpg_violation.proofs.Tests.{off_where}
 use Rattle.cpg_check_quick.specs.Order.{IsApart, execution, sending}
 use Rattle.cpg_violation.proofs.SureLaws.{sure_of}
 
--- each time of an item in a scenario is that of a column that matches
+-- each time of item `x` in scenario `s` is that of a column `d` that matches
 at_parts : (tables : List NodeTable) (x : ℕ) (s : Scenario) (time : ℕ) → Contains (at tables x s) time →
     (d : Column) × Contains (columns_of tables x) d × (matches d.cube s ≡ true) × (d.time ≡ time)
 at_parts tables x s time h =
@@ -30,7 +30,7 @@ at_parts tables x s time h =
     let q = Contains-filter_parts (λ (c : Column). matches c.cube s) (columns_of tables x) r.0 r.1 in
     (r.0, q.0, q.1, r.2)
 
--- a test that fails at the time of each column that matches passes at none of the item's times
+-- a test that fails at the time of each column `d` of item `x` that matches passes at none of the item's times
 none_at : (tables : List NodeTable) (x : ℕ) (s : Scenario) (test : ℕ → Bool) →
     ((d : Column) → Contains (columns_of tables x) d → matches d.cube s ≡ true → test d.time ≡ false) →
     list_any test (at tables x s) ≡ false
@@ -68,7 +68,7 @@ module _ (g : Graph) (tables : List NodeTable) (p : ℕ) where
       (All-contains (λ q. IsApart (execution g) g tables q p)
       (filter (λ q. node_of g q == node_of g p) (numbers_below p)) q apart k s c law there m d at n)))))
 
-  -- the same of a list that is said to have the lower processes of the node
+  -- V6 is sure at process `p` if it is apart from each of `lower`, which are the lower processes of its node
   pub sure_alone : (lower : List ℕ) → lower ≡ filter (λ q. node_of g q == node_of g p) (numbers_below p) →
       All (λ q. IsApart (execution g) g tables q p) lower →
       IsSure g tables Rule.Processor p
@@ -83,7 +83,7 @@ module _ (g : Graph) (tables : List NodeTable) (x : ℕ) where
   pub sure_not_sent : is_sent g x ≡ false → IsSure g tables Rule.Slot x
   sure_not_sent e = sure_of g tables Rule.Slot x refl (λ s c earlier law there m. and_left (is_sent g x) _ e)
 
-  -- sends that last 1, one of which is over by the time of the other, are at different times
+  -- sends at `a` and `c` that last 1, one of which is over by the time of the other, are at different times
   other_time : (a c : ℕ) → (a + 1 ≤ c) ⊎ (c + 1 ≤ a) → (a == c) ≡ false
   other_time a c (inl h) = ne_eqb a c (λ e. omega (arith, h, e))
   other_time a c (inr h) = ne_eqb a c (λ e. omega (arith, h, e))
@@ -110,7 +110,8 @@ module _ (g : Graph) (tables : List NodeTable) (x : ℕ) where
       (Contains-filter (λ y. is_sent g y && (home g y == home g x)) (numbers_below x) y e k) s c law
       there m d at n))))))
 
-  -- the same of a list that is said to have the lower items that the node sends
+  -- V7 is sure at item `x` if it is apart from each of `lower`, which are the lower items that its node sends, and if each
+  -- column that matches is at the start of a slot
   pub sure_own_slots : (lower : List ℕ) → lower ≡ filter (λ y. is_sent g y && (home g y == home g x)) (numbers_below x)
       → All (λ (c : Column). (s : Scenario) → IsScenario g s → matches c.cube s ≡ true →
       next_slot g (home g x) c.time ≡ c.time) (columns_of tables x) →

@@ -20,13 +20,13 @@ use Rattle.cpg_check_quick.specs.Order.{IsOverBy, execution}
 
 -- an item in a scenario; `done` says when what begins at a time is done
 module _ (tables : List NodeTable) (x : ℕ) (s : Scenario) (done : ℕ → ℕ) (time : ℕ) where
-  -- if a column matches and what it begins is done by the time, something of the item is
+  -- if column `d` of the item matches, and what it begins is done by `time`, something that the item begins is
   pub come_by : (d : Column) → Contains (columns_of tables x) d → matches d.cube s ≡ true → done d.time ≤ time →
       is_by time (map done (at tables x s)) ≡ true
   come_by d k m l = list_any_true (λ m. nat_le m time) (map done (at tables x s)) (done d.time)
       (Contains-map done (at tables x s) d.time (in_at tables x s d k m)) (le-leb (done d.time) time l)
 
-  -- if something of the item is done by the time, a column that matches began it
+  -- if something that the item begins is done by `time`, a column that matches begins it
   pub by_parts : is_by time (map done (at tables x s)) ≡ true →
       (d : Column) × Contains (columns_of tables x) d × (matches d.cube s ≡ true) × (done d.time ≤ time)
   by_parts t =

@@ -31,7 +31,7 @@ use Rattle.cpg_check_quick.proofs.Ends.{by_parts}
 
 -- a node, a time, a scenario and a literal
 module _ (g : Graph) (tables : List NodeTable) (node time : ℕ) (s : Scenario) (l : Literal) where
-  -- if the node has learnt a literal `m` that implies it, the literal is heard
+  -- if the node has learnt a literal `m` that implies `l`, `l` is heard
   heard_fact : (m : Literal) → Contains (facts g tables node s time) m → m.variable ≡ l.variable → l.low ≤ m.low →
       m.high ≤ l.high →
       is_heard g.faults (facts g tables node s time) l ≡ true
@@ -50,7 +50,7 @@ module _ (g : Graph) (tables : List NodeTable) (node time : ℕ) (s : Scenario) 
       and_from _ _ (le-leb l.low (kept_low known l.variable) (omega (arith, low, above)))
       (le-leb (kept_high g.faults known l.variable) l.high (omega (arith, high, below)))
 
-  -- a list that is there only if a test passes has its elements if it does
+  -- an element `m` of `xs` is in a list that is `xs` if `b` holds, and empty otherwise, if `b` holds
   kept_where : (b : Bool) (xs : List Literal) (m : Literal) → b ≡ true → Contains xs m → Contains (cond b xs []) m
   kept_where b xs m e k = subst (λ ys. Contains ys m) (sym (cond-true b xs [] e)) k
 
@@ -120,7 +120,7 @@ module _ (g : Graph) (tables : List NodeTable) (node time : ℕ) (s : Scenario) 
       (end_tells l.variable q few known of_it)))))
       refl (leb-true _ _ range.0) (leb-true _ _ range.1)
 
--- V4 is sure at an item if all literals of its columns are heard wherever the column matches
+-- V4 is sure at item `x` if each literal `l` of each of its columns `c` is heard wherever the column matches
 pub heard_sure : (g : Graph) (tables : List NodeTable) (x : ℕ) →
     ((c : Column) (l : Literal) → Contains (columns_of tables x) c → Contains c.cube l →
     IsHeardIn g tables (home g x) c l) →

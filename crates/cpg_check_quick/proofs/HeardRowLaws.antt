@@ -72,7 +72,7 @@ module _ {g : Graph} {tables : List NodeTable} {node : ℕ} {row : HeardRow} (is
             at.variable at.low at.high
       ]
 
-  -- so it is heard if this is so wherever `c` matches
+  -- so `l` is heard with column `c` if, wherever `c` matches, the frame has come and its column is among `places`
   pub told_literal_heard : ((s : Scenario) → IsScenario g s → matches c.cube s ≡ true →
       HasCome row.columns.now row.delay c.time (place_at row.tree.now s) ×
       IsAmong places (place_at row.tree.now s))
@@ -84,8 +84,8 @@ module _ {g : Graph} {tables : List NodeTable} {node : ℕ} {row : HeardRow} (is
 module _ {g : Graph} {tables : List NodeTable} {node : ℕ} {row : HeardRow} (is : IsHeardRow g tables node row)
     (places : List ℕ) (c : Column) (wanted left : List Literal)
     (wider : AreToldIn c.cube wanted) where
-  -- if the row's frames have come wherever the column matches, and tell each wanted literal that isn't left, those not
-  -- left have been heard
+  -- if the row's frames have come wherever column `c` matches, and tell each literal `l` of `wanted` that isn't in
+  -- `left`, those not left have been heard
   pub left_untold : ((l : Literal) → Contains left l → Contains wanted l) →
       ((l : Literal) → Contains wanted l → Contains left l ⊎ IsTold row.value row.columns.now places l)
       → ((s : Scenario) → IsScenario g s → matches c.cube s ≡ true → HasCome row.columns.now row.delay c.time

@@ -32,7 +32,8 @@ use Rattle.cpg_check_quick.proofs.Ends.{over_arrived, over_ended}
 
 -- the tables of all nodes
 module _ (g : Graph) (tables : List NodeTable) where
-  -- V5 is sure at a start none of whose columns is before the release, if each input is there by each column
+  -- V5 is sure at the start of process `p` if none of its columns is before the release, and each input `e` is there by
+  -- each column `c`
   pub start_sure : (p : ℕ) → p < process_count g →
       ((c : Column) → Contains (columns_of tables p) c → (process_at g p).release ≤ c.time)
       → ((c : Column) (e : ℕ) → Contains (columns_of tables p) c → Contains (inputs g p) e →
@@ -74,14 +75,15 @@ module _ (g : Graph) (tables : List NodeTable) where
       message_there l sent over s law m a =
           there_if s true sent (over_arrived g tables rules s law c.time e l sent a (over s law m a))
 
-      -- another input is there if the execution of its source is over by then
+      -- an input that isn't a message is there if the execution of its source is over by the column's time wherever the
+      -- column matches
       pub source_there : is_message g e ≡ false → source g e < process_count g
           → ((s : Scenario) → IsScenario g s → matches c.cube s ≡ true → live g s.values e ≡ true →
           IsOverBy tables (execution g (source g e) s) (source g e) c.time s) → IsInputThere g tables c e
       source_there near l over s law m a = there_if s false near (over_ended g tables rules s law c.time (source g e) l
           (and_parts (active g s.values (source g e)) _ a).0 (over s law m a))
 
-      -- an input of either kind is there if what it comes by is over by then
+      -- an input of either kind is there if what it comes by is over by the column's time wherever the column matches
       input_there : e < edge_count g → source g e < process_count g →
           ((s : Scenario) → IsScenario g s → matches c.cube s ≡ true → live g s.values e ≡ true →
           IsInputOver g tables e c.time s) →
@@ -93,13 +95,14 @@ module _ (g : Graph) (tables : List NodeTable) where
           go true m = message_there l m (λ s law h a. (over s law h a).message m)
           go false m = source_there m from (λ s law h a. (over s law h a).source m)
 
-      -- an input is there if its source, on the same node, is always over before the process
+      -- an input is there if its source, on the same node, is always over before process `p`, which the column starts
       pub before_there : (p : ℕ) → source g e < process_count g → Contains (columns_of tables p) c →
           IsFromBefore g tables e p →
           IsInputThere g tables c e
       before_there p from k near = source_there near.near from (λ s law m a. near.before s c law k m)
 
-    -- each of several inputs is there if what it comes by is over by the column's time wherever that matches
+    -- each of several inputs is there by column `c` if what it comes by is over by the column's time wherever that
+    -- matches
     pub inputs_there : WellFormed g → (c : Column) (edges : List ℕ) → All (λ e. e < edge_count g) edges
         → ((s : Scenario) → IsScenario g s → matches c.cube s ≡ true →
         All (λ e. live g s.values e ≡ true → IsInputOver g tables e c.time s) edges) →
@@ -108,7 +111,7 @@ module _ (g : Graph) (tables : List NodeTable) where
         (formed.sources (get_or edges i d) (known i d h)) (λ s law m a. over s law m i d h a)
 
     -- V5 is sure at a start whose columns are late enough for the release and for `others`, if the sources of its other
-    -- inputs are always over before
+    -- inputs are on the same node and always over before the start
     pub start_late : WellFormed g → (p : ℕ) → p < process_count g → (release : ℕ) → release ≡ (process_at g p).release →
         (others : List ℕ)
         → ((e : ℕ) → Contains (inputs g p) e → Contains others e ⊎ IsFromBefore g tables e p) →
@@ -130,7 +133,7 @@ module _ {T : Type 0} (fact : T → Type 0) (edges kept : List T) (k : ℕ) (any
   one_of d c = Contains-push_cases (take k edges) (get_or edges k any) d
       (subst (λ xs. Contains xs d) (take_more edges k any within) c)
 
-  -- if the next element is kept, each of one element more is kept or has the fact
+  -- if the element at place `k` is kept, each `d` of the first `k + 1` is kept or has the fact
   pub others_push : ((d : T) → Contains (take k edges) d → Contains kept d ⊎ fact d) → (d : T) →
       Contains (take (k + 1) edges) d →
       Contains (kept ++ get_or edges k any ∷ []) d ⊎ fact d
@@ -141,7 +144,7 @@ module _ {T : Type 0} (fact : T → Type 0) (edges kept : List T) (k : ℕ) (any
         inl (subst (λ z. Contains (kept ++ get_or edges k any ∷ []) z) q (Contains-push kept (get_or edges k any)))
   ]
 
-  -- if each kept element is one of the list, so it is when the next one is kept
+  -- if each kept element `d` is one of the list, so it is when the element at place `k` is kept
   pub others_among : ((d : T) → Contains kept d → Contains edges d) → (d : T) →
       Contains (kept ++ get_or edges k any ∷ []) d →
       Contains edges d
@@ -150,13 +153,13 @@ module _ {T : Type 0} (fact : T → Type 0) (edges kept : List T) (k : ℕ) (any
     | inr q ↦ subst (Contains edges) q (Contains-get_or edges k any within)
   ]
 
-  -- if the next element has the fact, each of one element more is kept or has it
+  -- if the element at place `k` has the fact, each `d` of the first `k + 1` is kept or has it
   pub others_skip : fact (get_or edges k any) → ((d : T) → Contains (take k edges) d → Contains kept d ⊎ fact d) →
       (d : T) → Contains (take (k + 1) edges) d →
       Contains kept d ⊎ fact d
   others_skip f before d c = elim (one_of d c) [ inl b ↦ before d b | inr q ↦ inr (subst fact q f) ]
 
--- the inputs of a process are edges of the graph
+-- the inputs of process `p` are edges of the graph
 pub inputs_below : (g : Graph) (p : ℕ) → All (λ e. e < edge_count g) (inputs g p)
 inputs_below g p = All-weaker (Contains (inputs g p)) (λ e. e < edge_count g) (λ e k. (inputs_parts g p e k).0)
     (inputs g p) (All-contains_itself (inputs g p))

@@ -8,7 +8,7 @@ use Rattle.cpg_check_quick.specs.Inputs.{IsInputRow, IsInputOver}
 use Rattle.cpg_check_quick.specs.Order.{IsOverBy, execution, frame}
 use Rattle.cpg_check_quick.specs.declared.spanned_rows.SpannedRow.{SpannedRow}
 
--- if the item of the row is over by the time, whichever it is, what the input comes by is over
+-- if the item `x` of the row is over by the time, whichever it is, what input `e` comes by is over
 pub input_over : {g : Graph} {tables : List NodeTable} {e : ℕ} {row : SpannedRow} → IsInputRow g tables e row →
     (time : ℕ) (s : Scenario)
     → ((lasts : Scenario → ℕ) (x : ℕ) → IsSpannedRow g tables lasts x row → IsOverBy tables (lasts s) x time s) →

@@ -36,7 +36,7 @@ use Rattle.cpg_check_quick.specs.Order.{execution, IsApart, IsApartAt, IsInSeque
 
 -- ---- spans
 
--- a span whose lengths are the durations with 0, 1, .. faults, up to the graph's most, is one of the process's
+-- a span whose lengths are the durations of process `p` with 0, 1, .. faults, up to the graph's most, is one of its
 -- executions: these last no longer with fewer faults
 pub span_of : (g : Graph) → process_count g ≤ 128 → (p : ℕ) → p < process_count g → (span : ItemSpan) →
     span.variable ≡ p
@@ -65,6 +65,7 @@ row_at {lasts = lasts} {g = g} {tables = tables} {rows = rows} are x row list sa
 -- the list has the rows of the first `n` items (`d` is only the default of `get_or`)
 pub record AreSoFar (lasts : ℕ → Scenario → ℕ) (g : Graph) (tables : List NodeTable) (n : ℕ)
     (list : List SpannedRow) : Type 0 where
+  -- it has `n` rows, and each is that of the item whose number is its place
   pub count : length list ≡ n
   pub each : (x : ℕ) (d : SpannedRow) → x < length list → IsSpannedRow g tables (lasts x) x (get_or list x d)
 
@@ -91,7 +92,8 @@ rows_more lasts g tables n list row before here = record {
 -- a tree of a row's columns, a scenario, and a fact of columns
 module _ {g : Graph} {columns : List Column} {tree : PlacesState} (is : IsRowTree g columns tree) (s : Scenario)
     (law : IsScenario g s) (fact : Column → Type 0) where
-  -- if the tree leads the scenario to no place, no column matches; if it leads to one, only the column there does
+  -- if the fact is one of the column at the place to which the tree leads the scenario (`o`), it is one of each column
+  -- `d` that matches: that is only this column, and none if there is no place
   by_place : (o : Option ℕ) → place_at tree s ≡ o → IfSome o (λ i. fact (column_at columns i)) → (d : Column) →
       Contains columns d → matches d.cube s ≡ true → fact d
   by_place None e h d c m = absurd (none_matches is s law e d c m)
@@ -108,7 +110,7 @@ module _ {g : Graph} {columns : List Column} {tree : PlacesState} (is : IsRowTre
 -- the span of an item, and a scenario
 module _ {g : Graph} {lasts : Scenario → ℕ} {span : ItemSpan} (is : IsSpan g lasts span)
     {s : Scenario} (law : IsScenario g s) where
-  -- an item that `IsPast` says to be over by a time is over by it
+  -- an item that is past a time by its span (`IsPast`) is over by the time
   pub past_over : (start time : ℕ) → IsPast span start time s → start + lasts s ≤ time
   past_over start time p = omega (arith, is.enough s p.count law p.most p.known, p.over)
 
@@ -170,14 +172,14 @@ module _ {g : Graph} {tables : List NodeTable} {last : Scenario → ℕ} {x : �
   its_tree = subst (λ (o : Option PlacesState). IfSome o (λ (t : PlacesState). IsRowTree g (columns_of tables x) t))
       there is.tree
 
--- a fact of the column that is looked up at a place is one of the column at the place
+-- a fact of column `c`, which is looked up at place `i`, is one of the column at the place
 pub told_at : (fact : Column → Type 0) (columns : List Column) (i : ℕ) (c : Column) → i < length columns →
     c ≡ get_or columns i c → fact c →
     fact (column_at columns i)
 told_at fact columns i c l is h =
     subst fact (is ∙ sym (get_or_default columns i (record { time = 0; cube = [] }) c l)) h
 
--- a fact of a place, if there is one, may be replaced by one that follows from it
+-- a fact `P` of a place, if there is one (`o`), may be replaced by `Q`, which follows from it
 pub told_so : {P Q : ℕ → Type 0} (o : Option ℕ) → IfSome o P → ((i : ℕ) → P i → Q i) → IfSome o Q
 told_so None h f = tt
 told_so (Some i) h f = f i h
@@ -205,8 +207,8 @@ module _ {g : Graph} {tables : List NodeTable}
   early_before h s c law here m = early_over is law c.time
       (omega (arith, h, All-contains (λ (d : Column). other.first ≤ d.time) (columns_of tables x) c by.first here))
 
-  -- and if it is over by the time of the other's column at each scenario's place, from its own column at the scenario's
-  -- place
+  -- the one is over before the other, too, if in each scenario it is over, begun by its own column at the scenario's
+  -- place, by the time of the other's column at the scenario's place
   pub walked_before : (own tree : PlacesState) → one.tree.now ≡ Some own → other.tree.now ≡ Some tree
       → ((s : Scenario) → IsScenario g s →
       IfSome (place_at tree s) (λ i. IsOverAt one (column_at other.columns.now i).time (place_at own s) s)) →
@@ -222,7 +224,7 @@ module _ {g : Graph} {tables : List NodeTable}
 
 -- how long each item lasts, and the tables
 module _ (lasts : ℕ → Scenario → ℕ) (g : Graph) (tables : List NodeTable) where
-  -- items that are over by the time of each of an item's columns that matches are over before it
+  -- if the items are over by the time of each of the columns of item `x` that matches, they are over before it
   pub over_all : (x : ℕ) (columns : List Column) (items : List ℕ) → columns ≡ columns_of tables x
       → ((s : Scenario) → IsScenario g s → All
       (λ (c : Column). matches c.cube s ≡ true → All (λ y. IsOverBy tables (lasts y s) y c.time s) items) columns)
@@ -232,7 +234,7 @@ module _ (lasts : ℕ → Scenario → ℕ) (g : Graph) (tables : List NodeTable
       columns c (each s law)
       (subst (λ (cs : List Column). Contains cs c) (sym all) here) m k d l
 
-  -- items that are apart from an item at each of its columns that matches are apart from it
+  -- if the items are apart from item `x` at each of its columns that matches, they are apart from it
   pub apart_all : (x : ℕ) (columns : List Column) (items : List ℕ) → columns ≡ columns_of tables x
       → ((s : Scenario) → IsScenario g s → All (λ (c : Column). matches c.cube s ≡ true →
       All (λ y. IsApartAt tables (lasts y s) y (lasts x s) c.time s) items) columns)
@@ -242,11 +244,11 @@ module _ (lasts : ℕ → Scenario → ℕ) (g : Graph) (tables : List NodeTable
       All (λ y. IsApartAt tables (lasts y s) y (lasts x s) c.time s) items) columns c (each s law)
       (subst (λ (cs : List Column). Contains cs c) (sym all) here) m k d l
 
-  -- an item that is over before another is apart from it
+  -- an item `y` that is over before item `x` is apart from it
   pub over_apart : (y x : ℕ) → IsOver lasts g tables y x → IsApart lasts g tables y x
   over_apart y x h s c law here m d at n = inl (h s c law here m d at n)
 
-  -- and so is one that another is over before
+  -- an item `y` that `x` is over before is apart from it
   pub apart_over : (y x : ℕ) → IsOver lasts g tables x y → IsApart lasts g tables y x
   apart_over y x h s c law here m d at n = inr (h s d law at n c here m)
 
@@ -254,7 +256,7 @@ module _ (lasts : ℕ → Scenario → ℕ) (g : Graph) (tables : List NodeTable
 
 -- tables that keep V3
 module _ (g : Graph) (tables : List NodeTable) (present : Holds g tables Rule.Present) where
-  -- an item that is active has a column that matches
+  -- if item `x` is active in scenario `s`, it has a column that matches
   pub has_column : (x : ℕ) → x < item_count g → (s : Scenario) → IsScenario g s →
       item_active g s.values (item_at g x) ≡ true →
       (d : Column) × Contains (columns_of tables x) d ×
@@ -267,7 +269,7 @@ module _ (g : Graph) (tables : List NodeTable) (present : Holds g tables Rule.Pr
       (shown (item_active g s.values (item_at g x))
       (list_any (λ (d : Column). matches d.cube s) (columns_of tables x)) active none)
     where
-      -- what is active and not absent has a column that matches
+      -- what is active (`a`) and not absent has a column that matches (`b`)
       shown : (a b : Bool) → a ≡ true → (a && not b) ≡ false → b ≡ true
       shown true true e h = refl
       shown true false e h = absurd (both_ways true h refl)
@@ -303,7 +305,7 @@ module _ (g : Graph) (tables : List NodeTable) (present : Holds g tables Rule.Pr
           omega (arith, l, h, there, length-take (place - start) (drop start items), length-drop start items) in
           subst (λ y. IsOver lasts g tables y (get_or items place 0)) at (here (i - start) 0 long)
 
-      -- each item before the start is over before the one there, and so before the one at the place
+      -- each item at a place `i` before `start` is over before the one at `start`, and so before the one at `place`
       far : ((i j : ℕ) → i < j → j < place → IsOver lasts g tables (get_or items i 0) (get_or items j 0)) → (i : ℕ) →
           i < start →
           IsOver lasts g tables (get_or items i 0) (get_or items place 0)
@@ -312,7 +314,8 @@ module _ (g : Graph) (tables : List NodeTable) (present : Holds g tables Rule.Pr
           before_over (get_or items i 0) (get_or items start 0) (get_or items place 0) is.2 is.1 (before i start h is.0)
           (near start (omega arith) is.0)
 
-      -- so if each item before the place is over before each later one before it, this is so up to the place
+      -- so if each item at a place `i` is over before each later one, at a place `j` before `place`, this is so up to
+      -- `place`
       pub in_sequence_more :
           ((i j : ℕ) → i < j → j < place → IsOver lasts g tables (get_or items i 0) (get_or items j 0)) →
           (i j : ℕ) → i < j → j < place + 1 →
@@ -329,11 +332,14 @@ module _ (g : Graph) (tables : List NodeTable) (present : Holds g tables Rule.Pr
 -- the invariant of `are_in_sequence`: each item before `place` is over before each later one before it (`before`), and
 -- the item at `start`, unless that is 0, is before the place and active in every scenario (`always`)
 pub record IsInSequenceTo (rows : SpannedRows) (items : List ℕ) (place start : ℕ) : Type 0 where
+  -- `start` isn't behind `place`
   pub within : start ≤ place
+  -- if `start` isn't 0, its item is before the place, and active in every scenario
   pub always : (g : Graph) (tables : List NodeTable) (lasts : ℕ → Scenario → ℕ) → AreSpannedRows lasts g tables rows →
       0 < start →
       (start < place) × IsUnconditional g (get_or items start 0) ×
       (get_or items start 0 < item_count g)
+  -- if V3 holds, each item before `place` is over before each later one before `place`
   pub before : (g : Graph) (tables : List NodeTable) (lasts : ℕ → Scenario → ℕ) → AreSpannedRows lasts g tables rows →
       Holds g tables Rule.Present → (i j : ℕ) → i < j → j < place →
       IsOver lasts g tables (get_or items i 0) (get_or items j 0)
@@ -393,7 +399,7 @@ before_in lasts g tables order x y all stands =
     subst (λ a. IsOver lasts g tables a y) stands.is_first
     (subst (λ b. IsOver lasts g tables (get_or order stands.from 0) b) stands.is_second over)
 
--- an order that is looked up among such orders is one of them
+-- if each order of a list has its items in sequence, so has `order`, which is looked up there at the number of a node
 pub order_at : (lasts : ℕ → Scenario → ℕ) (g : Graph) (tables : List NodeTable) (orders list : List (Vec ℕ Global))
     (node : ℕ) (order : Vec ℕ Global) →
     All (λ o. IsInSequence lasts g tables o.items) orders
@@ -403,7 +409,7 @@ order_at lasts g tables orders list node order all same l is =
     (sym (is ∙ ap (λ (os : List (Vec ℕ Global)). get_or os node order) same))
     (all node order (omega (arith, l, ap length same)))
 
--- such an order may be added to them
+-- if each of `orders` has its items in sequence, and so has `order`, each has with `order` at the end of the list
 pub orders_more : (lasts : ℕ → Scenario → ℕ) (g : Graph) (tables : List NodeTable) (orders : List (Vec ℕ Global))
     (order : Vec ℕ Global) →
     All (λ o. IsInSequence lasts g tables o.items) orders →
@@ -420,7 +426,7 @@ module _ (lasts : ℕ → Scenario → ℕ) (g : Graph) (tables : List NodeTable
   abbrev pub Known : List ℕ → ℕ → Type 0
   Known left y = Contains left y ⊎ IsApart lasts g tables y x
 
-  -- if the next item is left, each of one item more is left or apart
+  -- if the next item is left as well, each of the first `i + 1` items is left, or apart from `x`
   pub known_push : (left items : List ℕ) (i : ℕ) → i < length items → All (Known left) (take i items) →
       All (Known (left ++ get_or items i 0 ∷ [])) (take (i + 1) items)
   known_push left items i l before = All-more (Known (left ++ get_or items i 0 ∷ [])) items i 0 l
@@ -429,7 +435,7 @@ module _ (lasts : ℕ → Scenario → ℕ) (g : Graph) (tables : List NodeTable
       (take i items) before)
       (inl (Contains-push left (get_or items i 0)))
 
-  -- if all that are left are apart, all are
+  -- if all items that are left are apart from `x`, all items are
   pub known_apart : (left items : List ℕ) → All (Known left) items → All (λ y. IsApart lasts g tables y x) left →
       All (λ y. IsApart lasts g tables y x) items
   known_apart left items known apart = All-weaker (Known left) (λ y. IsApart lasts g tables y x)

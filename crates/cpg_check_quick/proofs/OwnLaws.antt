@@ -38,7 +38,7 @@ module _ (g : Graph) (tables : List NodeTable) (rules : AllHold g tables row_rul
 
   -- the item is one of the graph
   module _ (lx : x < item_count g) where
-    -- and a send, as its number is no process's
+    -- the item is a send, as its number is no process's
     module _ (send : process_count g ≤ x) where
       -- the producer of a send at which V5 is sure has ended by the send's columns
       pub producer_ended : IsSure g tables Rule.Inputs x → IsEndedBy g tables (producer g x) x
@@ -50,7 +50,7 @@ module _ (g : Graph) (tables : List NodeTable) (rules : AllHold g tables row_rul
           ap (λ (c : Column). breaks_inputs_of g tables s c.time (item_at g x)) (sym at) ∙ none in
           not-false (is_by c.time (ends_of g tables s (producer g x))) (sym (waits g s x lx send tables c.time) ∙ here)
 
-      -- so has a process that is always over before the producer
+      -- so has process `q`, if it is always over before the producer of a send at which V5 is sure
       pub earlier_ended : WellFormed g → (q : ℕ) → q < process_count g → IsBefore g tables q (producer g x) →
           IsSure g tables Rule.Inputs x →
           IsEndedBy g tables q x
@@ -91,7 +91,7 @@ module _ (g : Graph) (tables : List NodeTable) (rules : AllHold g tables row_rul
           heard_end g tables (home g x) c.time s l own.process few own.owner.within own.near
           (own.ended s c law k m on) own.owner.known own.owner.owner (holds_here s m)
 
-      -- it is heard in a scenario if its process is on the node and over by the column's time
+      -- where the column matches, the literal is heard if its process is on the node and over by the column's time
       pub over_heard : (s : Scenario) → IsScenario g s → matches c.cube s ≡ true →
           IsOwnOver g tables (home g x) l.variable c.time s →
           is_heard g.faults (facts g tables (home g x) s c.time) l ≡ true
@@ -102,7 +102,8 @@ module _ (g : Graph) (tables : List NodeTable) (rules : AllHold g tables row_rul
           (over_ended g tables rules s law c.time own.process own.owner.within on own.over) own.owner.known
           own.owner.owner (holds_here s m)
 
-    -- V4 is sure at the item if all literals of its columns are on variables whose processes have always ended
+    -- V4 is sure at the item if all literals of its columns are on variables that `known` marks, whose processes have
+    -- always ended by then
     pub known_sure : process_count g ≤ 128 → (known : List Bool) → AreOwnEnded g tables x known →
         All (λ (c : Column). All (λ (l : Literal). get_or known l.variable false ≡ true) c.cube) (columns_of tables x) →
         IsSure g tables Rule.Heard x
@@ -115,15 +116,15 @@ module _ (g : Graph) (tables : List NodeTable) (rules : AllHold g tables row_rul
 
     -- a column of the item
     module _ (few : process_count g ≤ 128) (c : Column) (k : Contains (columns_of tables x) c) where
-      -- its literals on such variables are heard
+      -- each literal `l` of column `c` on a variable that `known` marks is heard
       pub known_heard : (known : List Bool) → AreOwnEnded g tables x known → (l : Literal) → Contains c.cube l →
           get_or known l.variable false ≡ true →
           IsHeardIn g tables (home g x) c l
       known_heard known own l h marked = ended_heard few c l k
           (record { by = l; there = h; variable = refl; low = omega arith; high = omega arith }) (own l.variable marked)
 
-      -- the wanted literals are heard, if the processes of those that are left are on the node and over by the column's
-      -- time
+      -- the `wanted` literals of column `c` are heard, if the processes of those that are `left` are on the node and
+      -- over by the column's time
       pub left_heard : (wanted left : List Literal) → AreToldIn c.cube wanted →
           AreLeft g tables (home g x) c wanted left
           → ((s : Scenario) → IsScenario g s → matches c.cube s ≡ true →
@@ -146,7 +147,7 @@ own_more g tables x known k b within before here v t = elim (cases_eq v k) [
   | inr other ↦ before v (sym (get_or-set_other known k v b false other) ∙ t)
 ]
 
--- at first no variable is marked
+-- at first no variable `v` is marked
 pub none_marked : (n v : ℕ) → get_or (replicate n false) v false ≡ true → ⊥
 none_marked zero v t = true≢false (sym t)
 none_marked (suc n) zero t = true≢false (sym t)

@@ -3,7 +3,8 @@ use Rattle.std.specs.Prelude.{ℕ, ◌==◌, nat_le, if◌then◌else◌, Bool, 
 use Rattle.cpg_base.specs.Variable.{top}
 use Rattle.cpg_cube.specs.declared.literal.Literal.{Literal}
 
--- the low, unless it is 0: the numbers from it up to the greatest that the variable has with at most `k` faults
+-- the low, unless it is 0: the numbers from it up to the greatest that the variable has with at most `k` faults, or up
+-- to the high if that is greater
 abbrev pub low_of : ℕ → Literal → List Literal
 low_of k l = if l.low == 0 then []
     else record { variable = l.variable; low = l.low; high = max l.high (top k l.variable) } ∷ []
@@ -17,6 +18,6 @@ high_of k l = if nat_le (top k l.variable) l.high then []
 abbrev pub bounds_of : ℕ → Literal → List Literal
 bounds_of k l = low_of k l ++ high_of k l
 
--- the bounds of a literal, or none if its variable is marked as known
+-- the bounds of a literal that the node has to hear; none if the literal's variable is marked as known
 abbrev pub unknown_bounds : ℕ → List Bool → Literal → List Literal
 unknown_bounds k known l = if get_or known l.variable false then [] else bounds_of k l

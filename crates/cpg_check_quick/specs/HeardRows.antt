@@ -27,7 +27,7 @@ pub record IsHeardRow (g : Graph) (tables : List NodeTable) (node : ℕ) (row : 
   pub value : IfSome row.value
       (λ v. (s : Scenario) → Contains (frame_value s (item_at g row.item)) (exactly v (number_of s v)))
 
--- there is a place, and the frame of the column there has come by `time`; it takes `delay`
+-- there is a place, and the frame of the column there, which takes `delay`, has come by `time`
 abbrev pub HasCome : List Column → ℕ → ℕ → Option ℕ → Type 0
 HasCome columns delay time None = ⊥
 HasCome columns delay time (Some i) = (column_at columns i).time + delay ≤ time
@@ -36,6 +36,7 @@ HasCome columns delay time (Some i) = (column_at columns i).time + delay ≤ tim
 pub record IsToldIn (literals : List Literal) (l : Literal) : Type 0 where
   -- that literal
   pub by : Literal
+  -- it is one of these
   pub there : Contains literals by
   -- both literals are on one variable
   pub variable : by.variable ≡ l.variable
@@ -43,10 +44,11 @@ pub record IsToldIn (literals : List Literal) (l : Literal) : Type 0 where
   pub low : l.low ≤ by.low
   pub high : by.high ≤ l.high
 
--- the frames tell a literal: they carry the value that it is about, or the column at each of these places implies it
+-- the frames of the columns at these places tell literal `l`: they carry `value`, and that is the variable of `l`, or
+-- each of the columns implies it
 abbrev pub IsTold : Option ℕ → List Column → List ℕ → Literal → Type 0
 IsTold value columns places l = (value ≡ Some l.variable) ⊎ All (λ i. IsToldIn (column_at columns i).cube l) places
 
--- `literals` imply each of `wanted`, one by one
+-- each of `wanted` is implied by one of `literals`
 abbrev pub AreToldIn : List Literal → List Literal → Type 0
 AreToldIn literals wanted = (l : Literal) → Contains wanted l → IsToldIn literals l

@@ -30,11 +30,14 @@ IsAllHeard g tables node c = (l : Literal) → Contains c.cube l → IsHeardIn g
 
 -- variable `v` is one of the graph, and `p` is the process whose count or value it is
 pub record IsOwner (g : Graph) (v p : ℕ) : Type 0 where
+  -- the process is one of the graph
   pub within : p < process_count g
+  -- the variable is one of the graph
   pub known : IsVariable g v
+  -- it is about this process
   pub owner : process_of_variable g v ≡ p
 
--- wherever a column of item `x` matches and process `q` is active, the process has ended by the column's time
+-- wherever a column of item `x` matches and process `q` is active, `q` has ended by the column's time
 abbrev pub IsEndedBy : Graph → List NodeTable → ℕ → ℕ → Type 0
 IsEndedBy g tables q x =
     (s : Scenario) (c : Column) → IsScenario g s → Contains (columns_of tables x) c → matches c.cube s ≡ true →
@@ -49,7 +52,7 @@ pub record IsOwnEnded (g : Graph) (tables : List NodeTable) (x v : ℕ) : Type 0
   pub near : node_of g process ≡ home g x
   pub ended : IsEndedBy g tables process x
 
--- each variable that is marked is of such a process
+-- each variable that is marked is of a process on the node of item `x` that has always ended by the item's columns
 abbrev pub AreOwnEnded : Graph → List NodeTable → ℕ → List Bool → Type 0
 AreOwnEnded g tables x marks = (v : ℕ) → get_or marks v false ≡ true → IsOwnEnded g tables x v
 

@@ -21,12 +21,16 @@ IsInputThere g tables c e = (s : Scenario) → IsScenario g s → matches c.cube
 
 -- what input `e` comes by is over by a time: its message if it has one, and otherwise the execution of its source
 pub record IsInputOver (g : Graph) (tables : List NodeTable) (e time : ℕ) (s : Scenario) : Type 0 where
+  -- if there is a message, its frame is over
   pub message : is_message g e ≡ true → IsOverBy tables (frame g (message_item g e) s) (message_item g e) time s
+  -- if there is none, the execution of the source is over
   pub source : is_message g e ≡ false → IsOverBy tables (execution g (source g e) s) (source g e) time s
 
 -- the row is that of what input `e` comes by: its message if it has one, and otherwise the execution of its source
 pub record IsInputRow (g : Graph) (tables : List NodeTable) (e : ℕ) (row : SpannedRow) : Type 0 where
+  -- if there is a message, the row is the message's
   pub message : is_message g e ≡ true → IsSpannedRow g tables (frame g (message_item g e)) (message_item g e) row
+  -- if there is none, the row is the source's
   pub source : is_message g e ≡ false → IsSpannedRow g tables (execution g (source g e)) (source g e) row
 
 -- input `e` comes from the same node, and its source is always over before process `p` begins

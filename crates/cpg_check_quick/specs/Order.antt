@@ -9,7 +9,7 @@ use Rattle.cpg_cube.specs.Cube.{matches}
 use Rattle.cpg_table.specs.Table.{NodeTable, columns_of}
 use Rattle.cpg_cube.specs.declared.column.Column.{Column}
 
--- by whichever of its columns matches in scenario `s`, item `y`, which lasts as long as `lasts` says, is over by `time`
+-- by whichever of its columns matches in scenario `s`, item `y`, which lasts `lasts` time units, is over by `time`
 abbrev pub IsOverBy : List NodeTable → ℕ → ℕ → ℕ → Scenario → Type 0
 IsOverBy tables lasts y time s =
     (d : Column) → Contains (columns_of tables y) d → matches d.cube s ≡ true → d.time + lasts ≤ time
@@ -21,19 +21,21 @@ IsOver lasts g tables y x =
     (s : Scenario) (c : Column) → IsScenario g s → Contains (columns_of tables x) c → matches c.cube s ≡ true →
     IsOverBy tables (lasts y s) y c.time s
 
--- by whichever of its columns matches, item `y`, which lasts as long as `lasts` says, is over by `time`, or another
--- item, which begins at `time` and lasts `other`, is over by that column
+-- by whichever of its columns matches in scenario `s`, item `y`, which lasts `lasts` time units, is over by `time`, or
+-- another item, which begins at `time` and lasts `other` time units, is over by that column
 abbrev pub IsApartAt : List NodeTable → ℕ → ℕ → ℕ → ℕ → Scenario → Type 0
 IsApartAt tables lasts y other time s = (d : Column) → Contains (columns_of tables y) d → matches d.cube s ≡ true →
     (d.time + lasts ≤ time) ⊎ (time + other ≤ d.time)
 
--- wherever a column of each matches, one of items `y` and `x` is over by the time of the other
+-- wherever a column of each matches, one of items `y` and `x` is over by the time of the other; `lasts` says how long
+-- each item lasts in a scenario
 abbrev pub IsApart : (ℕ → Scenario → ℕ) → Graph → List NodeTable → ℕ → ℕ → Type 0
 IsApart lasts g tables y x =
     (s : Scenario) (c : Column) → IsScenario g s → Contains (columns_of tables x) c → matches c.cube s ≡ true →
     IsApartAt tables (lasts y s) y (lasts x s) c.time s
 
--- each of these items is over by the time of each later one, wherever a column of each matches
+-- each of these items is over by the time of each later one, wherever a column of each matches; `lasts` says how long
+-- each item lasts in a scenario
 abbrev pub IsInSequence : (ℕ → Scenario → ℕ) → Graph → List NodeTable → List ℕ → Type 0
 IsInSequence lasts g tables items =
     (i j : ℕ) → i < j → j < length items → IsOver lasts g tables (get_or items i 0) (get_or items j 0)

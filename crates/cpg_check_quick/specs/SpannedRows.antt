@@ -30,8 +30,8 @@ pub record IsPast (span : ItemSpan) (start time : ℕ) (s : Scenario) : Type 0 w
   -- with that length the item is over in time
   pub over : start + get_or span.lengths count 0 ≤ time
 
--- an item is over by `time`: even if it begins by its last column and lasts longest, or from its column at this place,
--- if there is one
+-- the item of a row is over by `time`: it is even if it begins by its last column and lasts longest, or it is in
+-- scenario `s` if it begins by its column at `place`, or there is no place
 abbrev pub IsOverAt : SpannedRow → ℕ → Option ℕ → Scenario → Type 0
 IsOverAt row time place s = (row.last + row.span.longest ≤ time) ⊎
     IfSome place (λ i. IsPast row.span (column_at row.columns.now i).time time s)

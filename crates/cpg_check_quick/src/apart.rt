@@ -20,21 +20,21 @@ use cpg_row_trees::Test;
 use cpg_tree::Space;
 use std::alloc::Global;
 
-/// Tests whether an item that begins at the column at a place is over by `time`, or another one that begins at `time`
-/// is over by that column.
+/// Tests whether an item that begins by its column at a place is over by `time`, or another one that begins at `time`
+/// is over by the time of that column.
 #[derive(Drop)]
-struct TimeParts<'a> {
+struct ApartTest<'a> {
     /// The columns of the first item.
     columns: &'a [Column],
-    /// How long the first item lasts.
+    /// How long the first item lasts at most.
     span: &'a ItemSpan,
-    /// How long the other one lasts.
+    /// How long the other one lasts at most.
     other: &'a ItemSpan,
     /// When the other one begins.
     time: u64,
 }
 
-impl<'a> Test for TimeParts<'a> {
+impl<'a> Test for ApartTest<'a> {
     ghost guarantees = { λ test place s. IfSome place (λ i. IsPast test.span.now (column_at test.columns.now i).time test.time s ⊎
         IsPast test.other.now test.time (column_at test.columns.now i).time s) };
 
@@ -87,7 +87,7 @@ impl<'a> SpannedRow<'a> {
         let Some(tree) = self.tree else {
             return false;
         };
-        let test = TimeParts {
+        let test = ApartTest {
             columns: self.columns,
             span: &self.span,
             other: &other.span,
@@ -170,7 +170,8 @@ impl<'a> SpannedRows<'a> {
 }
 
 impl<'a> Sequences<'a> {
-    /// Those of these items of a node that aren't known to be apart from another by the sequence of the node's items.
+    /// Those of these items of a node that aren't known to be apart from item `other` by the sequence of the node's
+    /// items.
     fn untold(
         &self,
         alloc: Global,
@@ -195,8 +196,8 @@ impl<'a> Sequences<'a> {
         Ok(left)
     }
 
-    /// Whether each of these items of a node and another are apart wherever a column of each matches. False guarantees
-    /// nothing.
+    /// Whether each of these items of a node and item `other` are apart wherever a column of each matches. False
+    /// guarantees nothing.
     pub(crate) fn are_apart(
         &self,
         alloc: Global,

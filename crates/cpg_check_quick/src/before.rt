@@ -17,18 +17,18 @@ use cpg_row_trees::{PairTest, Places, Test};
 use cpg_tree::Space;
 use cpg_violation::has_come;
 
-/// Tests whether an item that begins at the column at a place is over by `time`.
+/// Tests whether an item that begins by its column at a place is over by `time`.
 #[derive(Drop)]
-struct Ends<'a> {
+struct OverTest<'a> {
     /// The columns of the item.
     columns: &'a [Column],
-    /// How long the item lasts.
+    /// How long the item lasts at most.
     span: &'a ItemSpan,
     /// The time by which the item has to be over.
     time: u64,
 }
 
-impl<'a> Test for Ends<'a> {
+impl<'a> Test for OverTest<'a> {
     ghost guarantees = { λ test place s. IfSome place (λ i. IsPast test.span.now (column_at test.columns.now i).time test.time s) };
 
     /// Whether the test passes at a place in all scenarios of a space. False guarantees nothing.
@@ -45,7 +45,7 @@ impl<'a> Test for Ends<'a> {
     }
 }
 
-/// Tests whether an item that begins at its column at a second place is over by another item's column at a first one.
+/// Tests whether an item is over by the time of another, at a place of the other's columns and one of its own columns.
 #[derive(Drop)]
 struct Before<'a> {
     /// The row of the item that has to be over.
@@ -100,7 +100,7 @@ impl<'a> SpannedRow<'a> {
     fn is_over_from(&self, place: Option<u32>, space: &Space, time: u64) -> bool
         ensures { OnTrue result ((s : Scenario) → IsInSpace space.now s → IsOverAt self.now time place s) }
     {
-        let test = Ends {
+        let test = OverTest {
             columns: self.columns,
             span: &self.span,
             time,
@@ -108,8 +108,9 @@ impl<'a> SpannedRow<'a> {
         test.passes(place, space)
     }
 
-    /// Whether the item is over by the time of another, which has a tree, wherever a column of each matches. A walk
-    /// down both trees compares just the columns that match together. False guarantees nothing.
+    /// Whether the item is over by the time of another, whose tree is `tree`, wherever a column of each matches. A walk
+    /// down both trees compares just the columns that match together. False guarantees nothing. `everywhere` is a space
+    /// of all scenarios.
     fn ends_before(&self, everywhere: &Space, other: &SpannedRow<'_>, tree: &Places) -> bool
         ensures { OnTrue result ((g : Graph) (tables : List NodeTable) (lasts : ℕ → Scenario → ℕ) (long : Scenario → ℕ) (y x : ℕ) →
             HasAll g everywhere.now → IsSpannedRow g tables (lasts y) y self.now → IsSpannedRow g tables long x other.now → other.now.tree.now ≡ Some tree.now → IsOver lasts g tables y x) }
@@ -142,7 +143,7 @@ impl<'a> SpannedRow<'a> {
         let Some(tree) = self.tree else {
             return false;
         };
-        let test = Ends {
+        let test = OverTest {
             columns: self.columns,
             span: &self.span,
             time,
@@ -220,8 +221,8 @@ impl<'a> SpannedRows<'a> {
         true
     }
 
-    /// Whether each of these items is over by the time of another, which has a tree, wherever a column of each matches.
-    /// False guarantees nothing.
+    /// Whether each of these items is over by the time of another, whose row is `row` and whose tree is `tree`,
+    /// wherever a column of each matches. False guarantees nothing.
     fn end_before(&self, items: &[u32], row: &SpannedRow<'_>, tree: &Places) -> bool
         ensures { OnTrue result ((g : Graph) (tables : List NodeTable) (lasts : ℕ → Scenario → ℕ) (long : Scenario → ℕ) (x : ℕ) →
             AreSpannedRows lasts g tables self.now → IsSpannedRow g tables long x row.now → row.now.tree.now ≡ Some tree.now → All (λ y. IsOver lasts g tables y x) items.now) }
@@ -238,8 +239,8 @@ impl<'a> SpannedRows<'a> {
         true
     }
 
-    /// Whether each of these items is over by the time of another, wherever a column of each matches. False guarantees
-    /// nothing.
+    /// Whether each of these items is over by the time of another, whose row is `row`, wherever a column of each
+    /// matches. False guarantees nothing.
     pub(crate) fn precede(&self, items: &[u32], row: &SpannedRow<'_>) -> bool
         ensures { OnTrue result ((g : Graph) (tables : List NodeTable) (lasts : ℕ → Scenario → ℕ) (long : Scenario → ℕ) (x : ℕ) →
             AreSpannedRows lasts g tables self.now → IsSpannedRow g tables long x row.now → All (λ y. IsOver lasts g tables y x) items.now) }

@@ -5,7 +5,8 @@ ghost use Rattle.cpg_check_quick.specs.Bounds.{bounds_of, high_of, low_of, unkno
 use cpg_base::{OutOfMemory, top};
 use cpg_cube::{Literal, VARIABLES};
 
-/// Adds the low of a literal, as the literal of all numbers from it on, unless it is 0.
+/// Adds the low of a literal to `bounds`, unless it is 0: as the literal of the numbers from it up to the greatest that
+/// the variable may have with at most `k` faults, or up to the literal's high if that is greater.
 fn push_low(k: u8, literal: &Literal, bounds: &mut Vec<Literal>) -> Result<(), OutOfMemory>
     ensures { IfOk result (λ _. bounds.new.items ≡ bounds.old.items ++ low_of k literal.now) }
 {
@@ -21,8 +22,8 @@ fn push_low(k: u8, literal: &Literal, bounds: &mut Vec<Literal>) -> Result<(), O
     Ok(())
 }
 
-/// Adds the high of a literal, as the literal of all numbers up to it, if the variable may be above it with at most `k`
-/// faults.
+/// Adds the high of a literal to `bounds`, as the literal of all numbers up to it, if the variable may be above it with
+/// at most `k` faults.
 fn push_high(k: u8, literal: &Literal, bounds: &mut Vec<Literal>) -> Result<(), OutOfMemory>
     ensures { IfOk result (λ _. bounds.new.items ≡ bounds.old.items ++ high_of k literal.now) }
 {
@@ -38,8 +39,8 @@ fn push_high(k: u8, literal: &Literal, bounds: &mut Vec<Literal>) -> Result<(), 
     Ok(())
 }
 
-/// Adds the low and the high of a literal, as far as they leave out a number; nothing if the node knows the variable's
-/// number.
+/// Adds the low and the high of a literal to `bounds`, as far as they leave out a number that the variable may have
+/// with at most `k` faults; nothing if the node knows the variable's number (`is_known`).
 fn push_unknown(
     k: u8,
     is_known: bool,

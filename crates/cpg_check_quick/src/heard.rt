@@ -92,7 +92,8 @@ fn push_inputs(
     Ok(())
 }
 
-/// These items, the messages to a process first: its columns mostly have the literals of these messages' columns.
+/// These items, the messages to a process first: the columns of the process mostly have the literals of the messages'
+/// columns.
 fn inputs_first(
     alloc: Global,
     problem: &Problem,
@@ -120,8 +121,8 @@ struct Audible<'a> {
 }
 
 impl<'a> Audible<'a> {
-    /// Whether V4 is known to hold at an item, which has these columns. `is_sent_in_time` is true only if V5 is known
-    /// to hold there.
+    /// Whether V4 is known to hold at an item, which has these columns. False guarantees nothing. `is_sent_in_time` is
+    /// true only if V5 is known to hold there.
     fn is_sure(
         &self,
         alloc: Global,
@@ -161,6 +162,7 @@ impl<'a> Audible<'a> {
 }
 
 /// A mark for each item, by number: whether V4 is known to hold there. It may hold at one that isn't marked, too.
+/// `sequences` are those of all executions, `frames` are the rows of all items, with how long their frames take, and
 /// `inputs` are marks of V5.
 pub(crate) fn heard_marks(
     alloc: Global,

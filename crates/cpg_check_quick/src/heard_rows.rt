@@ -41,7 +41,7 @@ pub(crate) struct HeardRow<'a> {
 
 /// Tests whether there is a place, and the frame of the column there has come by `time`.
 #[derive(Drop)]
-struct Arrivals<'a> {
+struct ArrivalTest<'a> {
     /// The columns of the item.
     columns: &'a [Column],
     /// How long after its column's time a frame is there.
@@ -50,7 +50,7 @@ struct Arrivals<'a> {
     time: u64,
 }
 
-impl<'a> Test for Arrivals<'a> {
+impl<'a> Test for ArrivalTest<'a> {
     ghost guarantees = { λ test place s. HasCome test.columns.now test.delay test.time place };
 
     /// Whether the test passes at a place, in any space.
@@ -106,7 +106,7 @@ fn place_from(literals: &[Literal], from: usize, variable: u8) -> usize {
     literals.len()
 }
 
-/// Whether there is a literal at a place and it implies the wanted one.
+/// Whether there is a literal at place `at`, and it implies the wanted one.
 fn tells_there(literals: &[Literal], at: usize, wanted: &Literal) -> bool
     ensures { OnTrue result (IsToldIn literals.now wanted.now) }
 {
@@ -116,14 +116,14 @@ fn tells_there(literals: &[Literal], at: usize, wanted: &Literal) -> bool
     }
 }
 
-/// Whether one of these literals, whose variables rise, implies the wanted one.
+/// Whether one of these literals implies the wanted one. If their variables don't rise, false guarantees nothing.
 fn tells(literals: &[Literal], wanted: &Literal) -> bool
     ensures { OnTrue result (IsToldIn literals.now wanted.now) }
 {
     tells_there(literals, literal_index(literals, wanted.variable), wanted)
 }
 
-/// Whether there is a column at a place, and one of its literals implies the wanted one.
+/// Whether there is a column at `place`, and one of its literals implies the wanted one.
 fn tells_at(columns: &[Column], place: u32, wanted: &Literal) -> bool
     ensures { OnTrue result (IsToldIn (column_at columns.now place).cube wanted.now) }
 {
@@ -169,7 +169,7 @@ impl<'a> HeardRow<'a> {
         }
     }
 
-    /// Whether the frame of each column at these places tells the wanted literal.
+    /// Whether the frame of each column at these places is known to tell the wanted literal. False guarantees nothing.
     fn tells(&self, places: &[u32], wanted: &Literal) -> bool
         ensures { OnTrue result (IsTold self.now.value self.now.columns.now places.now wanted.now) }
     {
@@ -180,8 +180,8 @@ impl<'a> HeardRow<'a> {
         tell_at_all(self.columns, places, wanted)
     }
 
-    /// Whether the frame of a column that has these literals tells the wanted one, by its value or by the literal at a
-    /// place.
+    /// Whether the frame of a column is known to tell the wanted literal: by the value that it carries, or by the
+    /// literal at place `at` of `own`, the column's literals. False guarantees nothing.
     fn tells_by(&self, own: &[Literal], at: usize, wanted: &Literal) -> bool
         ensures { OnTrue result ((self.now.value ≡ Some wanted.now.variable) ⊎ IsToldIn own.now wanted.now) }
     {
@@ -193,7 +193,7 @@ impl<'a> HeardRow<'a> {
 
     /// Writes to `left`, in place of what is there, those of the wanted literals that the frame of one column isn't
     /// found to tell. `own` are that column's literals; the variables of both lists rise.
-    fn leave_by(
+    fn leave_untold_by_one(
         &self,
         own: &[Literal],
         wanted: &[Literal],
@@ -218,7 +218,7 @@ impl<'a> HeardRow<'a> {
 
     /// Writes to `left`, in place of what is there, those of the wanted literals that the frames of the columns at
     /// these places aren't all found to tell.
-    fn leave_each(
+    fn leave_untold_by_each(
         &self,
         places: &[u32],
         wanted: &[Literal],
@@ -238,8 +238,9 @@ impl<'a> HeardRow<'a> {
         Ok(())
     }
 
-    /// Writes to `left` what `leave_each` does. If there is a single place, as there mostly is, its column's literals
-    /// are gone over only once.
+    /// Writes to `left`, in place of what is there, those of the wanted literals that the frames of the columns at
+    /// these places aren't all found to tell. If there is a single place, as there mostly is, its column's literals are
+    /// gone over only once.
     fn leave(
         &self,
         places: &[u32],
@@ -252,11 +253,11 @@ impl<'a> HeardRow<'a> {
     {
         match alone(self.columns, places) {
             Some(column) => {
-                self.leave_by(column.cube.literals(), wanted, left)?;
+                self.leave_untold_by_one(column.cube.literals(), wanted, left)?;
                 Ok(())
             }
             None => {
-                self.leave_each(places, wanted, left)?;
+                self.leave_untold_by_each(places, wanted, left)?;
                 Ok(())
             }
         }
@@ -283,7 +284,7 @@ impl<'a> HeardRow<'a> {
             return Ok(false);
         }
         places.clear();
-        let arrivals = Arrivals {
+        let arrivals = ArrivalTest {
             columns: self.columns,
             delay: self.delay,
             time: column.time,
@@ -307,7 +308,7 @@ fn value_variable_of(problem: &Problem, item: Item) -> Option<u8>
         Item::Start(_) => None,
         Item::Message(_) => None,
         Item::Broadcast(condition) => {
-            // there are so few conditions that the number of the variable fits
+            // there are at most 32 conditions, whose variables begin at 128, so the number of the variable fits a byte
             if condition < problem.conditions() {
                 Some(FIRST_VALUE + condition as u8)
             } else {

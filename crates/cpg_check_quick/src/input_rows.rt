@@ -152,7 +152,7 @@ impl<'a> InputRows<'a> {
     }
 
     /// Whether an input of a process comes from the same node, and its source is known to be over always before the
-    /// process begins.
+    /// process begins. False guarantees nothing.
     fn is_from_before(&self, edge: u32, process: u32) -> bool
         requires edge { edge < edge_count self.now.admitted.now.graph }
         requires process { process < process_count self.now.admitted.now.graph }
@@ -169,8 +169,8 @@ impl<'a> InputRows<'a> {
             .is_before(node, problem.source(edge), process)
     }
 
-    /// Those of these inputs of a process that `is_from_before` doesn't show to be there by every column of the
-    /// process.
+    /// Those of these inputs of a process that aren't known to come from the same node by a source that is always over
+    /// before the process begins, as `is_from_before` finds out.
     pub(crate) fn others(
         &self,
         alloc: Global,

@@ -23,7 +23,7 @@ use cpg_rules::Admitted;
 use cpg_table::Tables;
 use std::alloc::Global;
 
-/// Whether V5 is known to hold at a start, which has these columns. The caller passes its process.
+/// Whether V5 is known to hold at the start of a process, which has these columns. False guarantees nothing.
 fn is_start_sure(
     alloc: Global,
     input_rows: &InputRows<'_>,
@@ -42,7 +42,7 @@ fn is_start_sure(
     Ok(input_rows.are_late_enough(others.as_slice(), release, columns))
 }
 
-/// Whether V5 is known to hold at an item, which has these columns.
+/// Whether V5 is known to hold at an item, which has these columns. False guarantees nothing.
 fn is_sure(
     alloc: Global,
     input_rows: &InputRows<'_>,
@@ -64,6 +64,7 @@ fn is_sure(
 }
 
 /// A mark for each item, by number: whether V5 is known to hold there. It may hold at one that isn't marked, too.
+/// `sequences` are those of all executions, and `frames` are the rows of all items, with how long their frames take.
 pub(crate) fn inputs_marks(
     alloc: Global,
     admitted: &Admitted,

@@ -84,7 +84,7 @@ fn has_ended(
 }
 
 /// Whether a variable's process is on an item's node and is known to have ended by the item's columns. False guarantees
-/// nothing.
+/// nothing. `is_sent_in_time` is true only if V5 is known to hold at the item.
 fn is_own_ended(
     admitted: &Admitted,
     sequences: &Sequences<'_>,
@@ -110,7 +110,7 @@ fn is_own_ended(
 }
 
 /// A mark for each variable, by number: whether its process is on an item's node and is known to have ended by the
-/// item's columns.
+/// item's columns. `is_sent_in_time` is true only if V5 is known to hold at the item.
 pub(crate) fn own_ended(
     admitted: &Admitted,
     sequences: &Sequences<'_>,
@@ -123,14 +123,15 @@ pub(crate) fn own_ended(
         AreOwnEnded admitted.now.graph tables item result }
 {
     let mut known = [false; VARIABLES];
+    // there are 256 variables, so the number of each fits a byte
     for variable in 0..VARIABLES {
         known[variable] = is_own_ended(admitted, sequences, item, is_sent_in_time, variable as u8);
     }
     known
 }
 
-/// Whether all literals are on known variables. The loop never stops early, so that a compiler can take several at a
-/// step.
+/// Whether all these literals are on variables that `known` marks. The loop never stops early, so that a compiler can
+/// take several at a step.
 fn are_known(known: &[bool; VARIABLES], literals: &[Literal]) -> bool
     ensures { OnTrue result (All (λ l. get_or known.now l.variable false ≡ true) literals.now) }
 {
@@ -152,7 +153,7 @@ fn are_below(literals: &[Literal], variable: usize) -> bool
     }
 }
 
-/// How many variables, from 0 on, are marked before the first that isn't.
+/// How many variables, from 0 on, are marked before the first that isn't: `VARIABLES` if all are.
 fn marked_from_start(known: &[bool; VARIABLES]) -> usize
     ensures marked { (v : ℕ) → v < result → get_or known.now v false ≡ true }
     ensures gap { get_or known.now result false ≡ false }
@@ -165,8 +166,8 @@ fn marked_from_start(known: &[bool; VARIABLES]) -> usize
     VARIABLES
 }
 
-/// Whether all literals of a cube are on known variables. The variables below `first` are known, so a look at the last
-/// literal is mostly enough.
+/// Whether all literals of a cube are on variables that `known` marks. All below `first` are marked, so a look at the
+/// last literal is mostly enough.
 fn is_cube_known(known: &[bool; VARIABLES], first: usize, cube: &Cube) -> bool
     requires { (v : ℕ) → v < first → get_or known.now v false ≡ true }
     ensures { OnTrue result (All (λ l. get_or known.now l.variable false ≡ true) cube.now) }
@@ -178,7 +179,7 @@ fn is_cube_known(known: &[bool; VARIABLES], first: usize, cube: &Cube) -> bool
     are_known(known, literals)
 }
 
-/// Whether all literals of all these columns are on known variables.
+/// Whether all literals of all these columns are on variables that `known` marks.
 pub(crate) fn are_all_known(known: &[bool; VARIABLES], columns: &[Column]) -> bool
     ensures { OnTrue result (All (λ c. All (λ l. get_or known.now l.variable false ≡ true) c.cube) columns.now) }
 {
@@ -191,7 +192,7 @@ pub(crate) fn are_all_known(known: &[bool; VARIABLES], columns: &[Column]) -> bo
     true
 }
 
-/// Whether `literals` begin with `others`, and all after these are on known variables.
+/// Whether `literals` begin with `others`, and all after these are on variables that `known` marks.
 fn begin_with(known: &[bool; VARIABLES], literals: &[Literal], others: &[Literal]) -> bool
     ensures { OnTrue result (BeginsWith known.now literals.now others.now) }
 {

@@ -29,6 +29,7 @@ fn lower_on_node(alloc: Global, problem: &Problem, process: u32) -> Result<Vec<u
 }
 
 /// Whether V6 is known to hold at an item: its executions overlap none of a process of a lower number on its node.
+/// False guarantees nothing. `sequences` are those of all executions.
 fn is_alone(
     alloc: Global,
     problem: &Problem,
@@ -48,6 +49,7 @@ fn is_alone(
 }
 
 /// A mark for each item, by number: whether V6 is known to hold there. It may hold at one that isn't marked, too.
+/// `sequences` are those of all executions.
 pub(crate) fn processor_marks(
     alloc: Global,
     problem: &Problem,

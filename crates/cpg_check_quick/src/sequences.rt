@@ -28,7 +28,7 @@ struct TimeRank {
 }
 
 /// From which place on the item after `place` is compared with those before it: from `place`, if the item there is
-/// active in every scenario, and otherwise from where that item was.
+/// active in every scenario (`is_always`), and otherwise from `start`, as the item at `place` was.
 fn next_start(is_always: bool, place: usize, start: usize) -> usize
     ensures { result ≡ (if is_always then place else start) }
 {
@@ -60,7 +60,8 @@ impl<'a> SpannedRows<'a> {
     }
 }
 
-/// Whether one item comes before another in an order. The order has no item twice.
+/// Whether item `first` comes before item `second` in an order that has no item twice. False if one of them isn't in
+/// it.
 fn stands_before(order: &[u32], first: u32, second: u32) -> bool
     ensures { OnTrue result (StandsBefore order.now first second) }
 {
@@ -118,7 +119,8 @@ impl<'a> SpannedRows<'a> {
         Ok(order)
     }
 
-    /// For each of these groups of items what `in_sequence` answers.
+    /// For each of these groups of items an order in which each item is over before each later one; empty if none is
+    /// known.
     fn orders(&self, alloc: Global, groups: &[Vec<u32>]) -> Result<Vec<Vec<u32>>, OutOfMemory>
         ensures { IfOk result (λ orders. (g : Graph) (tables : List NodeTable) (lasts : ℕ → Scenario → ℕ) →
             AreSpannedRows lasts g tables self.now → Holds g tables Rule.Present → All (λ order. IsInSequence lasts g tables order.items) orders.items) }
@@ -144,7 +146,7 @@ pub(crate) struct Sequences<'a> {
 }
 
 impl<'a> Sequences<'a> {
-    /// These rows, with an order of the items of each node. The groups have the items of each node, by its number.
+    /// These rows, with an order of the items of each node. `groups` has the items of each node, by the node's number.
     pub(crate) fn of(
         alloc: Global,
         rows: SpannedRows<'a>,
@@ -159,7 +161,7 @@ impl<'a> Sequences<'a> {
     }
 
     /// Whether the first of two items of a node is known to be over by the time of the second, wherever a column of
-    /// each matches.
+    /// each matches. False guarantees nothing.
     pub(crate) fn is_before(&self, node: u32, first: u32, second: u32) -> bool
         ensures { OnTrue result ((g : Graph) (tables : List NodeTable) (lasts : ℕ → Scenario → ℕ) → AreSequences lasts g tables self.now →
             IsOver lasts g tables first second) }
@@ -180,6 +182,7 @@ pub(crate) fn processes_on(
     let problem = admitted.problem();
     let order = admitted.order();
     let mut processes = Vec::new(alloc);
+    // the order has each process once, at most 128, so the cast keeps their number
     for place in 0..order.len() as u32 {
         let process = order.at(place);
         if problem.node_of(process) == node {
@@ -192,6 +195,7 @@ pub(crate) fn processes_on(
 /// For each node, by number, its processes, in the urgency order: mostly they run in that order.
 fn processes_by_node(alloc: Global, admitted: &Admitted) -> Result<Vec<Vec<u32>>, OutOfMemory> {
     let mut groups = Vec::new(alloc);
+    // there are at most 16 nodes, so the cast keeps their number
     for node in 0..admitted.problem().nodes().len() as u32 {
         let processes = processes_on(alloc, admitted, node)?;
         groups.push(processes)?;

@@ -56,7 +56,7 @@ fn are_in_slots(problem: &Problem, node: u32, columns: &[Column]) -> bool
     true
 }
 
-/// Adds the messages and broadcasts that a process sends.
+/// Adds to `items` the messages and broadcasts that a process sends over the bus, by number.
 fn push_sent(problem: &Problem, process: u32, items: &mut Vec<u32>) -> Result<(), OutOfMemory> {
     for item in 0..problem.item_count() {
         if problem.is_sent(item) && problem.producer(item) == process {
@@ -81,6 +81,7 @@ fn sent_by(alloc: Global, admitted: &Admitted, node: u32) -> Result<Vec<u32>, Ou
 /// that order.
 fn sent_by_node(alloc: Global, admitted: &Admitted) -> Result<Vec<Vec<u32>>, OutOfMemory> {
     let mut groups = Vec::new(alloc);
+    // there are at most 16 nodes, so the cast keeps their number
     for node in 0..admitted.problem().nodes().len() as u32 {
         let items = sent_by(alloc, admitted, node)?;
         groups.push(items)?;
@@ -132,7 +133,8 @@ fn lower_sent(alloc: Global, problem: &Problem, item: u32) -> Result<Vec<u32>, O
     Ok(lower)
 }
 
-/// Whether V7 is known to hold at an item: each send is at the start of a slot that no item of a lower number shares.
+/// Whether V7 is known to hold at an item: it isn't sent, or each of its sends is at the start of a slot that no item
+/// of a lower number shares. False guarantees nothing. `sequences` are those of the sends.
 fn has_own_slots(
     alloc: Global,
     admitted: &Admitted,

@@ -10,7 +10,7 @@ ghost use Rattle.cpg_check_quick.specs.SpannedRows.{IsPast, IsSpan};
 use cpg_base::{MOST_FAULTS, Problem};
 use cpg_tree::Space;
 
-/// How many fault counts there are, with 0.
+/// How many fault counts a process can have: one for each number from 0 to the most faults.
 const COUNTS: usize = MOST_FAULTS as usize + 1;
 
 /// How long an item lasts at most, in time units, by the number of a variable: the fault count of its process, if it is
@@ -34,7 +34,7 @@ impl ItemSpan {
         let faults = problem.faults();
         let mut lengths = [0; COUNTS];
         for count in 0..COUNTS {
-            // the graph may allow fewer faults than `MOST_FAULTS`
+            // the graph may allow fewer faults than `MOST_FAULTS`, to which the counts go here
             lengths[count] = problem.duration(process, faults.min(count as u8));
         }
         ItemSpan {

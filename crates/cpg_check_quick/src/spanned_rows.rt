@@ -27,7 +27,7 @@ pub(crate) struct SpannedRow<'a> {
     pub(crate) first: u64,
     /// No column is at a later time.
     pub(crate) last: u64,
-    /// How long the item lasts.
+    /// How long the item lasts at most, by the number of a variable.
     pub(crate) span: ItemSpan,
     /// True only if the item is active in every scenario.
     pub(crate) is_always: bool,
@@ -42,7 +42,7 @@ pub(crate) struct SpannedRows<'a> {
     pub(crate) list: Vec<SpannedRow<'a>>,
 }
 
-/// The row of an item that lasts this long.
+/// The row of an item that lasts as long as `span` says. `trees` are those of all rows, by item.
 fn spanned_row_of<'a>(
     admitted: &Admitted,
     tables: &'a Tables,
@@ -78,6 +78,7 @@ pub(crate) fn executions<'a>(
     ensures count { IfOk result (λ c. length c.list.items ≡ process_count admitted.now.graph) }
 {
     let problem = admitted.problem();
+    // there are at most 128 processes, so the cast keeps their number
     let count = problem.processes().len() as u32;
     let mut list = Vec::new(alloc);
     list.reserve(count as usize)?;

@@ -56,8 +56,8 @@ idle_found {g} {order} {guards} a cube p l o f = first_same g order
 
 -- a cube, and scenarios by an order of processes
 module _ (g : Graph) (order : List ℕ) (cube : List Literal) where
-  -- the least scenario of a part of the cube is the least in which the cube matches and a literal holds, if the part
-  -- matches just there
+  -- if `part` matches where the cube does and literal `l` holds, its least scenario `o` is the least in which the cube
+  -- matches and the literal holds
   pub with_part : (l : Literal) (part : List Literal) (o : Option Scenario) →
       ((s : Scenario) → matches part s ≡ (holds s l && matches cube s)) →
       IsFirst g order (matches part) o →
@@ -65,22 +65,23 @@ module _ (g : Graph) (order : List ℕ) (cube : List Literal) where
   with_part l part o both f = first_same g order (matches part) (λ s. matches cube s && holds s l) o
       (λ s _. both s ∙ and_comm (holds s l) (matches cube s)) f
 
-  -- if in no scenario a literal holds and the cube matches, there is none in which the cube matches and the literal
+  -- if in no scenario literal `l` holds and the cube matches, there is none in which the cube matches and the literal
   -- holds
   pub with_none : (l : Literal) → ((s : Scenario) → (holds s l && matches cube s) ≡ false) → (s : Scenario) →
       IsScenario g s →
       (matches cube s && holds s l) ≡ false
   with_none l none s i = and_comm (matches cube s) (holds s l) ∙ none s
 
-  -- if two tests agree in each scenario, the least in which the cube matches and the one fails is the least in which it
-  -- matches and the other fails
+  -- if tests `a` and `b` agree in each scenario, the least scenario `o` in which the cube matches and `a` fails is the
+  -- least in which it matches and `b` fails
   pub inactive_same : (a b : Scenario → Bool) (o : Option Scenario) → ((s : Scenario) → IsScenario g s → b s ≡ a s) →
       IsFirst g order (λ s. matches cube s && not (a s)) o →
       IsFirst g order (λ s. matches cube s && not (b s)) o
   inactive_same a b o is f = first_same g order (λ s. matches cube s && not (a s)) (λ s. matches cube s && not (b s)) o
       (λ s i. ap (λ t. matches cube s && not t) (sym (is s i))) f
 
-  -- if a test always fails, the least scenario of the cube is the least in which the cube matches and the test fails
+  -- if test `b` always fails, the least scenario `o` of the cube is the least in which the cube matches and the test
+  -- fails
   pub inactive_always : (b : Scenario → Bool) (o : Option Scenario) → ((s : Scenario) → IsScenario g s → b s ≡ false) →
       IsFirst g order (matches cube) o →
       IsFirst g order (λ s. matches cube s && not (b s)) o
@@ -125,7 +126,8 @@ module _ (g : Graph) (order : List ℕ) (cube : List Literal) where
       (IsFirst g order (λ s. matches cube s && not (by_item s)))
       (λ o. inactive_same by_source by_item o (λ s i. is s.values))
 
-  -- an item that is never active is inactive wherever the cube matches, so the least scenario of the cube is the answer
+  -- an item `x` that is never active is inactive wherever the cube matches, so the least scenario of the cube is the
+  -- answer
   pub inactive_never : {E : Type 0} (x : ℕ) → ((values : List Bool) → item_active g values (item_at g x) ≡ false) →
       (r : Result (Option Scenario) E)
       → IfOk r (λ o. (urgency : List ℕ) → IsFirst g urgency (matches cube) o) →

@@ -1,5 +1,5 @@
--- Columns that match together with an earlier one, which breaks V2: by their places, and the least scenario of such a
--- match from the places that can match with a column.
+-- Columns that match together with an earlier one, which breaks V2: when the column at a place does, and the least
+-- scenario in which it does, from the places of the columns that can match together with it.
 use Rattle.std.proofs.Common.{ℕ, ◌<◌, ◌≤◌, ◌≡◌, true, false, ◌&&◌, List, length, get_or, take, Option, Contains, arith}
 use Rattle.std.proofs.Common.{sym, ap, ◌∙◌}
 use Rattle.std.specs.List.{list_any}
@@ -26,7 +26,7 @@ double_at columns i d s h = sym (or-false (matches (get_or columns i d).cube s &
     ∙ sym (ap (λ l. list_any (λ c. matches c.cube s && breaks_single s (take i columns)) (take 1 l))
     (drop_more columns i d h))
 
--- past the row's last place there is no column, so none that matches together with an earlier one
+-- at a place `i` past the row's last there is no column, so none that matches together with an earlier one
 pub double_past : (columns : List Column) (i : ℕ) (s : Scenario) → length columns ≤ i → is_double columns i s ≡ false
 double_past columns i s h =
     ap (λ l. list_any (λ c. matches c.cube s && breaks_single s (take i columns)) (take 1 l)) (drop_all i columns h)

@@ -34,8 +34,8 @@ first_of_item (r ∷ rs) h row k = elim (Contains-cases r rs row k) [
     apart : {a b : ℕ} → a < b → a ≡ b → ⊥
     apart l e = absurd (omega arith)
 
--- rows each of which is what a function gives for its item are the function's images of their items; by
--- induction on the rows
+-- if each of some rows is what `f` gives for its item, the rows are what `f` gives for their items, one after another;
+-- by induction on the rows
 rows_by_item : (f : ℕ → Row) (rows : List Row) → ((row : Row) → Contains rows row → row ≡ f row.item) →
     rows ≡ map f (items_of rows)
 rows_by_item f [] h = refl

@@ -28,11 +28,11 @@ use Rattle.cpg_violation.proofs.SureLaws.{sure_of}
 pub both_active : (item none : Bool) → item ≡ true → none ≡ false → (not item || none) ≡ false
 both_active item none e f = ap₂ (λ a b. not a || b) e f
 
--- as many elements as are left from a place on are all that are left
+-- as many elements of `xs` as are left from place `at` on are all that are left
 rest_of : {T : Type 0} (at : ℕ) (xs : List T) → take (length xs - at) (drop at xs) ≡ drop at xs
 rest_of at xs = grind (arith, common_steps)
 
--- where literals match, those from a place on match, too
+-- where literals match scenario `s`, those from place `at` on match, too
 pub matches_from : (literals : List Literal) (at : ℕ) (s : Scenario) → matches literals s ≡ true →
     matches (take (length literals - at) (drop at literals)) s ≡ true
 matches_from literals at s m = subst (λ ls. matches ls s ≡ true) (sym (rest_of at literals))
@@ -40,8 +40,8 @@ matches_from literals at s m = subst (λ ls. matches ls s ≡ true) (sym (rest_o
     (sym (list_all-append (holds s) (take at literals) (drop at literals))
     ∙ ap (list_all (holds s)) (take-append-drop at literals) ∙ m)).1
 
--- the process of a variable of the graph is one of the graph's: itself if the variable is how it fails, and the process
--- of the condition if it is a condition's value
+-- the process of a variable `v` of the graph is one of the graph's: itself if the variable is how it fails, and the
+-- process of the condition if it is a condition's value
 process_within : (g : Graph) → process_count g ≤ 128 → (v : ℕ) → IsVariable g v →
     process_of_variable g v < process_count g
 process_within g few v (inl l) = subst (λ p. p < process_count g) (of_count g v few l) l

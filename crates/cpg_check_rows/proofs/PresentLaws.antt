@@ -28,7 +28,7 @@ use Rattle.cpg_violation.specs.declared.sources.ItemSource.{ItemSource}
 use Rattle.cpg_violation.specs.Activity.{comes_to}
 use Rattle.cpg_violation.proofs.LiveEdges.{live_tested}
 
--- of three tests joined by `and` the last may come first
+-- of three tests that all have to pass, the last, `a`, may be asked first
 turned : (a m n : Bool) → ((m && n) && a) ≡ ((a && m) && n)
 turned true true true = refl
 turned true true false = refl
@@ -71,8 +71,8 @@ module _ (g : Graph) (order : List ℕ) (columns : List Column) where
       IsFirst g order (is_absent g columns x) None
   absent_never x off = λ s i. ap (λ a. a && has_none columns s) (off s.values)
 
--- an edge is live just where its source is active and a cube matches, if the cube matches just where the source has the
--- value that the edge asks for
+-- edge `e` is live just where its source is active and a cube matches, if the cube matches just where the source has
+-- the value that the edge asks for
 pub live_where : {g : Graph} {order : List ℕ} {guards : Guards} → IsAdmitted g order guards → (s : Scenario) →
     IsScenario g s → (e : ℕ) → e < edge_count g →
     (cube : List Literal)
@@ -102,7 +102,7 @@ present_more g tables x before here y column s l i = elim (cases_lt y x) [
     at_item (Some k) = list_any_false (breaks_at Rule.Present g tables s x (take k (columns_of tables x)))
         (take 1 (drop k (columns_of tables x))) (λ c _. and_right (matches c.cube s) false refl)
 
--- what holds of each element's image holds of all elements of the mapped list
+-- if `P` holds of `f x` for each element `x` of `xs`, it holds of all elements of the list that `f` makes of them
 pub all_mapped : {X Y : Type 0} (P : Y → Type 0) (f : X → Y) (xs : List X) → All (λ x. P (f x)) xs → All P (map f xs)
 all_mapped P f [] h k d l = absurd (omega arith)
 all_mapped P f (x ∷ xs) h zero d l = h 0 x (omega arith)

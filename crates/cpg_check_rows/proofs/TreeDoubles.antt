@@ -35,7 +35,7 @@ front_as columns n i s less none = elim (cases_lt i (length columns)) [
   | inr past ↦ double_past columns i s past
 ]
 
--- if a row has a tree, no column of it matches together with an earlier one
+-- if a row has a tree, its column at place `i` doesn't match a scenario `s` together with an earlier one
 none_double : (g : Graph) (columns : List Column) (tree : PlacesState) → IsRowTree g columns tree →
     (i : ℕ) (s : Scenario) → IsScenario g s →
     is_double columns i s ≡ false
@@ -45,7 +45,7 @@ none_double g columns tree is i s law = elim (cases_lt i (length columns)) [
   | inr past ↦ double_past columns i s past
 ]
 
--- if the first columns of a row have a tree, none of them matches together with an earlier one
+-- if the first `n` columns of a row have a tree (`o`), none of them matches a scenario together with an earlier one
 pub none_by_tree : (g : Graph) (columns : List Column) (n : ℕ) (o : Option PlacesState) →
     IfSome o (IsRowTree g (take n columns))
     → OnTrue (is_some o) ((i : ℕ) (s : Scenario) → i < n → IsScenario g s → is_double columns i s ≡ false)

@@ -24,7 +24,7 @@ use Rattle.cpg_row_trees.proofs.TreeLaws.{none_earlier, place_there, place_match
 use Rattle.cpg_violation.specs.Sure.{IsSure}
 use Rattle.cpg_violation.proofs.Tests.{off_where}
 use Rattle.cpg_row_trees.specs.Trees.{AreRowTrees}
-use Rattle.cpg_check_rows.specs.Absent.{IsIdleWhere}
+use Rattle.cpg_check_rows.specs.Absent.{IsInactiveIfNone}
 
 -- an item whose row has a tree
 module _ (g : Graph) (tables : List NodeTable)
@@ -44,7 +44,7 @@ module _ (g : Graph) (tables : List NodeTable)
   ]
 
   -- V3 is sure if the item is inactive wherever the tree has no place: elsewhere the column at the tree's place matches
-  pub present_sure : ((s : Scenario) → IsScenario g s → IsIdleWhere g x (place_at tree s) s) →
+  pub present_sure : ((s : Scenario) → IsScenario g s → IsInactiveIfNone g x (place_at tree s) s) →
       IsSure g tables Rule.Present x
   present_sure idle (Some i) s law =
       list_any_at_place (breaks_at Rule.Present g tables s x (take i (columns_of tables x))) (columns_of tables x) i
@@ -57,6 +57,7 @@ module _ (g : Graph) (tables : List NodeTable)
           ap (λ b. b && not (list_any (λ (d : Column). matches d.cube s) (columns_of tables x))) (idle s law e law)
       go (Some i) e =
           let there : i < length (columns_of tables x) = place_there is s law i e in
+          -- some column matches: the one at the tree's place
           let some =
           list_any_true (λ (d : Column). matches d.cube s) (columns_of tables x) (column_at (columns_of tables x) i) (
             i,
@@ -70,18 +71,18 @@ module _ (g : Graph) (tables : List NodeTable)
 -- row trees, and what they have for item `x`, `o`
 module _ (g : Graph) (tables : List NodeTable) (trees : List (Option PlacesState)) (x : ℕ)
     (o : Option PlacesState) where
-  -- if they have a tree for the item, it is one of its row's columns
+  -- if the row trees have a tree for the item, it is a tree of the columns of the item's row
   here : x < length trees → o ≡ get_or trees x o → AreRowTrees g tables trees →
       IfSome o (IsRowTree g (columns_of tables x))
   here there is are = tree_of_row g tables trees x are (omega (arith, there, are.count)) o is
 
-  -- the same of a tree that `o` is known to be
+  -- if `o` is `tree`, this is a tree of the columns of the item's row
   pub tree_at : (tree : PlacesState) → x < length trees → o ≡ get_or trees x o → o ≡ Some tree →
       AreRowTrees g tables trees →
       IsRowTree g (columns_of tables x) tree
   tree_at tree there is some are = subst (λ p. IfSome p (IsRowTree g (columns_of tables x))) some (here there is are)
 
-  -- V2 is sure at the item if they have a tree for it
+  -- V2 is sure at the item if the row trees have a tree for it
   pub single_at : x < length trees → o ≡ get_or trees x o → AreRowTrees g tables trees →
       OnTrue (is_some o) (IsSure g tables Rule.Single x)
   single_at there is are = go o (here there is are)

@@ -10,19 +10,19 @@ use Rattle.cpg_table.specs.declared.fault.Fault.{Fault}
 use Rattle.cpg_table.specs.declared.rule.Rule.{Rule}
 use Rattle.cpg_table.specs.Found.{row_columns}
 
--- `i` is the first place at which two lists differ; if one list begins with the other, it is the length of the other
+-- `i` is the first place at which two lists differ; if one list begins with the other, it is the length of the shorter
 pub record DifferFirstAt (xs ys : List Column) (i : ℕ) : Type 0 where
   -- the lists are the same up to the place
   pub before : take i xs ≡ take i ys
   -- at the place they differ, or only one of them has an element
   pub here : slice_get xs i ≢ slice_get ys i
 
--- if the node has a hear row of item `x`, it has these columns
+-- if the node has a hear row of item `x`, the row has these columns
 abbrev pub HearsAt : List NodeTable → ℕ → List Column → ℕ → Type 0
 HearsAt tables x columns node = IfSome (row_columns (table_at tables node).hears x) (λ cs. cs ≡ columns)
 
--- some node hears item `x` by other columns than these, and `place` is the first column that differs at the least such
--- node
+-- one of the first `nodes` nodes hears item `x` by other columns than these, and at the least such node `place` is the
+-- first place at which its columns differ from these
 pub record IsFirstHear (tables : List NodeTable) (nodes x : ℕ) (columns : List Column) (place : ℕ) : Type 0 where
   -- that node
   pub node : ℕ
@@ -56,5 +56,5 @@ pub record IsFirstHearFault (g : Graph) (tables : List NodeTable) (f : Fault) : 
   pub scenario : f.scenario ≡ zero_scenario g
   -- no item before it breaks the rule
   pub items : (x : ℕ) → x < f.item → IsHeardWell g tables x
-  -- it names the column
+  -- the column that it names is the first that differs at the least node that hears the item by other columns
   pub column : IsSomeAnd f.column (IsFirstHear tables (length g.nodes) f.item (due_columns g tables f.item))

@@ -6,7 +6,7 @@ use Rattle.cpg_cube.specs.Cube.{matches}
 use Rattle.cpg_cube.specs.declared.column.Column.{Column}
 use Rattle.cpg_table.specs.Valid.{breaks_single}
 
--- whether there is a column at place `i`, and it breaks V2: it matches in the scenario together with an earlier one
--- (`take 1 (drop i columns)` is that column alone, or nothing)
+-- whether there is a column at place `i` of these columns, and it breaks V2 in scenario `s`: it matches, and so does an
+-- earlier one (`take 1 (drop i columns)` is the column at `i` alone, or nothing)
 abbrev pub is_double : List Column → ℕ → Scenario → Bool
 is_double columns i s = list_any (λ c. matches c.cube s && breaks_single s (take i columns)) (take 1 (drop i columns))

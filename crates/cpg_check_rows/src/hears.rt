@@ -62,18 +62,19 @@ fn first_difference(heard: &[Column], sent: &[Column], delay: u64) -> Option<u32
     let common = heard.len().min(sent.len());
     for place in 0..common {
         if !is_later(&heard[place], &sent[place], delay) {
+            // `MOST_LOAD` is far below 2^32
             return Some(place as u32);
         }
     }
     if heard.len() == sent.len() {
         return None;
     }
-    // one list goes on behind the other
+    // one list goes on behind the other; the shorter has at most `MOST_LOAD` columns, far below 2^32
     Some(common as u32)
 }
 
 /// The first place at which an item's hear row at a node doesn't have the sender's column, later by the delay. `None`
-/// exactly if there is none, or the node has no such row.
+/// exactly if there is none, or the node has no such row. `sent` are the sender's columns.
 fn difference_at(tables: &Tables, node: u32, item: u32, sent: &[Column], delay: u64) -> Option<u32>
     requires node { node < length tables.now.head.nodes }
     requires few { length sent.now ≤ MOST_LOAD }
@@ -89,8 +90,9 @@ fn difference_at(tables: &Tables, node: u32, item: u32, sent: &[Column], delay: 
     first_difference(heard, sent, delay)
 }
 
-/// What `difference_at` answers at the least node at which there is a difference. `None` exactly if there is no such
-/// node.
+/// The first place at which the hear row of an item doesn't have the sender's column, later by the delay, at the least
+/// node whose row has such a place. `None` exactly if no node's row has one. `nodes` is how many nodes there are, and
+/// `sent` are the sender's columns.
 fn first_hear(tables: &Tables, nodes: u32, item: u32, sent: &[Column], delay: u64) -> Option<u32>
     requires nodes { nodes ≡ length tables.now.head.nodes }
     requires few { length sent.now ≤ MOST_LOAD }
@@ -118,6 +120,7 @@ pub fn check_hears(
     ensures first { IfOk result (λ r. IfSome r (IsFirstHearFault admitted.now.graph tables.now.nodes)) }
 {
     let problem = admitted.problem();
+    // there are at most 16 nodes, so the cast keeps their number
     let nodes = tables.head().nodes().len() as u32;
     for item in 0..problem.item_count() {
         let sent = tables.columns_of(item);

@@ -22,8 +22,8 @@ use cpg_tree::Space;
 use cpg_violation::{always_active, are_all, is_item_running, is_marked, is_running, tested_marks};
 use std::alloc::Global;
 
-/// Whether a process is active in each scenario of a space. False guarantees nothing. `always` has marks of processes
-/// that are active in every scenario: most are.
+/// Whether a process is active in each scenario of a space. False guarantees nothing. `always` marks processes that are
+/// active in every scenario, as most are.
 fn is_active(admitted: &Admitted, always: &[bool], process: u32, space: &Space) -> bool
     requires process { process < process_count admitted.now.graph }
     requires always { AreAlways admitted.now.graph always.now }
@@ -36,6 +36,7 @@ fn is_active(admitted: &Admitted, always: &[bool], process: u32, space: &Space) 
 }
 
 /// Whether the processes of these literals are all active in each scenario of a space. False guarantees nothing.
+/// `always` marks processes that are active in every scenario.
 fn are_active(admitted: &Admitted, always: &[bool], literals: &[Literal], space: &Space) -> bool
     requires literals { IsKnown admitted.now.graph literals.now }
     requires always { AreAlways admitted.now.graph always.now }
@@ -51,8 +52,8 @@ fn are_active(admitted: &Admitted, always: &[bool], literals: &[Literal], space:
     true
 }
 
-/// The last of these literals, those behind the last one on a count: if the variables rise, they are all that are on
-/// values.
+/// Those of these literals that come after the last one on a fault count, or all of them if none is on a count. If the
+/// variables rise, these are all the literals on values.
 fn on_values(literals: &[Literal]) -> &[Literal]
     ensures { (s : Scenario) → matches literals.now s ≡ true → matches result.now s ≡ true }
 {
@@ -67,7 +68,8 @@ fn on_values(literals: &[Literal]) -> &[Literal]
 }
 
 /// Whether an item and the processes of a column's literals are all active wherever the column matches. False
-/// guarantees nothing. `everywhere` is a space of all scenarios.
+/// guarantees nothing. `always` marks processes that are active in every scenario, and `everywhere` is a space of all
+/// scenarios.
 fn is_lawful(
     admitted: &Admitted,
     always: &[bool],
@@ -85,7 +87,7 @@ fn is_lawful(
     let literals = column.cube.literals();
     // what is active depends on values alone, so only literals on values narrow the space
     let mut space = *everywhere;
-    // no scenario matches these literals, nor the column
+    // no scenario matches these literals, so none matches the column
     if !space.narrow_to(on_values(literals)) {
         return true;
     }
@@ -96,7 +98,8 @@ fn is_lawful(
 }
 
 /// Whether for each of these columns an item and the processes of the column's literals are all active wherever the
-/// column matches. False guarantees nothing.
+/// column matches. False guarantees nothing. `always` marks processes that are active in every scenario, and
+/// `everywhere` is a space of all scenarios.
 fn are_lawful(
     admitted: &Admitted,
     always: &[bool],
@@ -119,8 +122,8 @@ fn are_lawful(
     true
 }
 
-/// Whether all processes, and an item as well, are known to be active in every scenario. `all` says so of the
-/// processes: false guarantees nothing.
+/// Whether all processes, and an item as well, are known to be active in every scenario. False guarantees nothing.
+/// `all` is true only if all processes are, and `everywhere` is a space of all scenarios.
 fn is_plain(admitted: &Admitted, all: bool, everywhere: &Space, item: u32) -> bool
     requires everywhere { (s : Scenario) → IsScenario admitted.now.graph s → IsInSpace everywhere.now s }
     requires item { item < item_count admitted.now.graph }
@@ -134,7 +137,9 @@ fn is_plain(admitted: &Admitted, all: bool, everywhere: &Space, item: u32) -> bo
     is_item_running(admitted, item, everywhere)
 }
 
-/// Whether V1 is known to hold at an item. If all processes and the item are always active, no column is looked at.
+/// Whether V1 is known to hold at an item. False guarantees nothing. `always` marks processes that are active in every
+/// scenario, `all` is true only if all processes are, and `everywhere` is a space of all scenarios. If all processes
+/// and the item are always active, no column is looked at.
 fn is_sure(
     admitted: &Admitted,
     tables: &Tables,
@@ -160,8 +165,9 @@ fn is_sure(
     are_lawful(admitted, always, everywhere, item, columns)
 }
 
-/// The marks of `activity_marks`, by what is known of all scenarios: the processes that are active in each of them, whether all
-/// are, and a space that has all scenarios.
+/// A mark for each item, by number: whether V1 is known to hold there. It may hold at one that isn't marked, too.
+/// `always` marks processes that are active in every scenario, `all` is true only if all processes are, and
+/// `everywhere` is a space of all scenarios.
 fn marks_of(
     alloc: Global,
     admitted: &Admitted,
@@ -193,7 +199,7 @@ pub(crate) fn activity_marks(
     ensures { IfOk result (λ marks. AreSure admitted.now.graph tables.now.nodes Rule.Activity marks.items) }
 {
     let always = always_active(alloc, admitted)?;
-    // whether each process is marked
+    // whether each process is marked; there are at most 128, so the cast keeps their number
     let all = are_all(
         always.as_slice(),
         admitted.problem().processes().len() as u32,

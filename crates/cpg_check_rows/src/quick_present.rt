@@ -6,7 +6,7 @@ ghost use Rattle.cpg_table.specs.Table.{NodeTable};
 ghost use Rattle.cpg_table.specs.declared.rule.Rule.{Rule};
 ghost use Rattle.cpg_violation.specs.Sure.{AreSure, IsSure};
 ghost use Rattle.cpg_row_trees.specs.Trees.{AreRowTrees};
-ghost use Rattle.cpg_check_rows.specs.Absent.{IsIdleWhere};
+ghost use Rattle.cpg_check_rows.specs.Absent.{IsInactiveIfNone};
 
 use cpg_base::OutOfMemory;
 use cpg_row_trees::{Places, Test};
@@ -15,8 +15,8 @@ use cpg_tree::Space;
 use cpg_violation::{is_item_idle, tested_marks};
 use std::alloc::Global;
 
-/// Tests a place where the tree of an item's row leads scenarios: it has a column that matches, or else the item is
-/// inactive in them.
+/// Tests the place to which the tree of an item's row leads some scenarios: either there is one, and its column matches
+/// in them, or the item is inactive in them.
 #[derive(Drop)]
 struct Presence<'a> {
     /// The graph of the item.
@@ -26,11 +26,11 @@ struct Presence<'a> {
 }
 
 impl<'a> Test for Presence<'a> {
-    ghost use Rattle.cpg_check_rows.specs.Absent.{IsIdleWhere};
+    ghost use Rattle.cpg_check_rows.specs.Absent.{IsInactiveIfNone};
 
-    ghost guarantees = { λ test place s. IsIdleWhere test.admitted.now.graph test.item place s };
+    ghost guarantees = { λ test place s. IsInactiveIfNone test.admitted.now.graph test.item place s };
 
-    /// Whether the test passes at a place in all scenarios of a space. False guarantees nothing.
+    /// Whether there is a place, or the item is inactive in all scenarios of a space. False guarantees nothing.
     fn passes(&self, place: Option<u32>, space: &Space) -> bool {
         if place.is_some() {
             return true;
@@ -43,7 +43,8 @@ impl<'a> Test for Presence<'a> {
     }
 }
 
-/// Whether V3 is known to hold at an item, by the tree of its row.
+/// Whether V3 is known to hold at an item, by the tree of its row. False guarantees nothing. `trees` are those of all
+/// rows, by item.
 fn is_sure(admitted: &Admitted, trees: &[Option<Places>], item: u32) -> bool
     requires { item < item_count admitted.now.graph }
     ensures { OnTrue result ((tables : List NodeTable) → AreRowTrees admitted.now.graph tables trees.now → IsSure admitted.now.graph tables Rule.Present item) }
@@ -61,6 +62,7 @@ fn is_sure(admitted: &Admitted, trees: &[Option<Places>], item: u32) -> bool
 }
 
 /// A mark for each item, by number: whether V3 is known to hold there. It may hold at one that isn't marked, too.
+/// `trees` are those of all rows.
 pub(crate) fn present_marks(
     alloc: Global,
     admitted: &Admitted,

@@ -25,7 +25,7 @@ use cpg_table::{Fault, Rule, Tables};
 use cpg_violation::{Sieve, is_marked, met};
 use std::alloc::Global;
 
-/// The least scenario that a cube matches together with the column at a place. `None` exactly if there is none, or no
+/// The least scenario that a cube matches together with the column at `place`. `None` exactly if there is none, or no
 /// column is there. Any scenario of the graph may be passed as `room`, and is overwritten.
 fn met_at(
     problem: &Problem,
@@ -47,8 +47,8 @@ fn met_at(
     Ok(found)
 }
 
-/// The least scenario that a cube matches together with a column at one of some places. `None` exactly if there is
-/// none.
+/// The least scenario that a cube matches together with the column at one of these places. `None` exactly if there is
+/// none. A place may be past the end: no column is there.
 fn shared(
     alloc: Global,
     problem: &Problem,
@@ -73,8 +73,8 @@ fn shared(
     Ok(found)
 }
 
-/// The least scenario that a column matches together with an earlier one. `None` exactly if there is none. `column` is
-/// its place.
+/// The least scenario that a column of a row matches together with an earlier one. `None` exactly if there is none.
+/// `column` is its place, and `sieve` is the sieve of the row.
 fn shared_before(
     alloc: Global,
     problem: &Problem,

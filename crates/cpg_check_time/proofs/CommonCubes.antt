@@ -20,7 +20,7 @@ use Rattle.cpg_cube.proofs.Narrow.{known-narrowed}
 -- `part` matches exactly where `cube` and the first `i` literals of `other` do (`d` is only the default of `get_or`)
 module _ (cube other part : List Literal) (i : ℕ) (d : Literal) (l : i < length other)
     (so_far : (s : Scenario) → matches part s ≡ (matches cube s && matches (take i other) s)) where
-  -- narrowed by the next literal, the part matches exactly where the cube and one literal more do
+  -- narrowed by the literal at place `i`, the part, `next`, matches exactly where the cube and one literal more do
   pub common_more : (next : List Literal) →
       ((s : Scenario) → matches next s ≡ (holds s (get_or other i d) && matches part s)) →
       (s : Scenario) →
@@ -31,8 +31,8 @@ module _ (cube other part : List Literal) (i : ℕ) (d : Literal) (l : i < lengt
       ∙ and_assoc (matches cube s) (matches (take i other) s) (holds s (get_or other i d))
       ∙ ap (λ b. matches cube s && b) (sym (list_all_more (holds s) other i d l))
 
-  -- if the next literal holds nowhere that the part matches, no scenario matches both cubes: it would match the part,
-  -- and the literal would hold
+  -- if the literal at place `i` holds nowhere that the part matches, no scenario `s` matches both cubes: it would match
+  -- the part, and the literal would hold
   pub common_none : ((s : Scenario) → (holds s (get_or other i d) && matches part s) ≡ false) → (s : Scenario) →
       (matches cube s && matches other s) ≡ false
   common_none none s = false_from_ne_true (matches cube s && matches other s) (λ t.
@@ -43,7 +43,8 @@ module _ (cube other part : List Literal) (i : ℕ) (d : Literal) (l : i < lengt
       ∙ ap (list_all (holds s)) (take-append-drop i other) ∙ p.1)).0 in
       both_ways _ (none s) (and_from _ _ here (so_far s ∙ and_from _ _ p.0 before)))
 
--- a cube on variables of the graph stays that when it is narrowed by a literal of another such cube
+-- if cube `part` is on variables of the graph, and so is the cube `other`, the part narrowed by the literal of `other`
+-- at place `i`, `next`, is too
 pub known_more : (g : Graph) (part other next : List Literal) (i : ℕ) (d : Literal) → i < length other →
     IsKnown g part → IsKnown g other →
     with_literal (get_or other i d) part ≡ Some next →

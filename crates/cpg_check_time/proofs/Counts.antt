@@ -13,12 +13,12 @@ use Rattle.cpg_cube.proofs.Narrow.{known-narrowed}
 use Rattle.cpg_violation.proofs.Durations.{duration_grows}
 use Rattle.cpg_check_time.specs.Lateness.{IsLeastCount}
 
--- every execution takes at least one time unit
+-- every execution of process `p`, with however many faults `n`, takes at least one time unit
 pub duration_some : (g : Graph) → IsWithinLimits g → (p n : ℕ) → p < process_count g → 1 ≤ duration g p n
 duration_some g within p n l = let works : 1 ≤ (process_at g p).wcet = (within.processes p _ l).works in omega arith
 
--- the first count with which the execution ends after the time is the least: with each greater count it lasts at least
--- as long
+-- if `f` is the first count with which the execution ends after the time, it is the least: with each greater count it
+-- lasts at least as long
 pub first_is_least : (g : Graph) (p start time f : ℕ) → ((n : ℕ) → n < f → start + duration g p n ≤ time) →
     time < start + duration g p f →
     IsLeastCount g p start time f
@@ -27,7 +27,8 @@ first_is_least g p start time f below here = λ n. (
   λ m. omega (arith, here, duration_grows g p f n m),
 )
 
--- a cube on variables of the graph stays that when it is narrowed by a range of a process's fault count
+-- if a cube is on variables of the graph, so is what it is narrowed to by a range of the fault count of process `p`,
+-- `o`
 pub part_known : (g : Graph) (p : ℕ) → p < process_count g →
     (cube : List Literal) (low high : ℕ) (o : Option (List Literal)) →
     IsKnown g cube →

@@ -33,7 +33,7 @@ slot_short g within node = elim (cases_lt (slot_place g node) (length g.slots)) 
       omega arith
 ]
 
--- an execution ends latest with all faults of the graph
+-- an execution of process `p` that starts at `time` ends latest with all faults of the graph
 pub most_faults : (g : Graph) → process_count g ≤ 128 → (p : ℕ) → p < process_count g → (s : Scenario) (time : ℕ) →
     IsScenario g s →
     time + duration g p (fault_of s p) ≤ time + duration g p g.faults

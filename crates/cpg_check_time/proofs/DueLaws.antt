@@ -1,4 +1,4 @@
--- V9 at one column: the execution that it starts ends after the due.
+-- V9 at one column: it is broken where the execution that the column starts ends after the due.
 use Rattle.std.proofs.Common.{ℕ, ◌<◌, ◌≡◌, ◌&&◌, List, ap, sym, lt-ltb, Option, ◌∙◌}
 use Rattle.cpg_base.specs.Graph.{Graph, process_count}
 use Rattle.cpg_base.specs.Duration.{due}
@@ -20,7 +20,7 @@ module _ (g : Graph) (order : List ℕ) (tables : List NodeTable) (x : ℕ) (c :
       (matches c.cube s && ends_after g x c.time (due g x) s) ≡ breaks_column Rule.Due g tables x c s
   due_is s = ap (λ b. matches c.cube s && (b && ends_after g x c.time (due g x) s)) (sym (lt-ltb x (process_count g) l))
 
-  -- if a part matches exactly there, its least scenario is the least in which the column breaks V9
+  -- if a part matches exactly there, its least scenario `o` is the least in which column `c` breaks V9
   pub due_first : (part : List Literal) →
       ((s : Scenario) → IsScenario g s → matches part s ≡ (matches c.cube s && ends_after g x c.time (due g x) s)) →
       (o : Option Scenario) →

@@ -1,5 +1,5 @@
--- V8 at one column: the item is frozen, and the column's time isn't that of the first column that matches in any
--- scenario (the first possible one).
+-- V8 at one column: it is broken if the item is frozen, and the column's time isn't that of the first column that
+-- matches in any scenario (the first possible one).
 use Rattle.std.proofs.Common.{ℕ, ◌+◌, ◌<◌, ◌≤◌, ◌≡◌, ◌≢◌, Bool, true, false, cond, not, ◌&&◌, ◌==◌, List, length}
 use Rattle.std.proofs.Common.{get_or, drop, find, map, Option, Some, None, All, refl, sym, ap, ◌∙◌, ne_eqb, eq-eqb}
 use Rattle.std.specs.Prelude.{option_map}
@@ -54,14 +54,15 @@ module _ (g : Graph) (few : process_count g ≤ 128) (columns : List Column) (ar
 
 -- ---- the rule
 
--- an item has no frozen time if it isn't frozen (`b`) or has no possible column (`o`): then V8 isn't broken
+-- if an item has no frozen time, as it isn't frozen (`b` is false) or has no possible column (`o` is `None`), a column
+-- at `time` doesn't break V8
 differs_none : (time : ℕ) (b : Bool) (o : Option Column) → cond b (option_map (λ (c : Column). c.time) o) None ≡ None →
     (b && differs_from time o) ≡ false
 differs_none time true None e = refl
 differs_none time true (Some d) e = absurd (none-some d.time (sym e))
 differs_none time false o e = refl
 
--- if it has the frozen time `t`, V8 is broken by a column exactly if its time isn't `t`
+-- if it has the frozen time `t`, a column at `time` breaks V8 exactly if `time` isn't `t`
 differs_some : (time t : ℕ) (b : Bool) (o : Option Column) →
     cond b (option_map (λ (c : Column). c.time) o) None ≡ Some t →
     (b && differs_from time o) ≡ not (t == time)
@@ -76,26 +77,26 @@ module _ (g : Graph) (order : List ℕ) (tables : List NodeTable) (x : ℕ) (c :
   frozen_none e s = and_right (matches c.cube s) _
       (differs_none c.time (is_frozen g x) (find (is_possible g) (columns_of tables x)) e)
 
-  -- a column at the frozen time never breaks V8
+  -- a column `c` at the frozen time `t` never breaks V8
   pub frozen_same : (t : ℕ) → frozen_time g tables x ≡ Some t → t ≡ c.time → (s : Scenario) →
       breaks_column Rule.Frozen g tables x c s ≡ false
   frozen_same t e same s = and_right (matches c.cube s) _ (differs_some c.time t (is_frozen g x)
       (find (is_possible g) (columns_of tables x)) e ∙ ap not (eq-eqb t c.time same))
 
-  -- a column at another time breaks V8 wherever it matches
+  -- a column `c` at another time than the frozen one, `t`, breaks V8 wherever it matches
   frozen_other : (t : ℕ) → frozen_time g tables x ≡ Some t → t ≢ c.time → (s : Scenario) →
       matches c.cube s ≡ breaks_column Rule.Frozen g tables x c s
   frozen_other t e other s = with_true (matches c.cube s) _ (differs_some c.time t (is_frozen g x)
       (find (is_possible g) (columns_of tables x)) e ∙ ap not (ne_eqb t c.time other))
 
-  -- so the least scenario that it matches is the least in which it breaks V8
+  -- so the least scenario `o` that column `c` matches is the least in which it breaks V8
   pub frozen_first : (t : ℕ) → frozen_time g tables x ≡ Some t → t ≢ c.time → (o : Option Scenario) →
       IsFirst g order (matches c.cube) o →
       IsFirst g order (breaks_column Rule.Frozen g tables x c) o
   frozen_first t e other o f =
       first_same g order (matches c.cube) (breaks_column Rule.Frozen g tables x c) o (λ s _. frozen_other t e other s) f
 
--- the time at an item's number in the list is its frozen time
+-- the time at the number of item `x` in the list of frozen times is its frozen time; the default `d` isn't read
 pub time_at : (g : Graph) (tables : List NodeTable) (times : List (Option ℕ)) (x : ℕ) (d : Option ℕ) →
     times ≡ map (frozen_time g tables) (numbers_below (item_count g)) →
     x < item_count g →

@@ -1,4 +1,5 @@
--- V5 at one column: the release, a live input, or the end of the producer comes only after its time.
+-- V5 at one column: it is broken where the release, a live input, or the end of the producer comes only after the
+-- column's time.
 use Rattle.std.proofs.Common.{ℕ, ◌+◌, ◌<◌, ◌≤◌, ◌≡◌, Bool, true, false, cond, not, ◌&&◌, ◌||◌, ◌==◌, List, filter}
 use Rattle.std.proofs.Common.{Contains, Option, refl, sym, ap, ◌∙◌, arith, lt-ltb, le-ltb}
 use Rattle.std.specs.Prelude.{nat_lt}
@@ -39,7 +40,7 @@ use Rattle.cpg_check_time.proofs.Waits.{late_where}
 
 -- ---- live edges
 
--- an edge is live exactly if its source is active and has the value that it asks for
+-- an edge `e` is live exactly if its source is active and has the value that it asks for
 live_asked : {g : Graph} {order : List ℕ} {guards : Guards} → IsAdmitted g order guards → (s : Scenario) →
     IsScenario g s → (e : ℕ) →
     e < edge_count g →
@@ -50,7 +51,7 @@ live_asked {g} {order} {guards} a s i e l = live_tested g order a.topological gu
 module _ {g : Graph} {order : List ℕ} {guards : Guards} (admitted : IsAdmitted g order guards) (tables : List NodeTable)
     (rules : AllHold g tables row_rules) (s : Scenario)
     (law : IsScenario g s) where
-  -- a process is active and hasn't ended by a time exactly if one of its columns is late
+  -- process `p` is active and hasn't ended by a time exactly if one of its columns is late
   end_late : (p : ℕ) → p < process_count g → (time : ℕ) →
       (active g s.values p && not (is_by time (ends_of g tables s p)))
       ≡ list_any (λ d. is_late g (Execution p) time d s) (columns_of tables p)
@@ -58,7 +59,7 @@ module _ {g : Graph} {order : List ℕ} {guards : Guards} (admitted : IsAdmitted
       ap (λ i. item_active g s.values i && not (is_by time (ends_of g tables s p))) (sym (item_at-start g p l))
       ∙ late_where g tables s law p (omega arith) rules (λ start. start + duration g p (fault_of s p)) time
 
-  -- an input is live and isn't there by a time exactly if it is late
+  -- input `e` is live and isn't there by a time exactly if it is late
   input_late : (e : ℕ) → e < edge_count g → (time : ℕ) →
       (live g s.values e && not (input_is_there g tables s time e)) ≡ is_input_late g tables time e s
   input_late e l time = go (is_message g e) refl
@@ -157,7 +158,8 @@ module _ (g : Graph) (order : List ℕ) (tables : List NodeTable) (c : Column) (
   lacks_frame m f = first_same g order (λ s. matches c.cube s && frame_late s) (lacks_input g tables c e) o
       (λ s _. sym (ap (λ b. matches c.cube s && cond b (frame_late s) (is_asked g e s && source_late s)) m)) f
 
-  -- if it isn't, that is the least scenario in which the source has the asked value and ends late
+  -- if it isn't, the least scenario in which the source has the asked value and ends late is the least that lacks the
+  -- input
   pub lacks_source : is_message g e ≡ false → (part : List Literal) →
       ((s : Scenario) → matches part s ≡ (matches c.cube s && is_asked g e s)) →
       IsFirst g order (λ s. matches part s && source_late s) o → IsFirst g order (lacks_input g tables c e) o
@@ -177,7 +179,8 @@ module _ {g : Graph} {order : List ℕ} {guards : Guards} (admitted : IsAdmitted
   first_released l early f = first_same g order (matches c.cube) (breaks_column Rule.Inputs g tables x c) o
       (λ s i. too_early admitted tables rules s i x l c early) f
 
-  -- from the release on, that is the least scenario in which it lacks one of the inputs
+  -- from the release of a start on, the least scenario in which the column lacks one of the inputs is the least in
+  -- which it breaks V5
   pub first_input : x < process_count g → (process_at g x).release ≤ c.time →
       IsFirst g order (λ s. list_any (λ e. lacks_input g tables c e s) (inputs g x)) o →
       IsFirst g order (breaks_column Rule.Inputs g tables x c) o
@@ -185,7 +188,8 @@ module _ {g : Graph} {order : List ℕ} {guards : Guards} (admitted : IsAdmitted
       (breaks_column Rule.Inputs g tables x c) o
       (λ s i. inputs_only admitted tables rules s i x l c released) f
 
-  -- for a send, it is the least scenario in which the column matches and its producer ends late
+  -- for a send, the least scenario in which the column matches and the producer ends late is the least in which the
+  -- column breaks V5
   pub first_send : x < item_count g → process_count g ≤ x → Contains (columns_of tables x) c →
       IsFirst g order (λ s. matches c.cube s
       && list_any (λ d. is_late g (Execution (producer g x)) c.time d s) (columns_of tables (producer g x))) o →

@@ -35,7 +35,7 @@ never_asks : (rule : Rule) → is_alone rule ≡ true → asks_for_one rule ≡ 
 never_asks Present e = absurd (true≢false (sym e))
 never_asks rule e = refl
 
--- nor is it V2, so it doesn't ask which columns come before
+-- the rule isn't V2 either, so what it says of column `c` doesn't depend on the columns before it (`earlier`)
 same_rule : (rule : Rule) → is_alone rule ≡ true →
     (g : Graph) (tables : List NodeTable) (s : Scenario) (x : ℕ) (earlier : List Column) (c : Column) →
     breaks_rule rule g tables s x earlier c ≡ breaks_rule rule g tables s x [] c
@@ -44,7 +44,7 @@ same_rule rule e g tables s x earlier c = refl
 
 -- such a rule, and an item
 module _ (rule : Rule) (alone : is_alone rule ≡ true) (g : Graph) (tables : List NodeTable) (x : ℕ) where
-  -- a column breaks it whatever columns come before
+  -- column `c` breaks it whatever columns come before
   pub same_earlier : (earlier : List Column) (c : Column) (s : Scenario) →
       breaks_at rule g tables s x earlier c ≡ breaks_column rule g tables x c s
   same_earlier earlier c s = ap (λ b. matches c.cube s && b) (same_rule rule alone g tables s x earlier c)
@@ -53,7 +53,8 @@ module _ (rule : Rule) (alone : is_alone rule ≡ true) (g : Graph) (tables : Li
   pub never_missing : (s : Scenario) → breaks rule g tables s x None ≡ false
   never_missing s = ap (λ b. b && breaks_present g tables s x) (never_asks rule alone)
 
-  -- it is broken at a place of the item's row exactly if the column there breaks it
+  -- the rule is broken at place `i` of the row of item `x` exactly if the column there breaks it; the default `d` isn't
+  -- read
   pub breaks_here : (i : ℕ) (d : Column) (s : Scenario) → i < length (columns_of tables x) →
       breaks_column rule g tables x (get_or (columns_of tables x) i d) s ≡ breaks rule g tables s x (Some i)
   breaks_here i d s h =
@@ -62,7 +63,7 @@ module _ (rule : Rule) (alone : is_alone rule ≡ true) (g : Graph) (tables : Li
       ∙ sym (ap (λ l. list_any (breaks_at rule g tables s x (take i (columns_of tables x))) (take 1 l))
       (drop_more (columns_of tables x) i d h))
 
-  -- it isn't broken at a place past the last column
+  -- it isn't broken at a place `i` past the last column
   pub breaks_past : (i : ℕ) (s : Scenario) → length (columns_of tables x) ≤ i →
       breaks rule g tables s x (Some i) ≡ false
   breaks_past i s h = ap (λ l. list_any (breaks_at rule g tables s x (take i (columns_of tables x))) (take 1 l))
@@ -80,8 +81,8 @@ module _ (rule : Rule) (alone : is_alone rule ≡ true) (g : Graph) (tables : Li
     pub place_there : Contains (columns_of tables x) d
     place_there = subst (λ cs. Contains cs d) all (i, l, sym is)
 
-    -- if no column before breaks the rule, the least scenario in which this one does is that of the first column that
-    -- does
+    -- if no column before place `i` breaks the rule, the least scenario `s` in which column `d` there does is that of
+    -- the first column that does
     pub first_here : (s : Scenario) →
         ((j : ℕ) (t : Scenario) → j < i → IsScenario g t → breaks rule g tables t x (Some j) ≡ false) →
         IsFirst g order (breaks_column rule g tables x d) (Some s)
@@ -92,7 +93,7 @@ module _ (rule : Rule) (alone : is_alone rule ≡ true) (g : Graph) (tables : Li
       columns = λ j t m k. before j t m k;
     }
 
-    -- if no column before breaks the rule and this one doesn't, none before the next place does
+    -- if no column before place `i` breaks the rule, and column `d` there doesn't, none before the next place does
     pub none_here : ((j : ℕ) (t : Scenario) → j < i → IsScenario g t → breaks rule g tables t x (Some j) ≡ false) →
         ((t : Scenario) → IsScenario g t → breaks_column rule g tables x d t ≡ false)
         → (j : ℕ) (t : Scenario) → j < i + 1 → IsScenario g t → breaks rule g tables t x (Some j) ≡ false
@@ -114,8 +115,8 @@ in_rows_of t row k = elim (Contains-append_cases t.starts t.sends row k) [
 -- tables of an admitted graph
 module _ {g : Graph} {order : List ℕ} {guards : Guards} (admitted : IsAdmitted g order guards) (tables : List NodeTable)
     (are : AreTablesOf (head_of g) tables) where
-  -- each column of an item is lawful: it is in the item's row at the item's node, and all rows of a node's table are
-  -- lawful
+  -- each column `c` of item `x` is lawful: it is in the item's row at the item's node, and all rows of a node's table
+  -- are lawful
   lawful_column : (x : ℕ) (c : Column) → Contains (columns_of tables x) c → IsLawfulColumn (space_of (head_of g)) c
   lawful_column x c k =
       -- the row, at the item's node
@@ -131,7 +132,7 @@ module _ {g : Graph} {order : List ℕ} {guards : Guards} (admitted : IsAdmitted
       (in_rows_of (table_at tables (home g x)) r.0 r.1) in
       All-contains (IsLawfulColumn (space_of (head_of g))) r.0.columns c row.columns there
 
-  -- each column of an item is one as tables of the graph have it
+  -- each column `c` of item `x` is one as tables of the graph have it
   pub column_is : (x : ℕ) (c : Column) → Contains (columns_of tables x) c → IsColumn g c
   column_is x c k =
       let lawful = lawful_column x c k in

@@ -54,8 +54,8 @@ module _ (columns : List Column) (places : List ℕ) (k d : ℕ) (l : k < length
     | inr ge ↦ subst (All (λ c. Contains columns c)) (sym (none ge)) before
   ]
 
--- a test that only columns pass that match together with the cube passes at one of the found columns exactly if it does
--- at one of all columns
+-- a test that passes only at columns that match together with the cube passes at one of the columns `found` exactly if
+-- it does at one of all columns: each that matches with the cube is at one of the places
 pub same_found : (columns found : List Column) (places : List ℕ) (cube : List Literal) →
     All (λ c. Contains columns c) found →
     AreFound columns found places

@@ -1,4 +1,5 @@
--- V6 at one column: an execution of a lower process of the node overlaps the one that the column starts.
+-- V6 at one column: it is broken where an execution of a lower process of the node overlaps the one that the column
+-- starts.
 use Rattle.std.proofs.Common.{ℕ, ◌+◌, ◌<◌, ◌≤◌, ◌≡◌, Bool, true, false, ◌&&◌, ◌==◌, List, filter, All, Option, arith}
 use Rattle.std.proofs.Common.{sym, ap, ◌∙◌, lt-ltb, le-ltb, ltb, eq-eqb}
 use Rattle.std.specs.List.{list_any}
@@ -43,7 +44,8 @@ module _ (g : Graph) (within : IsWithinLimits g) (p : ℕ) (l : p < process_coun
       (lt-ltb d.time (c.time + duration g p (fault_of s p))
       (omega (arith, duration_some g within p (fault_of s p) l))))) f
 
-  -- if `d` is later, it is the least in which the execution of `c` ends after `d`
+  -- if `d` is later, the least scenario in which the execution of `c` ends after `d` is the least in which the two
+  -- overlap
   pub overlap_before : c.time < d.time → (order : List ℕ) (o : Option Scenario) →
       IsFirst g order (λ s. matches d.cube s && (matches c.cube s && ends_after g p c.time d.time s)) o →
       IsFirst g order (overlaps g p c q d) o
@@ -64,7 +66,8 @@ module _ (g : Graph) (within : IsWithinLimits g) (p : ℕ) (l : p < process_coun
 
 -- column `c` of process `p`, and process `q`
 module _ (g : Graph) (tables : List NodeTable) (p : ℕ) (c : Column) (q : ℕ) where
-  -- if `q` is on the same node, the least scenario in which one of its columns overlaps `c` is the least of a clash
+  -- if `q` is on the same node, the least scenario in which an execution of `q` overlaps that of `c` is the least in
+  -- which the two clash
   pub other_node : node_of g q ≡ node_of g p → (order : List ℕ) (o : Option Scenario) →
       IsFirst g order (λ s. list_any (λ d. overlaps g p c q d s) (columns_of tables q)) o →
       IsFirst g order (overlaps_some g tables p c q) o
@@ -132,7 +135,7 @@ module _ (g : Graph) (order : List ℕ) (tables : List NodeTable) (p : ℕ) (l :
       ∙ sym (ap (λ b. matches c.cube s && (b && list_any (λ q. list_any (at_start s q) (at tables q s))
       (filter (λ q. node_of g q == node_of g p) (numbers_below p)))) (lt-ltb p (process_count g) l))
 
-  -- so the least scenario in which some lower process clashes is the least in which `c` breaks V6
+  -- so the least scenario in which some lower process clashes with `c` is the least in which `c` breaks V6
   pub first_overlap : (o : Option Scenario) →
       IsFirst g order (λ s. list_any (λ q. overlaps_some g tables p c q s) (numbers_below p)) o →
       IsFirst g order (breaks_column Rule.Processor g tables p c) o

@@ -1,4 +1,5 @@
--- The least scenario for one element more of a list; and a premise that is asked once.
+-- The least scenario in which an element of a list passes a test, for one element more; and a premise that is asked
+-- once.
 use Rattle.std.proofs.Common.{ℕ, ◌+◌, ◌<◌, ◌≡◌, Bool, true, false, ◌&&◌, ◌||◌, List, [], ◌∷◌, length, get_or, take, map}
 use Rattle.std.proofs.Common.{filter, Option, refl, sym, ap, ◌∙◌}
 use Rattle.std.specs.List.{list_any}
@@ -16,11 +17,11 @@ use Rattle.cpg_table.specs.Table.{NodeTable, columns_of, at}
 use Rattle.cpg_cube.specs.declared.column.Column.{Column}
 use Rattle.cpg_violation.proofs.Columnwise.{any_filter}
 
--- of three tests that all have to pass, the first two may change places
+-- of three tests that all have to pass, `a` and `b` may change places
 pub and_swap : (a b c : Bool) → (a && (b && c)) ≡ (b && (a && c))
 and_swap a b c = sym (and_assoc a b c) ∙ ap (λ d. d && c) (and_comm a b) ∙ and_assoc b a c
 
--- a premise that is asked along with the test of each element may be asked once; by induction on the list
+-- a premise `m` that is asked along with the test of each element of `xs` may be asked once; by induction on the list
 pub both_any : {X : Type 0} (m : Bool) (test : X → Bool) (xs : List X) →
     list_any (λ x. m && test x) xs ≡ (m && list_any test xs)
 both_any true test [] = refl
@@ -30,8 +31,8 @@ both_any false test (x ∷ xs) = both_any false test xs
 
 -- ---- the least scenario
 
--- the least scenario in which one of the first `i + 1` elements passes is the earlier of that for the first `i` and
--- that for the next one (`d` is only the default of `get_or`)
+-- the least scenario in which one of the first `i + 1` elements passes is the earlier of `a`, that for the first `i`,
+-- and `b`, that for the next one (`d` is only the default of `get_or`)
 pub first_more : {X : Type 0} (g : Graph) (order : List ℕ) (test : X → Scenario → Bool) (xs : List X) (i : ℕ) (d : X) →
     i < length xs →
     (a b : Option Scenario) →
@@ -44,7 +45,8 @@ first_more g order test xs i d l a b f h =
     (λ s _. sym (list_any_more (λ x. test x s) xs i d l))
     (first_or g order (λ s. list_any (λ x. test x s) (take i xs)) (test (get_or xs i d)) a b f h)
 
--- the same, if the elements are mapped before they are tested
+-- the least scenario in which one of the first `i + 1` of `xs` passes, each mapped by `f` before it is tested, is the
+-- earlier of `a`, that for the first `i`, and `b`, that for the one at place `i`
 pub first_mapped : {X Y : Type 0} (f : X → Y) (g : Graph) (order : List ℕ) (test : Y → Scenario → Bool) (xs : List X)
     (i : ℕ) (d : X) → i < length xs →
     (a b : Option Scenario) →
@@ -57,7 +59,8 @@ first_mapped f g order test xs i d l a b h k = first_same g order (λ s. list_an
     (first_same g order (λ s. list_any (λ y. test y s) (map f (take i xs)))
     (λ s. list_any (λ x. test (f x) s) (take i xs)) a (λ s _. any_map (λ y. test y s) f (take i xs)) h) k)
 
--- the same for the numbers below `n` and `n` itself
+-- the least scenario in which one of the numbers up to `n` passes is the earlier of `a`, that for the numbers below
+-- `n`, and `b`, that for `n` itself
 pub first_below : (g : Graph) (order : List ℕ) (test : ℕ → Scenario → Bool) (n : ℕ) (a b : Option Scenario) →
     IsFirst g order (λ s. list_any (λ x. test x s) (numbers_below n)) a →
     IsFirst g order (test n) b
@@ -69,7 +72,7 @@ first_below g order test n a b f h = first_same g order (λ s. list_any (λ x. t
     ap (λ b. list_any (λ x. test x s) (numbers_below n) || b) (or-false (test n s))))
     (first_or g order (λ s. list_any (λ x. test x s) (numbers_below n)) (test n) a b f h)
 
--- one of an item's times passes a test exactly if one of its columns matches and its time passes
+-- one of the times of item `x` passes a test exactly if one of its columns `d` matches and its time passes
 pub any_at : (tables : List NodeTable) (x : ℕ) (s : Scenario) (test : ℕ → Bool) →
     list_any test (at tables x s) ≡ list_any (λ d. matches d.cube s && test d.time) (columns_of tables x)
 any_at tables x s test =

@@ -1,4 +1,5 @@
--- V7 at one column: no slot of the node starts at its time, or a lower item of the node is sent at that time, too.
+-- V7 at one column: it is broken where no slot of the node starts at the column's time, or a lower item of the node is
+-- sent at that time, too.
 use Rattle.std.proofs.Common.{ℕ, ◌<◌, ◌≤◌, ◌≡◌, ◌≢◌, Bool, true, false, not, ◌&&◌, ◌||◌, ◌==◌, List, All, Contains}
 use Rattle.std.proofs.Common.{Option, arith, sym, ap, ◌∙◌, eq-eqb, ne_eqb}
 use Rattle.std.specs.List.{list_any}
@@ -22,7 +23,8 @@ use Rattle.cpg_check_time.proofs.Seeking.{and_swap, any_at, both_any}
 
 -- ---- two columns, and those of another item
 
--- two columns of one time share a slot wherever both match, so the least scenario that both match is the answer
+-- columns `c` and `d` of one time share a slot wherever both match, so the least scenario `o` that both match is the
+-- answer
 pub share_where : (g : Graph) (c d : Column) → d.time ≡ c.time → (order : List ℕ) (o : Option Scenario) →
     IsFirst g order (λ s. matches c.cube s && matches d.cube s) o →
     IsFirst g order (shares c d) o
@@ -30,7 +32,7 @@ share_where g c d same order o f = first_same g order (λ s. matches c.cube s &&
     (λ s _.
     ap (λ b. matches c.cube s && b) (with_true (matches d.cube s) (d.time == c.time) (eq-eqb d.time c.time same))) f
 
--- where two columns share a slot, both match
+-- where columns `c` and `d` share a slot, both match scenario `s`
 pub shares_both : (c : Column) (s : Scenario) (d : Column) → shares c d s ≡ true →
     (matches c.cube s ≡ true) × (matches d.cube s ≡ true)
 shares_both c s d t =
@@ -39,8 +41,8 @@ shares_both c s d t =
 
 -- column `c` of item `x`, and item `y`
 module _ (g : Graph) (tables : List NodeTable) (x : ℕ) (c : Column) (y : ℕ) where
-  -- if the node of `x` sends `y`, the least scenario in which one of its columns shares the slot is the least of a
-  -- clash
+  -- if the node of `x` sends `y`, the least scenario in which a column of `y` shares the slot of `c` is the least in
+  -- which the two clash
   pub other_item : is_sent g y ≡ true → home g y ≡ home g x → (order : List ℕ) (o : Option Scenario) →
       IsFirst g order (λ s. list_any (λ d. shares c d s) (columns_of tables y)) o →
       IsFirst g order (shares_some g tables x c y) o
@@ -56,13 +58,13 @@ module _ (g : Graph) (tables : List NodeTable) (x : ℕ) (c : Column) (y : ℕ) 
       (list_any_false (λ d. shares c d s) (columns_of tables y) (λ d k.
       and_right (matches c.cube s) _ (and_right (matches d.cube s) _ (ne_eqb d.time c.time (none d k)))))
 
-  -- so it is if all columns of `y` are later
+  -- the two never clash if all columns of `y` are at `first` or later, and `c` is earlier
   pub all_later : (first : ℕ) → All (λ d. first ≤ d.time) (columns_of tables y) → c.time < first → (s : Scenario) →
       shares_some g tables x c y s ≡ false
   all_later first all early = never_shares (λ d k e. let from : first ≤ d.time =
       All-contains (λ (d : Column). first ≤ d.time) (columns_of tables y) d all k in omega arith)
 
-  -- and if all are earlier
+  -- the two never clash if all columns of `y` are at `last` or earlier, and `c` is later
   pub all_earlier : (last : ℕ) → All (λ d. d.time ≤ last) (columns_of tables y) → last < c.time → (s : Scenario) →
       shares_some g tables x c y s ≡ false
   all_earlier last all late = never_shares (λ d k e. let by : d.time ≤ last =

@@ -24,7 +24,7 @@ use Rattle.cpg_violation.proofs.Moments.{in_at, at_parts}
 -- tables that keep V1 to V3, a scenario and an item of the graph
 module _ (g : Graph) (tables : List NodeTable) (s : Scenario) (law : IsScenario g s) (x : ℕ) (l : x < item_count g)
     (rules : AllHold g tables row_rules) where
-  -- two columns at different places don't both match: the one behind would break V2
+  -- columns `c` and `d` at places `i` and `j`, `j` before `i`, don't both match: `c` would break V2
   not_after : (c d : Column) (i j : ℕ) → i < length (columns_of tables x) → j < i →
       get_or (columns_of tables x) i c ≡ c → get_or (columns_of tables x) j d ≡ d →
       matches c.cube s ≡ true →
@@ -35,7 +35,7 @@ module _ (g : Graph) (tables : List NodeTable) (s : Scenario) (law : IsScenario 
       (j, omega (arith, length-take i (columns_of tables x)), get_or-take i (columns_of tables x) j d k ∙ f) in
       both_ways _ none (list_any_true (λ (q : Column). matches q.cube s) (take i (columns_of tables x)) d there n)
 
-  -- two columns of the item that match are the same: they are at one place
+  -- columns `c` and `d` of the item that both match are the same: they are at one place
   pub match_once : (c d : Column) → Contains (columns_of tables x) c → Contains (columns_of tables x) d →
       matches c.cube s ≡ true → matches d.cube s ≡ true → c ≡ d
   match_once c d k q m n = elim (cases_order k.0 q.0) [

@@ -9,7 +9,8 @@ use Rattle.cpg_table.specs.Valid.{breaks_at}
 use Rattle.cpg_table.specs.declared.rule.Rule.{Rule}
 use Rattle.cpg_table.specs.declared.rule.Rule.TheVariants.{Single, Present}
 
--- whether a rule judges each column by itself: V2 asks which columns come before it, and V3 whether there is one
+-- whether a rule judges each column by itself; not so V2, which asks for the columns before it, and V3, which asks
+-- whether there is a column
 abbrev pub is_alone : Rule → Bool
 is_alone Single = false
 is_alone Present = false

@@ -19,7 +19,7 @@ abbrev pub done_at : Graph → Scenario → Delay → ℕ → ℕ
 done_at g s (Execution p) time = time + duration g p (fault_of s p)
 done_at g s (Slot length) time = time + length
 
--- what begins at any time is done at most `most` later, in every scenario
+-- what begins at any time is done at most `most` time units later, in every scenario
 abbrev pub IsMost : Graph → Delay → ℕ → Type 0
 IsMost g delay most = (s : Scenario) (time : ℕ) → IsScenario g s → done_at g s delay time ≤ time + most
 

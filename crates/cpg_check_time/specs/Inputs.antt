@@ -11,18 +11,18 @@ use Rattle.cpg_cube.specs.declared.column.Column.{Column}
 use Rattle.cpg_check_time.specs.Delays.{is_late}
 use Rattle.cpg_check_time.specs.declared.delays.Delay.TheVariants.{Execution, Slot}
 
--- whether the source of an edge has the value that the edge asks for; also if it asks for none
+-- whether the source of edge `e` has the value that the edge asks for; true if it asks for none
 abbrev pub is_asked : Graph → ℕ → Scenario → Bool
 is_asked g e s = is_passed (test_of (condition_of g (source g e)) (edge_at g e).when) s.values
 
--- whether an input is there only after `time`: if it is a message, by a column of its row that matches; if not, by a
--- column of its source, which is on the same node and has the value that the edge asks for
+-- whether input `e` is there only after `time`: if it is a message, by a column of its row that matches; if not, by a
+-- matching column of its source, which is on the same node and has the value that the edge asks for
 abbrev pub is_input_late : Graph → List NodeTable → ℕ → ℕ → Scenario → Bool
 is_input_late g tables time e s = if is_message g e
     then list_any (λ d. is_late g (Slot (slot_length g (home g (message_item g e)))) time d s)
     (columns_of tables (message_item g e))
     else is_asked g e s && list_any (λ d. is_late g (Execution (source g e)) time d s) (columns_of tables (source g e))
 
--- whether a column matches, and an input is there only after its time
+-- whether column `c` matches, and input `e` is there only after the column's time
 abbrev pub lacks_input : Graph → List NodeTable → Column → ℕ → Scenario → Bool
 lacks_input g tables c e s = matches c.cube s && is_input_late g tables c.time e s

@@ -8,6 +8,6 @@ use Rattle.cpg_base.specs.Scenario.{Scenario, fault_of}
 abbrev pub ends_after : Graph → ℕ → ℕ → ℕ → Scenario → Bool
 ends_after g p start time s = nat_lt time (start + duration g p (fault_of s p))
 
--- `count` is the least number of faults with which the execution ends after `time`: it does exactly if it has as many
+-- an execution of process `p` that starts at `start` ends after `time` exactly if it has `count` faults or more
 abbrev pub IsLeastCount : Graph → ℕ → ℕ → ℕ → ℕ → Type 0
 IsLeastCount g p start time count = (n : ℕ) → (time < start + duration g p n) ↔ (count ≤ n)

@@ -31,6 +31,7 @@ fn sift_inputs(
 ) -> Result<(), OutOfMemory>
     ensures { IfOk result (λ _. (count : ℕ) → AreSievedRows tables.now.nodes count rows.old → AreSievedRows tables.now.nodes count rows.new) }
 {
+    // there are at most 256 edges, so the cast keeps their number
     for edge in 0..problem.edges().len() as u32 {
         // a quick check has shown that the target keeps V5, so it asks no row
         if is_marked(marks, problem.target(edge)) {
@@ -51,7 +52,7 @@ fn sift_producers(
 ) -> Result<(), OutOfMemory>
     ensures { IfOk result (λ _. (count : ℕ) → AreSievedRows tables.now.nodes count rows.old → AreSievedRows tables.now.nodes count rows.new) }
 {
-    // messages and broadcasts are numbered behind the starts
+    // messages and broadcasts are numbered behind the starts, of which there are at most 128
     for item in problem.processes().len() as u32..problem.item_count() {
         // a quick check has shown that the item keeps V5
         if is_marked(marks, item) {
@@ -74,7 +75,7 @@ fn longest(problem: &Problem, item: u32) -> u64 {
 /// Whether the first column of an item is no later than the latest end of what the columns of another begin. False if
 /// one of the two has no row.
 fn begins_within(problem: &Problem, rows: &[SievedRow<'_>], item: u32, other: u32) -> bool {
-    // no row, no clash
+    // an item without a row clashes with none
     let (Some(row), Some(beside)) = (rows.get(item as usize), rows.get(other as usize)) else {
         return false;
     };
@@ -125,6 +126,7 @@ fn sift_starts(
 ) -> Result<(), OutOfMemory>
     ensures { IfOk result (λ _. (count : ℕ) → AreSievedRows tables.now.nodes count rows.old → AreSievedRows tables.now.nodes count rows.new) }
 {
+    // there are at most 128 processes, so the cast keeps their number
     for item in 0..problem.processes().len() as u32 {
         // a quick check has shown that the process keeps V6
         if is_marked(marks, item) {
@@ -145,6 +147,7 @@ fn sift_sends(
 ) -> Result<(), OutOfMemory>
     ensures { IfOk result (λ _. (count : ℕ) → AreSievedRows tables.now.nodes count rows.old → AreSievedRows tables.now.nodes count rows.new) }
 {
+    // messages and broadcasts are numbered behind the starts, of which there are at most 128
     let from = problem.processes().len() as u32;
     for item in from..problem.item_count() {
         // a quick check has shown that the item keeps V7
@@ -167,7 +170,7 @@ pub fn sift_time(
 ) -> Result<(), OutOfMemory>
     ensures { IfOk result (λ _. (count : ℕ) → AreSievedRows tables.now.nodes count rows.old → AreSievedRows tables.now.nodes count rows.new) }
 {
-    // the first two are for V5, the third is for V6, the last for V7
+    // two passes for V5, one for V6 and one for V7
     sift_inputs(alloc, problem, tables, rows, marks.inputs.as_slice())?;
     sift_producers(alloc, problem, tables, rows, marks.inputs.as_slice())?;
     sift_starts(alloc, problem, tables, rows, marks.processor.as_slice())?;

@@ -21,7 +21,7 @@ use cpg_table::Tables;
 use cpg_violation::{SievedRow, met};
 use std::alloc::Global;
 
-/// What a column begins, which says how long it takes from the column's time until that is done.
+/// What a column begins, and so how long after the column's time that is done.
 #[derive(Clone, Copy)]
 pub(crate) enum Delay {
     /// An execution of the process with this number: its duration depends on its faults.
@@ -85,7 +85,8 @@ impl<'a> Question for Late<'a> {
 }
 
 /// The least scenario in which `column` and some column of `item` both match, and what the latter begins is done only
-/// after the time of the former. `None` exactly if there is none. Only the contract names `tables`.
+/// after the time of the former. `None` exactly if there is none. `delay` is what a column of `item` begins, and `rows`
+/// are those of all items. Only the contract names `tables`.
 pub(crate) fn least_delay(
     alloc: Global,
     admitted: &Admitted,

@@ -14,12 +14,13 @@ use cpg_rules::Admitted;
 use cpg_table::{Fault, Rule, Tables};
 use std::alloc::Global;
 
-/// Judges V9. It needs to know nothing of the tables.
+/// Judges V9 by the graph and the column alone.
 struct Due;
 
 impl TimeJudge for Due {
     ghost rule = { Rule.Due };
 
+    // nothing has to be known of a graph and its tables
     ghost suits = { λ _ _ _. ⊤ };
 
     /// The least scenario in which the execution that a column starts ends after its process's due. `None` exactly if
@@ -46,6 +47,7 @@ impl TimeJudge for Due {
         Ok(least)
     }
 
+    // V9 is neither V2 nor V3
     ghost alone = { refl };
 }
 

@@ -32,8 +32,8 @@ fn possible_time(problem: &Problem, columns: &[Column]) -> Option<u64>
     None
 }
 
-/// The time that an item has to have if it is frozen: that of its first column that matches in some scenario. `None` if
-/// it isn't frozen, or no column matches in any.
+/// The time that an item has to have if it is frozen: that of its first column that matches in some scenario. `None`
+/// exactly if it isn't frozen, or no column matches in any.
 fn frozen_time(admitted: &Admitted, tables: &Tables, item: u32) -> Option<u64>
     requires head { IsHeadFor admitted.now.graph tables.now.head }
     requires item { item < item_count admitted.now.graph }
@@ -49,12 +49,13 @@ fn frozen_time(admitted: &Admitted, tables: &Tables, item: u32) -> Option<u64>
 
 /// Judges V8, by the one time that each frozen item has to have.
 #[derive(Drop)]
-struct FrozenStarts {
-    /// What `frozen_time` says of each item, by number.
+struct FrozenItems {
+    /// For each item, by number, the time that it has to have; `None` if it isn't frozen, or no column of it ever
+    /// matches.
     times: Vec<Option<u64>>,
 }
 
-/// What `frozen_time` says of each item, by number.
+/// For each item, by number, the time that it has to have; `None` if it isn't frozen, or no column of it ever matches.
 fn frozen_times(
     alloc: Global,
     admitted: &Admitted,
@@ -72,9 +73,10 @@ fn frozen_times(
     Ok(times)
 }
 
-impl TimeJudge for FrozenStarts {
+impl TimeJudge for FrozenItems {
     ghost rule = { Rule.Frozen };
 
+    // the times are those of the graph and its tables
     ghost suits = { λ judge g tables. judge.times.items ≡ map (frozen_time g tables) (numbers_below (item_count g)) };
 
     /// The least scenario that a column of an item matches, if its time isn't the one that the item has to have. `None`
@@ -99,6 +101,7 @@ impl TimeJudge for FrozenStarts {
         Ok(least)
     }
 
+    // V8 is neither V2 nor V3
     ghost alone = { refl };
 }
 
@@ -122,7 +125,7 @@ pub(crate) fn check_frozen(
         admitted,
         tables,
         Rule::Frozen,
-        &FrozenStarts { times },
+        &FrozenItems { times },
         marks,
     )?;
     Ok(found)

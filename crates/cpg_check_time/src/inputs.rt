@@ -44,8 +44,8 @@ fn common(cube: &Cube, other: &Cube) -> Result<Option<Cube>, OutOfMemory>
     Ok(Some(part))
 }
 
-/// The least scenario in which a column matches, and an input is live and isn't there by its time. `None` exactly if
-/// there is none.
+/// The least scenario in which a column matches, and input `edge` is there only after the column's time. `None` exactly
+/// if there is none. `rows` are those of all items.
 fn least_lacking(
     alloc: Global,
     admitted: &Admitted,
@@ -63,7 +63,7 @@ fn least_lacking(
     let problem = admitted.problem();
     // a message is there a slot after it was sent
     if problem.is_message(edge) {
-        // messages are numbered behind the starts
+        // messages are numbered behind the starts, of which there are at most 128
         let item = problem.processes().len() as u32 + edge;
         let slot = Delay::Slot(problem.slot_length(problem.home(item)));
         let found = least_delay(alloc, admitted, tables, rows, item, column, slot)?;
@@ -85,8 +85,8 @@ fn least_lacking(
     Ok(found)
 }
 
-/// The least scenario in which a column matches, and one of several inputs is live and isn't there by its time. `None`
-/// exactly if there is none.
+/// The least scenario in which a column matches, and one of these inputs is there only after the column's time. `None`
+/// exactly if there is none. `rows` are those of all items.
 fn least_of_lacking(
     alloc: Global,
     admitted: &Admitted,
@@ -113,7 +113,7 @@ fn least_of_lacking(
     Ok(found)
 }
 
-/// Judges V5.
+/// Judges V5, by the inputs of each process and the rows of all items.
 #[derive(Drop)]
 pub(crate) struct WaitedInputs<'a> {
     /// The inputs of each process.
@@ -125,6 +125,7 @@ pub(crate) struct WaitedInputs<'a> {
 impl<'a> TimeJudge for WaitedInputs<'a> {
     ghost rule = { Rule.Inputs };
 
+    // the inputs and the rows are those of the graph and its tables
     ghost suits = { λ judge g tables. IsReady g tables judge };
 
     /// The least scenario in which a column of an item is earlier than the release of its process or something that the
@@ -156,5 +157,6 @@ impl<'a> TimeJudge for WaitedInputs<'a> {
         Ok(least)
     }
 
+    // V5 is neither V2 nor V3
     ghost alone = { refl };
 }

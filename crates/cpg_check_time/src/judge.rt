@@ -23,7 +23,7 @@ use std::alloc::Global;
 
 /// Judges one of V5 to V9, each of which judges a column by itself.
 pub(crate) trait TimeJudge {
-    // the rule
+    // the rule that it judges
     ghost rule: { Rule };
 
     // what the judge has to know of a graph and its tables
@@ -49,8 +49,8 @@ pub(crate) trait TimeJudge {
     ghost alone: { is_alone rule ≡ true };
 }
 
-/// The place of the first column of an item that breaks the rule in some scenario, with the least such scenario. `None`
-/// exactly if none does.
+/// The place of the first column of an item that breaks the judge's rule in some scenario, with the least such
+/// scenario. `None` exactly if none does.
 fn first_in_row<J: TimeJudge>(
     alloc: Global,
     admitted: &Admitted,
@@ -78,8 +78,8 @@ fn first_in_row<J: TimeJudge>(
     Ok(None)
 }
 
-/// The first violation of a rule, by item and column, with the least scenario in the urgency order in which it occurs.
-/// `None` exactly if the rule holds. Items at which it is marked as sure are left out.
+/// The first violation of the judge's rule, by item and column, with the least scenario in the urgency order in which
+/// it occurs. `None` exactly if the rule holds. Items at which it is marked as sure are left out. `rule` is that rule.
 pub(crate) fn first_violation<J: TimeJudge>(
     alloc: Global,
     admitted: &Admitted,

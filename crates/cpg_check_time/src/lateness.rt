@@ -15,7 +15,7 @@ use cpg_cube::{Column, Cube, Literal};
 use cpg_violation::met;
 
 /// The least count of faults with which an execution that starts at `start` ends after `time`. `None` exactly if it
-/// doesn't even with all faults.
+/// ends by `time` with each number of faults that the graph allows.
 fn least_count(problem: &Problem, process: u32, start: u64, time: u64) -> Option<u8>
     requires process { process < process_count problem.now }
     requires start { start < 2 ^ 60 }
@@ -33,8 +33,8 @@ fn least_count(problem: &Problem, process: u32, start: u64, time: u64) -> Option
     None
 }
 
-/// The part of a cube in whose scenarios an execution that starts at `start` ends after `time`. `None` only if it does
-/// in no scenario that the cube matches.
+/// The part of a cube in whose scenarios an execution of a process that starts at `start` ends after `time`. `None`
+/// only if it does in no scenario that the cube matches.
 pub(crate) fn late_part(
     problem: &Problem,
     cube: &Cube,
@@ -65,7 +65,8 @@ pub(crate) fn late_part(
 }
 
 /// The least scenario that a cube and a column match, and in which the execution that the column starts ends after
-/// `time`. `None` exactly if there is none. Any scenario of the graph may be passed as `room`, and is overwritten.
+/// `time`. `None` exactly if there is none. `process` is the column's. Any scenario of the graph may be passed as
+/// `room`, and is overwritten.
 pub(crate) fn least_late(
     problem: &Problem,
     cube: &Cube,

@@ -12,7 +12,7 @@ use cpg_cube::{Column, Cube};
 use cpg_violation::SievedRow;
 use std::alloc::Global;
 
-/// Adds the column at a place to those found, if there is one.
+/// Adds the column at `place` to `found`; nothing if there is none.
 fn push_column<'a>(
     columns: &'a [Column],
     place: u32,
@@ -28,8 +28,8 @@ fn push_column<'a>(
     Ok(())
 }
 
-/// Columns of a row, among which each is that matches some scenario together with a cube. So a test that asks both to
-/// match passes at one of them exactly where it does at one of the whole row (`same`).
+/// Those columns of a row that may match a scenario together with a cube: each that does is among them. So a test that
+/// asks both to match passes at one of them exactly where it does at one of the whole row (`same`).
 pub(crate) fn meeting<'a>(
     alloc: Global,
     row: &SievedRow<'a>,

@@ -48,8 +48,8 @@ pub(crate) trait ColumnPairs {
         ensures { IfOk result (IsFirst admitted.now.graph admitted.now.order (clash admitted.now.graph tables.now.nodes item column.now other)) };
 }
 
-/// The least scenario in which a column of an item clashes with some column of an item with a lower number. `None`
-/// exactly if there is none.
+/// The least scenario in which a column of an item clashes with some column of an item with a lower number, as `pairs`
+/// judges. `None` exactly if there is none.
 pub(crate) fn least_of_lower<P: ColumnPairs>(
     alloc: Global,
     admitted: &Admitted,

@@ -59,7 +59,7 @@ impl<'a> Question for Overlap<'a> {
     }
 }
 
-/// Judges V6.
+/// Judges V6, by the rows of all items.
 #[derive(Drop)]
 pub(crate) struct Processors<'a> {
     /// The rows of all items, by number.
@@ -67,15 +67,19 @@ pub(crate) struct Processors<'a> {
 }
 
 impl<'a> ColumnPairs for Processors<'a> {
+    // the rows are those of the graph's tables
     ghost fits = { λ pairs g tables. AreSievedRows tables (item_count g) pairs.rows.now };
 
+    // it is for processes
     ghost count = { process_count };
 
+    // two executions of one node overlap
     ghost clash = { overlaps_some };
 
-    /// The least scenario in which the execution that a column starts overlaps one of another process of its node.
-    /// `None` exactly if there is none. Only columns that may match together with this one are looked at, and none if
-    /// all are too early or too late. Only the contract names `tables`.
+    /// The least scenario in which the execution of process `item` that a column starts overlaps one of process
+    /// `other`, if that is on the same node. `None` exactly if there is none, or it is on another node. Only columns
+    /// that may match together with this one are looked at, and none if all are too early or too late. Only the
+    /// contract names `tables`.
     fn least_with(
         &self,
         alloc: Global,
@@ -114,6 +118,7 @@ impl<'a> ColumnPairs for Processors<'a> {
 impl<'a> TimeJudge for Processors<'a> {
     ghost rule = { Rule.Processor };
 
+    // the rows are those of the graph's tables
     ghost suits = { λ judge g tables. AreSievedRows tables (item_count g) judge.rows.now };
 
     /// The least scenario in which the execution that a column starts overlaps one of a lower process of its node.
@@ -134,5 +139,6 @@ impl<'a> TimeJudge for Processors<'a> {
         Ok(least)
     }
 
+    // V6 is neither V2 nor V3
     ghost alone = { refl };
 }

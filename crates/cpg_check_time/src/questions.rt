@@ -26,8 +26,8 @@ pub(crate) trait Question {
     // whether the column is as asked in the scenario
     ghost asks: { Self → Graph → Column → Scenario → Bool };
 
-    /// The least scenario in which a column is as asked. `None` exactly if there is none. Any scenario of the graph may
-    /// be passed as `room`, and is overwritten.
+    /// The least scenario in which column `beside` is as asked. `None` exactly if there is none. Any scenario of the
+    /// graph may be passed as `room`, and is overwritten.
     fn least(
         &self,
         problem: &Problem,
@@ -67,7 +67,7 @@ fn least_of<Q: Question>(
 }
 
 /// The least scenario in which some column of a row is as asked. `None` exactly if there is none. Only a column that
-/// matches together with a cube can be as asked (`near`), so only those that may are looked at.
+/// matches together with `cube` can be as asked (`near`), so only those that may match with it are looked at.
 pub(crate) fn least_near<Q: Question>(
     alloc: Global,
     admitted: &Admitted,

@@ -45,7 +45,7 @@ impl<'a> Question for Shared<'a> {
     }
 }
 
-/// Judges V7.
+/// Judges V7, by the rows of all items.
 #[derive(Drop)]
 pub(crate) struct Slots<'a> {
     /// The rows of all items, by number.
@@ -53,15 +53,19 @@ pub(crate) struct Slots<'a> {
 }
 
 impl<'a> ColumnPairs for Slots<'a> {
+    // the rows are those of the graph's tables
     ghost fits = { λ pairs g tables. AreSievedRows tables (item_count g) pairs.rows.now };
 
+    // it is for all items
     ghost count = { item_count };
 
+    // two items of one node are sent at one time
     ghost clash = { shares_some };
 
-    /// The least scenario in which a column matches together with one of another item that the same node sends at the
-    /// same time. `None` exactly if there is none. Only columns that may match together with this one are looked at,
-    /// and none if all are earlier or later. Only the contract names `tables`.
+    /// The least scenario in which a column of `item` matches together with one of `other` at the same time, if the
+    /// node of `item` sends `other`. `None` exactly if there is none, or the node doesn't send it. Only columns that
+    /// may match together with this one are looked at, and none if all are earlier or later. Only the contract names
+    /// `tables`.
     fn least_with(
         &self,
         alloc: Global,
@@ -99,6 +103,7 @@ impl<'a> ColumnPairs for Slots<'a> {
 impl<'a> TimeJudge for Slots<'a> {
     ghost rule = { Rule.Slot };
 
+    // the rows are those of the graph's tables
     ghost suits = { λ judge g tables. AreSievedRows tables (item_count g) judge.rows.now };
 
     /// The least scenario in which a column of an item breaks V7: it isn't at the start of a slot of the node, or
@@ -126,5 +131,6 @@ impl<'a> TimeJudge for Slots<'a> {
         Ok(least)
     }
 
+    // V7 is neither V2 nor V3
     ghost alone = { refl };
 }

@@ -29,14 +29,14 @@ module _ (p : Playing) (is : IsPlaying p) (a : ℕ) (l : a < length p.graph.node
 
 -- The same for `now`, the play as code sees it, which is p.
 
--- a node with the least next instant takes its turn
+-- a node `a` with the least next instant in the play `now` takes its turn
 pub takes_at : (p now : Playing) → p ≡ now → IsPlaying p → (a : ℕ) → a < length now.graph.nodes →
     HasLeastInstant now a →
     answer now.graph now.cluster a ≡ Took
 takes_at p now view is = subst (λ (now : Playing). (a : ℕ) → a < length now.graph.nodes → HasLeastInstant now a →
     answer now.graph now.cluster a ≡ Took) view (least_takes p is)
 
--- a node that is done has done all that is due on it
+-- a node `a` that is done in the play `now` has done all that is due on it
 pub all_at : (p now : Playing) → p ≡ now → IsPlaying p → (a : ℕ) → a < length now.graph.nodes →
     answer now.graph now.cluster a ≡ Done →
     HasDoneAll now a

@@ -20,7 +20,8 @@ any_of_map : {X : Type 0} (p : ℕ → Bool) (f : X → ℕ) (xs : List X) → l
 any_of_map p f [] = refl
 any_of_map p f (x ∷ xs) = ap (λ b. p (f x) || b) (any_of_map p f xs)
 
--- a test of a list that stands only if b holds
+-- some number of a list that is `xs` if `b` holds, and empty otherwise, passes `p` exactly if `b` holds and one of `xs`
+-- does
 any_if : (p : ℕ → Bool) (b : Bool) (xs : List ℕ) → list_any p (cond b xs []) ≡ b && list_any p xs
 any_if p true xs = refl
 any_if p false xs = refl
@@ -38,7 +39,8 @@ any_times time comes slot other (r ∷ rs) (s ∷ ss) =
     ∙ ap (λ b. (s == other) && b) (any_of_map (waits_until time comes slot) (λ (c : Column). c.time) r.columns))
     (any_times time comes slot other rs ss)
 
--- the same for these times in another order
+-- One of `times`, which are the arrival times of the sender `other` in any order, is waited for exactly if a row of this
+-- sender has such a column.
 pub any_index : (time : ℕ) (comes : Option ℕ) (slot other : ℕ) (rows : List Row) (senders times : List ℕ) →
     IsIndex rows senders other times →
     list_any (waits_until time comes slot) times
@@ -47,7 +49,7 @@ any_index time comes slot other rows senders times i =
     sym (list_any-IsPermutation (waits_until time comes slot) (arrival_times other rows senders) times i.same) ∙
     any_times time comes slot other rows senders
 
--- if a frame that arrives at b may not be sent any more, neither may one that arrives before
+-- if a frame that arrives at `b` may not be sent any more, neither may one that arrives at `a`, which isn't later
 sent_before : (comes : Option ℕ) (slot a b : ℕ) → a ≤ b →
     list_any (λ u. nat_le (u + slot) b) (option_to_list comes) ≡ false →
     list_any (λ u. nat_le (u + slot) a) (option_to_list comes) ≡ false
@@ -73,7 +75,7 @@ none_sent time comes slot times h =
           ∙ and_right (nat_le (get_or times i d) time) false refl
     ]))
 
--- if all frames arrive later, none is waited for
+-- if all arrivals `times` are later than `time`, none of their frames is waited for
 pub none_until : (time : ℕ) (comes : Option ℕ) (slot : ℕ) (times : List ℕ)
     (past : (i d : ℕ) → i < length times → time < get_or times i d) →
     false ≡ list_any (waits_until time comes slot) times
@@ -116,7 +118,8 @@ last_until time comes slot times place x rises l before past is =
           ∙ and_right (nat_le (get_or times i d) time) false refl
     ]))
 
--- with the times of one more sender at its place, the times of all senders up to it are indexed
+-- if the times of the first `n` senders are indexed, and `v` has those of sender `n`, the times of the first `n + 1`
+-- are indexed with `v` at the end
 pub index_more : (rows : List Row) (senders : List ℕ) (n : ℕ) (index : List (Vec ℕ)) (v : Vec ℕ) →
     AreIndexed rows senders n index →
     IsIndex rows senders n v.items →
@@ -131,7 +134,8 @@ index_more rows senders n index v a o = record {
   ];
 }
 
--- the times at the place of a sender are those of this sender, in order
+-- the times `seen` that stand at place `b` of an index of `n` senders are the arrival times in the rows of sender `b`,
+-- in order
 pub index_at : (rows : List Row) (senders : List ℕ) (n : ℕ) (index : List (Vec ℕ)) (b : ℕ) (v : Vec ℕ) (seen : List ℕ) →
     AreIndexed rows senders n index → b < n →
     v ≡ get_or index b v →

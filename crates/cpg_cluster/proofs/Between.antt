@@ -35,7 +35,7 @@ pub flat_id : {X Y : Type 0} (f : X → List Y) (xs : List X) → flat_map (λ l
 flat_id f [] = refl
 flat_id f (x ∷ xs) = ap (λ l. f x ++ l) (flat_id f xs)
 
--- the dispatcher of a node is that of its member
+-- the dispatcher of node `b` is that of member `b`; the default `d` isn't read
 pub dispatcher_is : (ms : List Member) (b : ℕ) (d : Member) → b < length ms →
     dispatcher_at (cluster_of ms) b ≡ (get_or ms b d).node.dispatcher
 dispatcher_is ms b d l = get_or-map (λ (m : Member). m.node.dispatcher) ms b d _ l
@@ -53,8 +53,8 @@ module _ (g : Graph) (ms : List Member) (fits : AllFit g ms) (a : ℕ) (m : Memb
   table_is : (dispatcher_at (cluster_of ms) a).table ≡ m.node.dispatcher.table
   table_is = ap (λ (d : Dispatcher). d.table) (dispatcher_is ms a m l ∙ ap (λ (m : Member). m.node.dispatcher) (here m))
 
-  -- By the members, node a waits on b exactly if it does by the state: member b has the next instant and the slot
-  -- length of its node, and member a the hear rows of its node with their senders.
+  -- By the members, node `a` waits on node `b` exactly if it does by the state: member `b` has the next instant and the
+  -- slot length of its node, and member `a` the hear rows of its node with their senders.
   waits_is : (time b : ℕ) (d : Member) → b < length ms →
       waits_between time m b (get_or ms b d) ≡ waits_on g (cluster_of ms) a time b
   waits_is time b d k =
@@ -91,6 +91,7 @@ module _ (g : Graph) (ms : List Member) (fits : AllFit g ms) (a : ℕ) (m : Memb
       ∙ ap (λ n. filter (waits_on g (cluster_of ms) a time) (numbers_below n))
       (sym (length-map ms (λ (m : Member). m.node.dispatcher))))
 
+  -- given what happens, and the time of a turn
   module _ (w : World) (time : ℕ) where
     -- a frame carries the value of its item
     frame_is : (i : Item) (act : Act) →

@@ -113,7 +113,7 @@ most_remaining g c within few own columns = omega (
       )),
 )
 
--- in a choice no more nodes wait than may be asked; by induction on the nodes
+-- in a choice among nodes `xs` no more than these wait; by induction on the nodes
 pub few_waits : (g : Graph) (w : World) (c : Cluster) (xs : List ℕ) → (choose g w c xs).waits ≤ length xs
 few_waits g w c [] = omega arith
 few_waits g w c (x ∷ xs) = go (answer g c x) (few_waits g w c xs)
@@ -125,7 +125,7 @@ few_waits g w c (x ∷ xs) = go (answer g c x) (few_waits g w c xs)
     go (Waits b) l = omega arith
     go Done l = omega arith
 
--- a choice round the circle makes no more nodes wait than there are nodes
+-- in a choice round the circle of `nodes` nodes, from node `first` on, no more than these wait
 pub few_of_circle : (g : Graph) (w : World) (c : Cluster) (nodes first : ℕ) →
     (choose g w c (circle nodes first)).waits ≤ nodes
 few_of_circle g w c nodes first = omega (

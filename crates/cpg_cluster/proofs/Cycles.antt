@@ -52,8 +52,8 @@ pub least_cycles : LeastCyclesAreLeast
 least_cycles g tables =
     let step : ℕ = cycle_step g in
     let bound : ℕ = max (max g.deadline (last_arrival tables)) 1 in
-    let there : 0 < step = omega arith in
-    let over : bound ≤ div_ceil bound step * step = (div_ceil_times bound step there).0 in
+    let some_step : 0 < step = omega arith in
+    let over : bound ≤ div_ceil bound step * step = (div_ceil_times bound step some_step).0 in
     -- it is a whole number of steps and holds all that it must
     record {
       is = record {
@@ -67,7 +67,7 @@ least_cycles g tables =
       least = λ other c.
           let within : bound ≤ c.rounds * step = omega (arith, c.some, c.whole, c.deadline, c.arrivals) in
           let fewer : div_ceil bound step * step ≤ c.rounds * step =
-          mul-le-mul_right step (below_turns bound step c.rounds there within) in
+          mul-le-mul_right step (below_turns bound step c.rounds some_step within) in
           omega (arith, fewer, c.whole);
     }
 
@@ -75,23 +75,24 @@ least_cycles g tables =
 
 -- some node hears the item
 record Hearer (g : Graph) (x : ℕ) : Type 0 where
+  -- a node of the graph, which hears the item
   node : ℕ
   within : node < length g.nodes
   hears : is_heard_by g node (item_at g x) ≡ true
 
--- Each item that is sent is heard by some node: a message by the node of its target, a broadcast by each node but its
--- own, and there are two nodes at least.
+-- Each item `x` that is sent is heard by some node: a message by the node of its target, a broadcast by each node but
+-- its own, and there are two nodes at least.
 hearer : (g : Graph) → WellFormed g → (x : ℕ) → x < item_count g → is_sent g x ≡ true → Hearer g x
 hearer g f x l sent = elim (item_cases g x l) [
   | inl q ↦ absurd (not_both g x q.0 sent)
-  -- a message
+  -- a message is heard by the node of its target
   | inr (inl q) ↦ record {
     node = node_of g (target g q.0);
     within = f.nodes (target g q.0) (f.targets q.0 q.1);
     hears = ap (is_heard_by g (node_of g (target g q.0))) q.3
         ∙ and_from _ _ (sym (ap (is_sent_item g) q.3) ∙ sent) (eq-eqb _ _ refl);
   }
-  -- a broadcast: there is a second node
+  -- a broadcast is heard by another node than its own, as there is a second one
   | inr (inr q) ↦
       let two : nat_lt 1 (length g.nodes) ≡ true = sym (ap (is_sent_item g) q.3) ∙ sent in
       let many : 1 < length g.nodes = ltb-true 1 (length g.nodes) two in
@@ -120,8 +121,8 @@ lesser deadline (Some own) = omega arith
 -- given a play of valid tables and the time of a cycle
 module _ {g : Graph} {tables : List NodeTable} {w : World} (k : Played g tables w) (time : ℕ)
     (cycle : IsCycle g tables time) where
-  -- a column of an item that is sent arrives by the cycle time: some node hears it, so its arrival isn't after the last
-  -- one
+  -- the frame of column `c` of item `x`, which is sent, arrives by the cycle time: some node hears it, so its arrival
+  -- isn't after the last one
   arrives : (x : ℕ) (c : Column) → x < item_count g → is_sent g x ≡ true → Contains (columns_of tables x) c →
       c.time + slot_length g (home g x) ≤ time
   arrives x c l sent m =
@@ -137,7 +138,8 @@ module _ {g : Graph} {tables : List NodeTable} {w : World} (k : Played g tables 
       (Contains-get_or tables h.node empty_table (omega (arith, k.setting.shape.count, h.within))) here in
       omega (arith, greatest_above _ (c.time + slot_length g (home g x)) all, cycle.arrivals)
 
-  -- the planned end of an execution is within the cycle, as it is by the due, and this by the deadline
+  -- the planned end of the execution of process `p` that column `c` starts is within the cycle, as it is by the due,
+  -- and this by the deadline
   planned_end : (p : ℕ) (c : Column) → Match tables w.scenario p c → p < process_count g →
       c.time + duration g p (fault_of w.scenario p) ≤ time
   planned_end p c m l =
@@ -187,7 +189,7 @@ cycles_hold_all g tables time f h v cycle w turns is = over (played_of g tables 
 
 -- Slots.
 
--- the lengths of a slot and of the slots before it are together at most the round
+-- the length of slot `n` and those of the slots before it are together at most the length of all slots, the round
 front_sum : (slots : List Slot) (n : ℕ) (d : Slot) → n < length slots →
     sum_by (λ (s : Slot). s.length) (take n slots) + (get_or slots n d).length ≤ sum_by (λ (s : Slot). s.length) slots
 front_sum [] n d l = absurd (omega arith)
@@ -199,7 +201,7 @@ front_sum (s ∷ slots) (suc n) d l = omega (
   front_sum slots n d (omega arith),
 )
 
--- a multiple of r with an offset below r, which is at least another multiple of r, is at least as many times r
+-- if `b * r + off`, where `off` is below `r`, is `t` more than `a * r`, then `a` is at most `b`
 fewer_rounds : (a b r off t : ℕ) → off < r → a * r + t ≡ b * r + off → a ≤ b
 fewer_rounds a b r off t l e = elim (cases_lt b a) [
   | inr le ↦ le
@@ -215,9 +217,9 @@ same_slots g tables time cycle node f c has = record {
       let fewer : all ≤ at.0 =
       fewer_rounds all at.0 (round g) (offset g node) t inside (sym (ap (λ n. n + t) begin) ∙ at.1) in (
         at.0 - all,
-        let both : all + (at.0 - all) ≡ at.0 = omega (arith, fewer) in
+        let counted : all + (at.0 - all) ≡ at.0 = omega (arith, fewer) in
             let whole : at.0 * round g ≡ all * round g + (at.0 - all) * round g =
-            ap (λ n. n * round g) (sym both) ∙ parts all (at.0 - all) (round g) in
+            ap (λ n. n * round g) (sym counted) ∙ parts all (at.0 - all) (round g) in
             omega (arith, at.1, begin, whole),
       );
 }
@@ -226,7 +228,7 @@ same_slots g tables time cycle node f c has = record {
     all : ℕ
     all = cycle * c.rounds
 
-    -- the rounds of two parts add up
+    -- `a` rounds of length `r` and `b` more are `a + b` rounds
     parts : (a b r : ℕ) → (a + b) * r ≡ a * r + b * r
     parts a b r = omega arith
 

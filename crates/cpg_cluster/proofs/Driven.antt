@@ -14,7 +14,8 @@ use Rattle.cpg_cluster.specs.Playing.{Playing, stepped}
 use Rattle.cpg_cluster.specs.Driving.{circle, Choice, chosen, choose}
 use Rattle.cpg_node.specs.Instants.{instants_left}
 
--- if a turn leaves a node fewer instants, it leaves fewer to all together
+-- if node `a` gets a dispatcher `d` with fewer instants left than its own, all nodes together have fewer left; `e` is
+-- only the default of the look-up
 pub nearer_set : (nodes : List Dispatcher) (a : ℕ) (d e : Dispatcher) → a < length nodes →
     instants_left d < instants_left (get_or nodes a e) →
     sum_by instants_left (set nodes a d) < sum_by instants_left nodes
@@ -33,13 +34,17 @@ circle_at nodes first i l =
 -- of it leads to the same state, with those waits to the same number of waits, and takes a turn exactly if the whole
 -- does.
 pub record IsChoosing (g : Graph) (w : World) (c : Cluster) (nodes first asked waits : ℕ) : Type 0 where
+  -- what is left leads to the same state
   pub cluster : (choose g w c (drop asked (circle nodes first))).cluster ≡ (choose g w c (circle nodes first)).cluster
+  -- the waits so far and those of what is left are those of the whole choice
   pub waits' : waits + (choose g w c (drop asked (circle nodes first))).waits
       ≡ (choose g w c (circle nodes first)).waits
+  -- what is left takes a turn exactly if the whole choice does
   pub took : (choose g w c (drop asked (circle nodes first))).took ≡ (choose g w c (circle nodes first)).took
+  -- no more nodes answered by waiting than were asked
   pub few : waits ≤ asked
 
--- before the first ask, all of the choice is left
+-- before the first ask, with nobody asked and nobody waiting, all of the choice from node `first` on is left
 pub choosing_none : (g : Graph) (w : World) (c : Cluster) (nodes first : ℕ) → IsChoosing g w c nodes first 0 0
 choosing_none g w c nodes first = record { cluster = refl; waits' = omega arith; took = refl; few = omega arith }
 
@@ -81,14 +86,15 @@ module _ (g : Graph) (w : World) (c : Cluster) (nodes first asked waits : ℕ)
     let z = ap (λ (r : Choice). r.waits) one in omega (arith, z, h.waits'),
   )
 
--- nothing is left of a list after as many elements as it has
+-- nothing is left of `xs` after `n` elements, if it has no more
 drop_all : {X : Type 0} (n : ℕ) (xs : List X) → length xs ≤ n → drop n xs ≡ []
 drop_all zero [] l = refl
 drop_all (suc n) [] l = refl
 drop_all zero (x ∷ xs) l = absurd (omega arith)
 drop_all (suc n) (x ∷ xs) l = drop_all n xs (omega arith)
 
--- a choice in which every node was asked without a turn leaves the state as it was, has these waits, and takes no turn
+-- if `asked` nodes, which are all, were asked without a turn and `waits` of them waited, the choice leaves state `c` as
+-- it was, has these waits and takes no turn
 pub chosen_none : (g : Graph) (w : World) (c : Cluster) (nodes first asked waits : ℕ) →
     IsChoosing g w c nodes first asked waits → nodes ≤ asked →
     ((choose g w c (circle nodes first)).cluster ≡ c) × ((choose g w c (circle nodes first)).waits ≡ waits) ×
@@ -103,11 +109,11 @@ chosen_none g w c nodes first asked waits h l =
 
 -- The steps of a choice, as code takes them.
 
--- a node that waits, or is done, leaves the state as it was
+-- if node `a` answers that it waits on `b`, asking it leaves state `c` as it was
 still_waits : (g : Graph) (w : World) (c : Cluster) (a b : ℕ) → Waits b ≡ answer g c a → step g w c a ≡ c
 still_waits g w c a b e = λ i. step_by g w c a (sym e i) (next (dispatcher_at c a))
 
--- to ask a node that is done changes nothing
+-- if node `a` answers that it is done, asking it leaves state `c` as it was
 still_done : (g : Graph) (w : World) (c : Cluster) (a : ℕ) → Done ≡ answer g c a → step g w c a ≡ c
 still_done g w c a e = λ i. step_by g w c a (sym e i) (next (dispatcher_at c a))
 

@@ -30,8 +30,8 @@ use Rattle.cpg_cluster.proofs.Passed.{played_reached}
 use Rattle.cpg_cluster.proofs.Plays.{played_of, never_done}
 use Rattle.cpg_cluster.proofs.Stepping.{tables_of, play_of}
 
--- Of n nodes with next instants f, one has the least, or none has any. By induction on n: node n is compared with the
--- least of those before it.
+-- Of the nodes below `n`, whose next instants are given by `f`, one has the least, or none has any. By induction on
+-- `n`: node `n` is compared with the least of those before it.
 least_node : (f : ℕ → Option ℕ) (n : ℕ) →
     ((a : ℕ) × (a < n) × (time : ℕ) × (f a ≡ Some time) ×
     ((other moment : ℕ) → other < n → f other ≡ Some moment → time ≤ moment)) ⊎
@@ -39,7 +39,7 @@ least_node : (f : ℕ → Option ℕ) (n : ℕ) →
 least_node f zero = inr (λ a l. absurd (omega arith))
 least_node f (suc n) = go (f n) refl (least_node f n)
   where
-    -- no node has a next instant, if node n has none and none before it has one
+    -- no node up to `n` has a next instant, if node `n` has none and none before it has one
     all : f n ≡ None → ((a : ℕ) → a < n → f a ≡ None) → (a : ℕ) → a < suc n → f a ≡ None
     all e none a l = elim (cases_eq a n) [ inl s ↦ ap f s ∙ e | inr ne ↦ none a (omega arith) ]
 
@@ -97,7 +97,7 @@ least_node f (suc n) = go (f n) refl (least_node f n)
       )
     ]
 
--- if a choice takes no turn, none of its nodes would take one; by induction on the nodes
+-- if a choice among nodes `xs` takes no turn, none of them would take one in state `c`; by induction on the nodes
 not_took : (g : Graph) (w : World) (c : Cluster) (xs : List ℕ) → (choose g w c xs).took ≡ false → (a : ℕ) →
     Contains xs a → answer g c a ≡ Took → ⊥
 not_took g w c [] f a h e = Contains-nil a h
@@ -114,7 +114,7 @@ not_took g w c (x ∷ xs) f a h e = go (answer g c x) refl f (λ k m. not_took g
     go (Waits b) i k ih = rest (λ t. let z : Waits b ≡ Took = sym i ∙ t in cc) (ih k)
     go Done i k ih = rest (λ t. let z : Done ≡ Took = sym i ∙ t in cc) (ih k)
 
--- each node is on the circle
+-- each node `a` is on the circle of `n` nodes, whatever node `first` it begins with
 circle_all : (n first a : ℕ) → first < n → a < n → Contains (circle n first) a
 circle_all n first a f l = elim (cases_lt a first) [
   | inr past ↦ at (a - first) (omega arith) (ap (λ m. m % n) (let z : first + (a - first) ≡ a = omega arith in z)
@@ -129,7 +129,7 @@ circle_all n first a f l = elim (cases_lt a first) [
     at i k e = subst (Contains (circle n first)) e
         (Contains-map (λ i. (first + i) % n) (numbers_below n) i (Contains-numbers n i k))
 
--- if some member has a next instant, there is a node with one; by induction on the members
+-- if some member has a next instant, there is a node `b` with one; by induction on the members
 left_node : (ms : List Member) → list_any (λ (m : Member). is_some (next m.node.dispatcher)) ms ≡ true →
     (b : ℕ) × (b < length ms) × (time : ℕ) × (next (dispatcher_at (cluster_of ms) b) ≡ Some time)
 left_node [] e = absurd (true≢false (sym e))
@@ -197,13 +197,13 @@ abbrev pub number_after : ℕ → ℕ → ℕ
 number_after zero x = x
 number_after (suc n) x = number_after n (next_number x)
 
--- the number after one more choice is drawn from the number before it
+-- the number after `n + 1` choices is drawn from the one after `n`
 number_more : (n x : ℕ) → number_after (suc n) x ≡ next_number (number_after n x)
 number_more zero x = refl
 number_more (suc n) x = number_more n (next_number x)
 
--- a drive of one choice more goes on from the state of the drive before, and adds the waits of that choice; by
--- induction on the choices
+-- if `n` choices by the numbers after `x` lead from `c` to `now` with `total` waits, the next choice goes on from `now`
+-- and adds its waits; by induction on the choices
 driven_more : (g : Graph) (w : World) (n x : ℕ) (c now : Cluster) (total : ℕ) → driven g w n x c ≡ (now, total) →
     driven g w (suc n) x c ≡ (
       (choice g w now (next_number (number_after n x))).cluster,
@@ -239,16 +239,20 @@ driven_more g w (suc n) x c now total e =
 -- A drive on the way, after some choices: `number` is the one that was drawn for the last choice, and not all nodes
 -- were done before it.
 pub record IsDriving (g : Graph) (w : World) (x : ℕ) (before now : Cluster) (number waits : ℕ) : Type 0 where
+  -- how many choices were made; they led from `before` to `now`, with `waits`
   pub turns : ℕ
   pub is : driven g w turns x before ≡ (now, waits)
+  -- the number that was drawn for the last of these choices
   pub number' : number ≡ number_after turns x
+  -- after fewer choices not all nodes were done
   pub needed : (fewer : ℕ) → fewer < turns → AllDone g (driven g w fewer x before).0 → ⊥
 
--- before its first choice a drive has changed nothing
+-- before its first choice, a drive by the numbers after `x` is still in state `c`, without waits
 pub driving_none : (g : Graph) (w : World) (x : ℕ) (c : Cluster) → IsDriving g w x c c x 0
 driving_none g w x c = record { turns = 0; is = refl; number' = refl; needed = λ fewer l. absurd (omega arith) }
 
--- a drive goes on with one more choice if not all nodes are done
+-- if not all nodes are done in state `now`, a drive goes on with one more choice, by the next number: to state `new`,
+-- with `more` waits
 pub driving_more : (g : Graph) (w : World) (x : ℕ) (c now new : Cluster) (number waits more next' : ℕ) →
     IsDriving g w x c now number waits → (AllDone g now → ⊥) →
     next' ≡ next_number number →
@@ -269,7 +273,7 @@ driving_more g w x c now new number waits more next' h left n e m =
       ];
     }
 
--- a drive is over if all nodes are done
+-- if all nodes are done in state `now`, the drive that has come there is over
 pub driving_done : (g : Graph) (w : World) (x : ℕ) (c now : Cluster) (number waits : ℕ) →
     IsDriving g w x c now number waits → AllDone g now →
     IsDriven g w x c now waits
@@ -277,7 +281,7 @@ driving_done g w x c now number waits h d = record { turns = h.turns; is = h.is;
 
 -- The same for `now`, the play as code sees it, which is that of the members.
 
--- if some member has a next instant, a node takes its turn in each choice
+-- if some member has a next instant, a node takes its turn in each choice, whatever node `first` it begins with
 pub takes_at : (g : Graph) (w : World) (ms : List Member) (now : Playing) → play_of g w ms ≡ now →
     IsPlaying (play_of g w ms) →
     list_any (λ (m : Member). is_some (next m.node.dispatcher)) ms ≡ true →
@@ -288,14 +292,14 @@ takes_at g w ms now view p e = subst (λ (now : Playing). (first : ℕ) → firs
     (choose now.graph now.world now.cluster (circle (length now.graph.nodes) first)).took ≡ true)
     view (someone_takes g w ms p e)
 
--- if some member has a next instant, not all nodes are done
+-- if some member has a next instant, not all nodes of the play `now` are done
 pub left_at : (g : Graph) (w : World) (ms : List Member) (now : Playing) → play_of g w ms ≡ now →
     IsPlaying (play_of g w ms) →
     list_any (λ (m : Member). is_some (next m.node.dispatcher)) ms ≡ true →
     AllDone now.graph now.cluster → ⊥
 left_at g w ms now view p e = subst (λ (now : Playing). AllDone now.graph now.cluster → ⊥) view (not_done g w ms p e)
 
--- if no member has a next instant, all nodes are done
+-- if no member has a next instant, all nodes of the play `now` are done
 pub done_at : (g : Graph) (w : World) (ms : List Member) (now : Playing) → play_of g w ms ≡ now →
     IsPlaying (play_of g w ms) →
     list_any (λ (m : Member). is_some (next m.node.dispatcher)) ms ≡ false →
@@ -308,7 +312,7 @@ tables_twice : (ms : List Member) →
 tables_twice [] = refl
 tables_twice (m ∷ ms) = ap (λ (ts : List NodeTable). m.node.dispatcher.table ∷ ts) (tables_twice ms)
 
--- the nodes of a play have at most 5,261,328 instants left together
+-- the nodes of the play `now`, at most 16, have at most 5,261,328 instants left together
 pub most_at : (g : Graph) (w : World) (ms : List Member) (now : Playing) → play_of g w ms ≡ now →
     IsPlaying (play_of g w ms) → length ms ≤ 16 →
     remaining now.cluster ≤ 5261328

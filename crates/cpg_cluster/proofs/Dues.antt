@@ -19,7 +19,7 @@ use Rattle.cpg_base.proofs.Sorted.{inserted, sorted, permutation_sorted}
 use Rattle.cpg_base.specs.Scenario.{Scenario}
 use Rattle.cpg_node.specs.Dispatcher.{Act, Ended}
 use Rattle.cpg_cluster.specs.Cluster.{Cluster, Done, answer}
-use Rattle.cpg_cluster.specs.Correct.{IsCorrect, IsDue, FollowsDue, AreDueEnds, IsOrderly, IsStartAct, IsSendAct}
+use Rattle.cpg_cluster.specs.Correct.{IsCorrect, IsDue, FollowsDue, ArePlannedEnds, IsOrderly, IsStartAct, IsSendAct}
 use Rattle.cpg_cluster.specs.Correct.{all_asked, asked_of, due_key, end_key, ends_asked, gives_end, gives_input}
 use Rattle.cpg_cluster.specs.Driving.{AllDone}
 use Rattle.cpg_cluster.specs.Laws.{PlaysThatEndAreAlike}
@@ -86,7 +86,7 @@ pieces_permuted f h (x ∷ xs) each =
     (IsPermutation-append (f x) (h x) (flat_map f xs) (flat_map h xs) (each x (Contains-first x xs))
     (pieces_permuted f h xs (λ y m. each y (Contains-rest x xs y m)))))
 
--- as many elements of a list pass a test in another order
+-- of a list `xs` and the same list in another order, `ys`, as many elements pass test `p`
 length_filter_permuted : {X : Type 0} (p : X → Bool) (xs ys : List X) → IsPermutation xs ys →
     length (filter p ys) ≡ length (filter p xs)
 length_filter_permuted p xs ys same =
@@ -98,11 +98,11 @@ module _ (g : Graph) (s : Scenario) (xs ys : List Act) (same : IsPermutation xs 
   back : (a : Act) → Contains ys a → Contains xs a
   back a m = Contains-permutation ys xs a (IsPermutation-sym xs ys same) m
 
-  -- so is a start
+  -- a start of the second order is one of the first
   starts_back : (a : Act) → IsStartAct g ys a → IsStartAct g xs a
   starts_back a m = (back a m.0, m.1)
 
-  -- so is a send
+  -- a send of the second order is one of the first
   sends_back : (a : Act) → IsSendAct g ys a → IsSendAct g xs a
   sends_back a m = (back a m.0, m.1)
 
@@ -142,7 +142,7 @@ module _ (p : Playing) (playing : IsPlaying p) (done : AllDone p.graph p.cluster
   ends_due node = sorted (precedes end_key) (ends_asked p.graph p.tables p.world.scenario node)
 
   -- these are all of them, in their order
-  planned : (node : ℕ) → AreDueEnds p.graph p.tables p.world.scenario node (ends_due node)
+  planned : (node : ℕ) → ArePlannedEnds p.graph p.tables p.world.scenario node (ends_due node)
   planned node = record {
     all = permutation_sorted (precedes end_key) (ends_asked p.graph p.tables p.world.scenario node);
     in_order =
@@ -177,9 +177,9 @@ module _ (p : Playing) (playing : IsPlaying p) (done : AllDone p.graph p.cluster
 
   -- the ends of each node are the planned ones
   ends_done : (node : ℕ) → node < length p.graph.nodes →
-      AreDueEnds p.graph p.tables p.world.scenario node (get_or p.cluster.ends node [])
+      ArePlannedEnds p.graph p.tables p.world.scenario node (get_or p.cluster.ends node [])
   ends_done node l =
-      subst (AreDueEnds p.graph p.tables p.world.scenario node) (sym (ends_are_due node l)) (planned node)
+      subst (ArePlannedEnds p.graph p.tables p.world.scenario node) (sym (ends_are_due node l)) (planned node)
 
   -- The play is whole. What was done on all nodes is what is due on them in another order, so it is orderly.
   pub done_whole : IsWholePlay p.graph p.tables p.world p.cluster

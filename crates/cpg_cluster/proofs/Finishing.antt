@@ -75,9 +75,9 @@ module _ {g : Graph} {tables : List NodeTable} {w : World} (k : Played g tables 
   abbrev state : (Own → Option Running) → Dispatcher
   state h = record { table = table; heard = heard; running = map h (own_of_node g node); last = last }
 
-  -- The report of an execution that is over by the time may be taken: the process runs without a report, the faults are
-  -- few, the execution has taken some time and no longer than planned, and the report comes after the last turn and not
-  -- after the next.
+  -- The report of `run`, what process `p` runs by `h`, may be taken if it is over by the time: it has no report yet,
+  -- the faults are few, the execution has taken some time and no longer than planned, and the report comes after the
+  -- last turn and not after the next.
   may : (h : Own → Option Running) → next (state h) ≡ Some time → (p : ℕ) → Contains (processes_on g node) p →
       (run : Running) →
       h (own_process g p) ≡ Some run →
@@ -111,19 +111,19 @@ module _ {g : Graph} {tables : List NodeTable} {w : World} (k : Played g tables 
   after : (Own → Option Running) → ℕ → Own → Option Running
   after h p o = with_report (ended_of g w (own_process g p)) o (h o)
 
-  -- a report leaves the state with what runs after it
+  -- a report of process `p` leaves the state with what runs after it, `after h p`
   state_after : (h : Own → Option Running) (p : ℕ) →
       finished (state h) (ended_of g w (own_process g p)) ≡ state (after h p)
   unfolding after
   state_after h p = ap (λ rs. record { table = table; heard = heard; running = rs; last = last })
       (zip_with-map (with_report (ended_of g w (own_process g p))) h (own_of_node g node))
 
-  -- a report changes nothing of the next instant
+  -- a report of process `p` changes nothing of the next instant
   next_after : (h : Own → Option Running) (p : ℕ) → next (state h) ≡ Some time → next (state (after h p)) ≡ Some time
   next_after h p n = ap next (sym (state_after h p))
       ∙ next_reported (ended_of g w (own_process g p)) table heard (map h (own_of_node g node)) last ∙ n
 
-  -- a report of p changes nothing of another process
+  -- after a report of process `p`, another process `q` runs what it ran before, as `h` says
   kept : (h : Own → Option Running) (p q : ℕ) → q ≢ p → after h p (own_process g q) ≡ h (own_process g q)
   unfolding after
   kept h p q ne = other (h (own_process g q))
@@ -139,7 +139,8 @@ module _ {g : Graph} {tables : List NodeTable} {w : World} (k : Played g tables 
   no_report None t = refl
   no_report (Some r) t = absurd (true≢false (sym t))
 
-  -- If the reports of the later processes may be taken, so may that of p, if it has one, and then theirs.
+  -- If the reports of the later processes, `rest`, may be taken, so may that of process `p`, if it has one, and then
+  -- theirs.
   one_more : (h : Own → Option Running) → next (state h) ≡ Some time → (p : ℕ) → Contains (processes_on g node) p →
       h (own_process g p) ≡ planned g tables w last (own_process g p) →
       (rest : List (ℕ × Ended)) →
@@ -164,8 +165,8 @@ module _ {g : Graph} {tables : List NodeTable} {w : World} (k : Played g tables 
                 subst (λ d. AllFinish d rest) (sym (state_after h p)) then,
               )
 
-  -- The reports of rising processes, each of which runs as planned, may be taken one after another. By induction on the
-  -- processes: a report of the first changes nothing of the others.
+  -- If each of the rising processes `ps` runs as planned in the state that `h` says, their reports may be taken one
+  -- after another. By induction on the processes: a report of the first changes nothing of the others.
   all_from : (h : Own → Option Running) → next (state h) ≡ Some time → (ps : List ℕ) → Rises (λ x y. x < y) ps →
       ((p : ℕ) → Contains ps p → Contains (processes_on g node) p) →
       ((p : ℕ) → Contains ps p → h (own_process g p) ≡ planned g tables w last (own_process g p)) →

@@ -1,15 +1,15 @@
--- What two lists give at each place, gathered from one place after another.
+-- What two lists give together at each place, gathered from one place after another, as loops of the code do it.
 use Rattle.std.proofs.Common.{ℕ, ◌+◌, ◌<◌, ◌≤◌, ◌≡◌, ◌∙◌, List, ◌++◌, ap, ap₂, append_assoc, arith, drop, get_or}
 use Rattle.std.proofs.Common.{length, length-append, map, sym}
 use Rattle.std.specs.List.{flat_map}
 use Rattle.std.proofs.lemmas.List.{drop_more, length-map, map-append}
 use Rattle.cpg_node.specs.Dispatcher.{zip_with}
 
--- what two lists give at each place
+-- what `f` gives of the elements of two lists at each place, all in one list
 abbrev gathered : {A B C : Type 0} → (A → B → List C) → List A → List B → List C
 gathered f xs bs = flat_map (λ cs. cs) (zip_with f xs bs)
 
--- what is left from place n on begins with what the elements there give
+-- what is left to gather from place `n` on begins with what the elements there give, `given`
 next : {A B C : Type 0} (f : A → B → List C) (xs : List A) (bs : List B) (n : ℕ) (x : A) (b : B) (given : List C) →
     n < length xs → n < length bs → given ≡ f (get_or xs n x) (get_or bs n b) →
     gathered f (drop n xs) (drop n bs) ≡ given ++ gathered f (drop (n + 1) xs) (drop (n + 1) bs)
@@ -17,7 +17,7 @@ next f xs bs n x b given h k is =
     ap₂ (gathered f) (drop_more xs n x h) (drop_more bs n b k)
     ∙ ap (λ cs. cs ++ gathered f (drop (n + 1) xs) (drop (n + 1) bs)) (sym is)
 
--- if it is added to what was gathered, the whole is the same as before
+-- if what place `n` gives is added to what was gathered, `old`, that and what is left are the same `whole` as before
 pub gathered_on : {A B C : Type 0} (f : A → B → List C) (xs : List A) (bs : List B) (n : ℕ) (x : A) (b : B)
     (given old new whole : List C) → n < length xs → n < length bs → given ≡ f (get_or xs n x) (get_or bs n b) →
     new ≡ old ++ given → old ++ gathered f (drop n xs) (drop n bs) ≡ whole →
@@ -27,7 +27,7 @@ gathered_on f xs bs n x b given old new whole h k is more before =
     ap (λ cs. cs ++ rest) more ∙ append_assoc old given rest
     ∙ sym (ap (λ cs. old ++ cs) (next f xs bs n x b given h k is)) ∙ before
 
--- it has room wherever the whole has
+-- what place `n` gives has room behind what was gathered, `old`, wherever the whole has
 pub gathered_fits : {A B C : Type 0} (f : A → B → List C) (xs : List A) (bs : List B) (n : ℕ) (x : A) (b : B)
     (given old whole : List C) (room : ℕ) → n < length xs → n < length bs →
     given ≡ f (get_or xs n x) (get_or bs n b) → old ++ gathered f (drop n xs) (drop n bs) ≡ whole →
@@ -35,10 +35,16 @@ pub gathered_fits : {A B C : Type 0} (f : A → B → List C) (xs : List A) (bs 
 gathered_fits f xs bs n x b given old whole room h k is before few =
     let rest = gathered f (drop (n + 1) xs) (drop (n + 1) bs) in
     let left = next f xs bs n x b given h k is in
-    omega (arith, ap length (sym (ap (λ cs. old ++ cs) left) ∙ before), length-append old (given ++ rest),
-    length-append given rest, few)
+    omega (
+      arith,
+      ap length (sym (ap (λ cs. old ++ cs) left) ∙ before),
+      length-append old (given ++ rest),
+      length-append given rest,
+      few,
+    )
 
--- the same if something is made of all that is gathered
+-- if `g` is applied to all that is gathered, and what it makes of place `n` is added to `old`, that and what is left are the
+-- same `whole` as before
 pub mapped_on : {A B C D : Type 0} (g : C → D) (f : A → B → List C) (xs : List A) (bs : List B) (n : ℕ) (x : A) (b : B)
     (given : List C) (old new whole : List D) → n < length xs → n < length bs →
     given ≡ f (get_or xs n x) (get_or bs n b) → new ≡ old ++ map g given →
@@ -50,7 +56,7 @@ mapped_on g f xs bs n x b given old new whole h k is more before =
     ∙ sym (ap (λ cs. old ++ map g cs) (next f xs bs n x b given h k is)
     ∙ ap (λ ds. old ++ ds) (map-append g given rest)) ∙ before
 
--- and it has room wherever the whole has
+-- what `g` makes of place `n` has room behind `old` wherever the whole has
 pub mapped_fits : {A B C D : Type 0} (g : C → D) (f : A → B → List C) (xs : List A) (bs : List B) (n : ℕ) (x : A) (b : B)
     (given : List C) (old whole : List D) (room : ℕ) → n < length xs → n < length bs →
     given ≡ f (get_or xs n x) (get_or bs n b) → old ++ map g (gathered f (drop n xs) (drop n bs)) ≡ whole →
@@ -59,5 +65,11 @@ mapped_fits g f xs bs n x b given old whole room h k is before few =
     let rest = gathered f (drop (n + 1) xs) (drop (n + 1) bs) in
     let left = ap (λ cs. old ++ map g cs) (next f xs bs n x b given h k is)
     ∙ ap (λ ds. old ++ ds) (map-append g given rest) in
-    omega (arith, ap length (sym left ∙ before), length-append old (map g given ++ map g rest),
-    length-append (map g given) (map g rest), length-map given g, few)
+    omega (
+      arith,
+      ap length (sym left ∙ before),
+      length-append old (map g given ++ map g rest),
+      length-append (map g given) (map g rest),
+      length-map given g,
+      few,
+    )

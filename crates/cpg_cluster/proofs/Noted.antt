@@ -25,15 +25,15 @@ use Rattle.cpg_cluster.proofs.Rooms.{acts_apart}
 use Rattle.cpg_cluster.proofs.Stepping.{tables_of, play_of}
 use Rattle.cpg_cluster.proofs.Opening.{hears_items}
 
--- acts of other items change nothing of what is noted of item x; by induction on the acts
+-- if no act of `acts` is of item `x`, they change nothing of what is noted of `x`; by induction on `acts`
 others_noted : (x : ℕ) (acts : List Act) (noted : List (Option Act)) → ((a : Act) → Contains acts a → a.item ≢ x) →
     get_or (fold note noted acts) x None ≡ get_or noted x None
 others_noted x [] noted h = refl
 others_noted x (a ∷ acts) noted h = others_noted x acts (note noted a) (λ b m. h b (Contains-rest a acts b m)) ∙
     get_or-set_other noted a.item x (Some a) None (λ e. h a (Contains-first a acts) (sym e))
 
--- if acts are of different items and nothing is noted of item x, then after them its act, if there is one, is noted; by
--- induction on the acts
+-- if the acts are of different items and nothing is noted of item `x`, then after them the act of `x`, if there is one,
+-- is noted; by induction on the acts
 noted_once : (x : ℕ) (acts : List Act) (noted : List (Option Act)) → Rises (λ (a b : Act). a.item ≢ b.item) acts →
     x < length noted →
     get_or noted x None ≡ None →
@@ -56,8 +56,8 @@ noted_once x (a ∷ acts) noted r l n = elim (cases_eq a.item x) [
     here e = ap (λ z. get_or (note noted a) z None) (sym e)
         ∙ get_or-set_same noted a.item (Some a) None (omega (arith, l, e))
 
--- the elements that pass both tests are the same among all and among those that pass the first; by induction on the
--- list
+-- the elements of `xs` that pass both `p` and `q` are the same among all and among those that pass `p`; by induction on
+-- the list
 both_pass : {X : Type 0} (p q : X → Bool) (xs : List X) →
     filter (λ x. p x && q x) (filter p xs) ≡ filter (λ x. p x && q x) xs
 both_pass p q [] = refl
@@ -70,7 +70,7 @@ both_pass p q (x ∷ xs) = go (p x) refl (both_pass p q xs)
     go true e ih = λ i. cond (e i && q x) (x ∷ ih i) (ih i)
     go false e ih = ih
 
--- if what is noted of item x is its act among all acts, the frames of all acts of x are that of the noted one
+-- if what is noted of item `x` is its act among all acts, the frames of all acts of `x` are that of the noted one
 frames_noted : (value : Bool) (x slot time : ℕ) (acts : List Act) (noted : Option Act) →
     filter (λ (a : Act). a.item == x) acts ≡ option_to_list noted →
     frames_from value x slot time (option_to_list noted) ≡ frames_from value x slot time acts
@@ -78,7 +78,7 @@ frames_noted value x slot time acts noted h = ap (frames_from value x slot time)
     ∙ ap (λ (l : List Act). map (λ (act : Act). record { item = act.item; column = act.column; value = value }) l)
     (both_pass (λ (a : Act). a.item == x) (λ (a : Act). a.time + slot == time) acts)
 
--- the frames of what a sender has noted of an item are those of what it has done of it
+-- the frames of what member `m`, the sender, has noted of item `x` are those of what it has done of it
 pub sender_frames : (ms : List Member) (sender : ℕ) (m : Member) (value : Bool) (x time : ℕ)
     (noted : List (Option Act)) → sender < length ms → m ≡ get_or ms sender m → HasNoted m x →
     noted ≡ m.noted.items →
@@ -91,7 +91,8 @@ sender_frames ms sender m value x time noted l at has is =
 
 -- given a play
 module _ (g : Graph) (w : World) (ms : List Member) (p : IsPlaying (play_of g w ms)) where
-  -- In a play each node has noted what it has done: its notes are those of its acts, which are of different items.
+  -- in a play each member `i` has noted what it has done of item `x`: its notes are those of its acts, which are of
+  -- different items
   pub all_noted : AllFit g ms → (i x : ℕ) (d : Member) → i < length ms → x < item_count g → HasNoted (get_or ms i d) x
   all_noted fits i x d l within =
       let k = played_of g (tables_of ms) p.formed p.shape p.valid w p.world in
@@ -107,7 +108,7 @@ module _ (g : Graph) (w : World) (ms : List Member) (p : IsPlaying (play_of g w 
       (get_or-replicate (item_count g) x None None within)
       ∙ ap (λ (s : List (Option Act)). option_to_list (get_or s x None)) (sym (fits i d l).noted)
 
-  -- a node hears only items of the graph
+  -- member `m`, the one of node `a`, hears only items of the graph
   pub hears_there : (a : ℕ) (m : Member) → m ≡ get_or ms a m → a < length ms →
       All (λ (row : Row). row.item < item_count g) m.node.dispatcher.table.hears
   hears_there a m at l =

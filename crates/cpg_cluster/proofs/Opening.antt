@@ -1,4 +1,4 @@
--- A cluster before its first turns.
+-- A cluster before its first turns: its members are open, with the room for a play, and its state is that before a play.
 use Rattle.std.proofs.Common.{◌≡◌, ℕ, ◌+◌, ◌<◌, false, List, [], ◌∷◌, ◌++◌, length, map, filter, get_or, replicate}
 use Rattle.std.proofs.Common.{Contains, None, drop, sym, ap, ◌∙◌, subst, arith, inl, inr}
 use Rattle.std.specs.Prelude.{All}
@@ -35,12 +35,12 @@ use Rattle.cpg_cluster.proofs.Plays.{valid_tables_are_correct}
 use Rattle.cpg_cluster.proofs.Reached.{dispatchers_at, dispatchers_count}
 use Rattle.cpg_cluster.proofs.Stepping.{tables_of, play_of}
 
--- the member at a place of the list
+-- the member at place `i` of the list `ms`
 get_member : (ms : List Member) (i : ℕ) → i < length ms → Member
 get_member [] i l = absurd (omega arith)
 get_member (m ∷ ms) i l = m
 
--- with one more node that is open, the first nodes up to it are open
+-- if the first `n` nodes are open, and member `m` is open as node `n` with its table, the first `n + 1` nodes are open
 pub open_more : (g : Graph) (tables : List NodeTable) (n : ℕ) (ms : List Member) (m : Member) → AreOpen g tables n ms →
     IsOpen g n (table_at tables n) m →
     AreOpen g tables (n + 1) (ms ++ m ∷ [])
@@ -54,8 +54,8 @@ open_more g tables n ms m a o = record {
   ];
 }
 
--- if t is the first of the tables that are left, and its node is open, the nodes up to it are open, and the rest of the
--- tables is left
+-- if `t` is the first of the tables that are left after `n`, and member `m` is open with it as node `n`, the first `n +
+-- 1` nodes are open, and `rest` is left of the tables
 pub open_next : (g : Graph) (tables : List NodeTable) (n number after : ℕ) (t : NodeTable) (rest : List NodeTable)
     (ms : List Member) (m : Member) → AreOpen g tables n ms →
     drop n tables ≡ t ∷ rest →
@@ -70,7 +70,7 @@ open_next g tables n number after t rest ms m a left is next o =
       ap (λ k. drop k tables) next ∙ (sym (drop-drop 1 n tables) ∙ ap (drop 1) left),
     )
 
--- by valid tables a node hears only items of the graph
+-- by valid tables node `i` hears only items of the graph
 pub hears_items : (g : Graph) (tables : List NodeTable) → IsValid g tables → (i : ℕ) → i < length tables →
     HearsItems g (table_at tables i)
 hears_items g tables v i l = subst (All (λ (row : Row). row.item < item_count g))
@@ -85,7 +85,7 @@ hears_items g tables v i l = subst (All (λ (row : Row). row.item < item_count g
 -- given the members of a graph's tables before their first turns
 module _ (g : Graph) (tables : List NodeTable) (w : World) (within : IsWithinLimits g)
     (of : AreTablesOf (head_of g) tables) (ms : List Member) (open' : AreOpen g tables (length tables) ms) where
-  -- the dispatcher of each member is that of its table before the first turn
+  -- the dispatcher of member `i` is that of its table before the first turn
   table_here : (i : ℕ) (d : Member) → i < length tables →
       (get_or ms i d).node.dispatcher ≡ initial_dispatcher (table_at tables i)
   table_here i d l = ap (λ (s : NodeState). s.dispatcher) (open'.each i d l).node
@@ -109,8 +109,8 @@ module _ (g : Graph) (tables : List NodeTable) (w : World) (within : IsWithinLim
       ∙ ap initial_dispatcher (sym (own_is g tables within of i t)) ∙
       sym (dispatchers_at g 0 tables i i d empty_table t (omega arith)))
 
-  -- if each member has an empty list, for example of acts, the lists of all are those of the state before the first
-  -- turns
+  -- if `f`, for example the acts, gives an empty list for each member, the lists of all are those of the state before
+  -- the first turns
   none_are : {X : Type 0} (f : Member → List X) → ((i : ℕ) (d : Member) → i < length tables → f (get_or ms i d) ≡ []) →
       map f ms ≡ replicate (length tables) []
   none_are f h = same_lists (map f ms) (replicate (length tables) [])
@@ -161,7 +161,7 @@ pub correct_open : (g : Graph) (tables : List NodeTable) → IsWithinLimits g �
     IsCorrect g tables
 correct_open g tables within of f v = valid_tables_are_correct g tables f (has_shape g within tables of) v
 
--- a scenario with its full lengths is a world, as a duration is at least 1
+-- a scenario `s` with its full lengths is a world, as a duration is at least 1
 pub full_world : (g : Graph) (s : Scenario) → WellFormed g → IsScenario g s →
     IsWorld g (record { scenario = s; lengths = full_lengths g s })
 full_world g s f is = record {

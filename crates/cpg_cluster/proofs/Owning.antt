@@ -1,4 +1,4 @@
--- Lawful tables of a graph have what their nodes need of it.
+-- Lawful tables of a graph have what their nodes need of it, so nothing is added when they are played.
 use Rattle.std.proofs.Common.{◌≡◌, ℕ, ◌<◌, List, length, sym, arith}
 use Rattle.cpg_base.specs.Graph.{Graph}
 use Rattle.cpg_base.specs.Limits.{IsWithinLimits}
@@ -8,7 +8,7 @@ use Rattle.cpg_table.specs.Lawful.{AreTablesOf}
 use Rattle.cpg_table.proofs.GraphTables.{suits_graph}
 use Rattle.cpg_cluster.specs.Cluster.{own_table}
 
--- a node's table with what it needs of the graph is the table itself, since its head is the graph's
+-- the table of node `i` with what it needs of the graph is the table itself, since its head is the graph's
 pub own_is : (g : Graph) (tables : List NodeTable) → IsWithinLimits g → AreTablesOf (head_of g) tables → (i : ℕ) →
     i < length tables →
     own_table g i (table_at tables i) ≡ table_at tables i

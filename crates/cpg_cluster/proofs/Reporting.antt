@@ -27,22 +27,28 @@ use Rattle.cpg_cluster.proofs.Lawful.{runs_since, unreported}
 use Rattle.cpg_cluster.proofs.Reached.{Reached, reached_open, reached_step, free_from, turn_is}
 use Rattle.cpg_cluster.proofs.Between.{flat_id}
 
--- the report is that of an execution of a process of the node, with its actual end
-pub record OneReport (g : Graph) (tables : List NodeTable) (w : World) (node : ℕ) (q : ℕ × Ended) : Type 0 where
+-- report `q` is that of an execution of a process of the node, with its actual end
+pub record IsNodeReport (g : Graph) (tables : List NodeTable) (w : World) (node : ℕ) (q : ℕ × Ended) : Type 0 where
+  -- the process, which is on the node
   pub process : ℕ
   pub on : Contains (processes_on g node) process
+  -- its column that matches
   pub column : Column
   pub match : Match tables w.scenario process column
+  -- the report comes at the actual end of the execution
   pub time : column.time + get_or w.lengths process 0 ≡ q.0
+  -- it is of this process
   pub is : q.1.process ≡ process
 
 -- a node has reported at most one execution of each process, all by the last turn
 pub record HasReported (g : Graph) (tables : List NodeTable) (w : World) (node : ℕ) (last : Option ℕ)
     (reports : List (ℕ × Ended)) : Type 0 where
-  pub only : (q : ℕ × Ended) → Contains reports q → OneReport g tables w node q × (by last q.0 ≡ true)
+  -- each report is of an execution that really ended by the last turn
+  pub only : (q : ℕ × Ended) → Contains reports q → IsNodeReport g tables w node q × (by last q.0 ≡ true)
+  -- no two are of one process
   pub apart : Rises (λ (a b : ℕ × Ended). a.1.process ≢ b.1.process) reports
 
--- a process has at most one report at a time
+-- the reports of process `o` at a time, if it runs `run`, are of different processes: there is one at most
 single : (g : Graph) (w : World) (time : ℕ) (o : Own) (run : Option Running) →
     Rises (λ (a b : ℕ × Ended). a.1.process ≢ b.1.process) (report_of g w time o run)
 single g w time o None = tt
@@ -57,13 +63,17 @@ single g w time o (Some run) = go (is_none run.report && leb (run.start + get_or
 
 -- the report q is that of an execution that runs, is over by the time and hasn't been reported
 record Told (g : Graph) (w : World) (time : ℕ) (o : Own) (run : Option Running) (q : ℕ × Ended) : Type 0 where
+  -- what runs
   it : Running
   runs : run ≡ Some it
+  -- it hasn't been reported
   none : it.report ≡ None
+  -- it is over by the time
   over : it.start + get_or w.lengths o.process 0 ≤ time
+  -- the report comes at its actual end, and says its end in the world
   is : q ≡ (it.start + get_or w.lengths o.process 0, ended_of g w o)
 
--- each report of a process is such a report
+-- each report `q` of process `o` is of its execution `run`: it is over by the time, and hasn't been reported
 told : (g : Graph) (w : World) (time : ℕ) (o : Own) (run : Option Running) (q : ℕ × Ended) →
     Contains (report_of g w time o run) q →
     Told g w time o run q
@@ -102,7 +112,7 @@ module _ {g : Graph} {tables : List NodeTable} {w : World} (k : Played g tables 
   now = flat_map (λ o. report_of g w time o (planned g tables w last o)) (own_of_node g node)
 
   -- a report of now is one that the node hasn't made by its last turn, and comes by the time
-  now_parts : (q : ℕ × Ended) → Contains now q → OneReport g tables w node q × (by last q.0 ≡ false) × (q.0 ≤ time)
+  now_parts : (q : ℕ × Ended) → Contains now q → IsNodeReport g tables w node q × (by last q.0 ≡ false) × (q.0 ≤ time)
   now_parts q h =
       -- the process of the report, and its execution, whose report isn't made yet
       let a =
@@ -125,12 +135,12 @@ module _ {g : Graph} {tables : List NodeTable} {w : World} (k : Played g tables 
         omega (arith, at, t.over),
       )
 
-  -- the report of a process is of that process
+  -- each report `q` of process `o` is of that process
   of_own : (o : Own) (q : ℕ × Ended) → Contains (report_of g w time o (planned g tables w last o)) q →
       q.1.process ≡ o.process
   of_own o q h = ap (λ (q : ℕ × Ended). q.1.process) (told g w time o (planned g tables w last o) q h).is
 
-  -- the reports of different processes of a node are of different processes; by induction on the processes
+  -- the reports of rising processes `ps` of a node are of different processes; by induction on the processes
   own_apart : (ps : List ℕ) → Rises (λ x y. x < y) ps →
       Rises (λ (x y : Own). (a b : ℕ × Ended) → Contains (report_of g w time x (planned g tables w last x)) a →
       Contains (report_of g w time y (planned g tables w last y)) b →
@@ -182,11 +192,12 @@ module _ {g : Graph} {tables : List NodeTable} {w : World} (k : Played g tables 
 module _ {g : Graph} {tables : List NodeTable} {w : World} (k : Played g tables w) where
   -- each node of the state has reported at most one execution of each process, all by its last turn
   pub record ReportsHold (c : Cluster) : Type 0 where
+    -- there is a list of reports for each node
     pub count : length c.reports ≡ length g.nodes
     pub each : (node : ℕ) → node < length g.nodes →
         HasReported g tables w node (dispatcher_at c node).last (get_or c.reports node [])
 
-  -- what a node reports before its turn at a time
+  -- what node `a` reports before its turn at a time, in state `c`, is what its processes would report as planned
   now_is : (c : Cluster) (r : Reached g tables w c) (a : ℕ) (l : a < length g.nodes) (time : ℕ) →
       reports_now g w (dispatcher_at c a) time ≡ now k a (r.holds a l).last time
   now_is c r a l time =
@@ -195,16 +206,16 @@ module _ {g : Graph} {tables : List NodeTable} {w : World} (k : Played g tables 
       ∙ ap (flat_map (λ rs. rs)) (zip_with-map (report_of g w time) (planned g tables w last) (own_of_node g a))
       ∙ flat_id (λ o. report_of g w time o (planned g tables w last o)) (own_of_node g a)
 
-  -- what a node reports is of different processes
+  -- the reports of node `a` before a turn are of different processes
   pub reports_apart : (c : Cluster) → Reached g tables w c → (a : ℕ) → a < length g.nodes → (time : ℕ) →
       Rises (λ (x y : ℕ × Ended). x.1.process ≢ y.1.process) (reports_now g w (dispatcher_at c a) time)
   reports_apart c r a l time = subst (Rises (λ (x y : ℕ × Ended). x.1.process ≢ y.1.process))
       (sym (now_is c r a l time)) (now_apart k a (r.holds a l).last time)
 
-  -- each report is that of an execution
+  -- each report `q` of node `a` before a turn is that of one of its executions
   pub report_is : (c : Cluster) (r : Reached g tables w c) (a : ℕ) → a < length g.nodes → (time : ℕ) (q : ℕ × Ended) →
       Contains (reports_now g w (dispatcher_at c a) time) q →
-      OneReport g tables w a q
+      IsNodeReport g tables w a q
   report_is c r a l time q h =
       (now_parts k a (r.holds a l).last time q (subst (λ rs. Contains rs q) (now_is c r a l time) h)).0
 
@@ -221,7 +232,7 @@ module _ {g : Graph} {tables : List NodeTable} {w : World} (k : Played g tables 
 
   -- given a state that a play reaches, of which this holds
   module _ (c : Cluster) (r : Reached g tables w c) (h : ReportsHold c) where
-    -- after its turn the node has reported at most one execution of each process
+    -- after its turn at `time`, node `a` has reported at most one execution of each process
     hold_here : (a time : ℕ) → (l : a < length g.nodes) → answer g c a ≡ Took → next (dispatcher_at c a) ≡ Some time →
         HasReported g tables w a (dispatcher_at (take_turn g w c a time) a).last
         (get_or (take_turn g w c a time).reports a [])
@@ -271,7 +282,7 @@ module _ {g : Graph} {tables : List NodeTable} {w : World} (k : Played g tables 
         go (Waits b) o e n = h
         go IsDone o e n = h
 
-  -- it holds after any asks, one after another
+  -- it holds after the nodes `turns` are asked one after another
   hold_play : (turns : List ℕ) (c : Cluster) (r : Reached g tables w c) → ReportsHold c → ReportsHold (play g w c turns)
   hold_play [] c r h = h
   hold_play (a ∷ rest) c r h = hold_play rest (step g w c a) (reached_step k c r a) (hold_step c r h a)

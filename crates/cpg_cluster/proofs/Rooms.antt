@@ -37,7 +37,7 @@ keys_apart key [] h = tt
 keys_apart key (x ∷ xs) h =
     (λ y m e. let r = Contains-map_parts key xs y m in h.0 r.0 r.1 (e ∙ sym r.2), keys_apart key xs h.1)
 
--- a list whose keys differ is no longer than a list that has all these keys
+-- if the keys of `xs` differ, and each is in `ys`, then `xs` is no longer than `ys`
 pub no_more_keys : {X : Type 0} (key : X → ℕ) (xs : List X) (ys : List ℕ) → Rises (λ a b. key a ≢ key b) xs →
     ((x : X) → Contains xs x → Contains ys (key x)) →
     length xs ≤ length ys
@@ -51,7 +51,7 @@ no_more_keys key xs ys apart in' = omega (
 -- given a node of a play
 module _ {g : Graph} {tables : List NodeTable} {w : World} (k : Played g tables w) (node : ℕ)
     (l : node < length g.nodes) (last : Option ℕ) where
-  -- the acts that the node has done are of different items, as no item is asked of it twice
+  -- the `acts` that the node has done are of different items, as no item is asked of it twice
   pub acts_apart : (acts : List Act) → Done g tables w.scenario node last acts →
       Rises (λ (a b : Act). a.item ≢ b.item) acts
   acts_apart acts d = Rises-weaker (Before g) (λ (a b : Act). a.item ≢ b.item) acts (λ a b m n before e.
@@ -82,7 +82,8 @@ module _ {g : Graph} {tables : List NodeTable} {w : World} (k : Played g tables 
       (λ q m. let p = (d.only q m).0 in
       subst (Contains (processes_on g node)) (ap (λ (e : Ended). e.process) p.is) p.on)
     where
-      -- two planned ends of one process are at the same time, since one column of it matches
+      -- planned ends `a` and `b` of one process are at the same time, since one column of it matches, so neither is
+      -- before the other
       differ : (a b : ℕ × Ended) → Planned g tables w.scenario node a → Planned g tables w.scenario node b →
           a.1.process ≡ b.1.process → EndsBefore a b → ⊥
       differ a b p q e before =
@@ -131,14 +132,14 @@ few_in_all : {X Y : Type 0} (f : X → List Y) (xs : List X) → ((x : X) → le
 few_in_all f [] h = omega arith
 few_in_all f (x ∷ xs) h = omega (arith, length-append (f x) (flat_map f xs), h x, few_in_all f xs h)
 
--- at most one frame of each hear row arrives at a time
+-- at most one frame of each hear row arrives at a time, so there are no more frames than dispatcher `d` has hear rows
 pub frames_few : {g : Graph} {tables : List NodeTable} {w : World} (k : Played g tables w) (c : Cluster)
     (r : Reached g tables w c) (d : Dispatcher) (time : ℕ) →
     length (frames_now g w c d time) ≤ length d.table.hears
 frames_few {g = g} {tables = tables} {w = w} k c r d time = few_in_all (frames_of_row g w c time) d.table.hears
     (λ row. row_few row (get_or c.acts (home g row.item) []) (apart (home g row.item)))
   where
-    -- the acts that a node has done are of different items
+    -- the acts that `node` has done are of different items
     apart : (node : ℕ) → Rises (λ (a b : Act). a.item ≢ b.item) (get_or c.acts node [])
     apart node = elim (cases_lt node (length g.nodes)) [
       | inl l ↦ let n = r.holds node l in acts_apart k node l n.last (get_or c.acts node []) n.done
@@ -146,7 +147,7 @@ frames_few {g = g} {tables = tables} {w = w} k c r d time = few_in_all (frames_o
           (sym (get_or_past c.acts node [] (omega (arith, past, r.acts)))) tt
     ]
 
-    -- at most one frame of a hear row arrives at a time
+    -- if `acts` are of different items, at most one frame of the hear row `row` arrives at the time
     row_few : (row : Row) (acts : List Act) → Rises (λ (a b : Act). a.item ≢ b.item) acts →
         length (map (λ act. frame_of_item w (item_at g row.item) act) (filter
         (λ (act : Act). (act.item == row.item) && (act.time + slot_length g (home g row.item) == time)) acts)) ≤ 1

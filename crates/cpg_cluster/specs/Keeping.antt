@@ -22,11 +22,12 @@ abbrev pub waits_until : ℕ → Option ℕ → ℕ → ℕ → Bool
 waits_until time comes slot arrival =
     nat_le arrival time && list_any (λ u. nat_le (u + slot) arrival) (option_to_list comes)
 
--- the same for the frame of a column of a hear row, whose time is the arrival
+-- whether the frame of a column of a hear row, whose time is the arrival, arrives by this time and may still be sent
 abbrev pub waits_for : ℕ → Option ℕ → ℕ → Column → Bool
 waits_for time comes slot col = waits_until time comes slot col.time
 
--- whether a hear row, whose sender is given too, is of sender `other` and has such a column
+-- whether a hear row, whose sender is given too, is of sender `other` and has a column whose frame arrives by this time
+-- and may still be sent
 abbrev pub waits_by : ℕ → ℕ → Option ℕ → ℕ → Row → ℕ → Bool
 waits_by other time comes slot row sender = (sender == other) && list_any (waits_for time comes slot) row.columns
 
@@ -67,6 +68,7 @@ pub record IsIndex (rows : List Row) (senders : List ℕ) (other : ℕ) (times :
 
 -- at the place of each sender below a number are the arrival times in its rows, in order
 pub record AreIndexed (rows : List Row) (senders : List ℕ) (number : ℕ) (index : List (Vec ℕ)) : Type 0 where
+  -- there is a list for each of these senders
   pub count : length index ≡ number
   -- the default `d` isn't read, since the sender is below the number
   pub each : (b : ℕ) (d : Vec ℕ) → b < number → IsIndex rows senders b (get_or index b d).items
@@ -84,7 +86,7 @@ note noted act = slice_set noted act.item (Some act)
 abbrev pub noted_of : ℕ → List Act → List (Option Act)
 noted_of count acts = fold note (replicate count None) acts
 
--- a node has done an item at most once, and has noted that act
+-- a node has done item x at most once, and has noted that act
 abbrev pub HasNoted : Member → ℕ → Type 0
 HasNoted m x = filter (λ (act : Act). act.item == x) m.acts.items ≡ option_to_list (get_or m.noted.items x None)
 
@@ -131,8 +133,9 @@ pub record IsOpen (g : Graph) (number : ℕ) (t : NodeTable) (m : Member) : Type
 abbrev pub HearsItems : Graph → NodeTable → Type 0
 HearsItems g t = All (λ (row : Row). row.item < item_count g) t.hears
 
--- there are so many members, and each is its node before the first turn, with its table
+-- there are `number` members, and each is its node before the first turn, with its table
 pub record AreOpen (g : Graph) (tables : List NodeTable) (number : ℕ) (members : List Member) : Type 0 where
+  -- there are that many
   pub count : length members ≡ number
   -- the default `d` isn't read, since the place is below the number
   pub each : (i : ℕ) (d : Member) → i < number → IsOpen g i (table_at tables i) (get_or members i d)

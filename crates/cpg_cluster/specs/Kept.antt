@@ -25,7 +25,7 @@ playing_of n = record {
   cluster = cluster_of n.members.items;
 }
 
--- it is a play of valid tables, each node keeps what it should, and the frames of any turn have room
+-- the fields are a play of valid tables, each node keeps what it should, and the frames of any turn have room
 pub record IsKept (n : Inside) : Type 0 where
   -- what the play is of is lawful, and some turns lead to its state
   pub playing : IsPlaying (playing_of n)

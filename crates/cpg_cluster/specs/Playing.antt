@@ -1,4 +1,4 @@
--- A play under way, as code keeps it.
+-- A play under way, as callers of the code see it, and what an answer says of it.
 use Rattle.std.specs.Prelude.{ℕ, ◌≡◌, ◌≤◌, ◌<◌, List, [], Some, get_or, length}
 use Rattle.cpg_base.specs.Graph.{Graph}
 use Rattle.cpg_base.specs.Limits.{IsWithinLimits}
@@ -34,7 +34,7 @@ opened g tables w = record { graph = g; tables = tables; world = w; cluster = in
 abbrev pub stepped : Playing → ℕ → Playing
 stepped p node = record p { cluster = step p.graph p.world p.cluster node }
 
--- a play of valid tables of a graph within the limits
+-- a play of valid tables of a graph within the limits, in a state that some turns lead to
 pub record IsPlaying (p : Playing) : Type 0 where
   -- the graph is within the limits and well formed
   pub limits : IsWithinLimits p.graph
@@ -47,7 +47,7 @@ pub record IsPlaying (p : Playing) : Type 0 where
   pub world : IsWorld p.graph p.world
   pub played : IsPlayed p.graph p.tables p.world p.cluster
 
--- a node has a next instant, and no node has an earlier one
+-- the node has a next instant, and no node has an earlier one
 pub record HasLeastInstant (p : Playing) (node : ℕ) : Type 0 where
   -- the node's next instant
   pub time : ℕ

@@ -24,6 +24,7 @@ frames_from value x slot time acts = map (λ (act : Act). record { item = act.it
 
 -- what a node's table says of a process: it is one of the graph, and has the condition that the graph says
 pub record IsOwnOf (g : Graph) (o : Own) : Type 0 where
+  -- the process is one of the graph
   pub known : o.process < process_count g
   -- the process's condition, or `None` if it has none
   pub condition : o.condition ≡ condition_of g o.process
@@ -54,6 +55,6 @@ reports_of g s lengths time d = reports_by g (record { scenario = s; lengths = l
 abbrev pub ends_of : ℕ → Dispatcher → List (ℕ × Ended)
 ends_of time d = ends_by time d.table.own d.running
 
--- the dispatcher after it has taken those reports
+-- the dispatcher after it has taken the reports that come before its turn at the time
 abbrev pub ready : Graph → Scenario → List ℕ → ℕ → Dispatcher → Dispatcher
 ready g s lengths time d = all_finished d (reports_of g s lengths time d)

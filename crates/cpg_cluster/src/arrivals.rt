@@ -27,7 +27,8 @@ fn add_times_of(
     Ok(())
 }
 
-/// Returns the arrival times in the hear rows of sender `other`, by time. The one error is that memory runs out.
+/// Returns the arrival times in the hear rows of sender `other`, by time; `senders` has the sender of each row. The one
+/// error is that memory runs out.
 fn arrivals_from(
     alloc: Global,
     rows: &[Row],
@@ -44,8 +45,8 @@ fn arrivals_from(
     Ok(times)
 }
 
-/// Returns, for each of the `count` nodes, the arrival times in the hear rows of which it is the sender, by time. The
-/// one error is that memory runs out.
+/// Returns, for each of the `count` nodes, the arrival times in the hear rows of which it is the sender, by time; `senders`
+/// has the sender of each row. The one error is that memory runs out.
 pub fn arrivals_of(
     alloc: Global,
     rows: &[Row],

@@ -1,4 +1,4 @@
-//! All nodes of a graph in one scenario.
+//! All nodes of a graph in one scenario: they are asked one after another, and take their turns.
 ghost use Rattle.std.specs.Prelude.{ℕ, ◌≡◌, ◌<◌, ◌≤◌, ◌++◌, [], IfOk, IsTrue, All, is_some, length, get_or};
 ghost use Rattle.std.specs.List.{flat_map, list_any};
 ghost use Rattle.std.specs.Bool.{OnTrue};
@@ -57,8 +57,8 @@ impl Model for Cluster {
     ghost invariant = { IsKept };
 }
 
-/// Adds the frame of an item, with this value, if there is such a sender and its frame arrives at the time. The sender
-/// has noted its only act of the item, so no other act has to be looked at.
+/// Adds to `frames` that of `item`, with `value`, if there is a member with the number `sender`, it has sent the item, and
+/// the frame arrives at `time`. The sender has noted its only act of the item, so no other act has to be looked at.
 fn add_sender_frames(
     members: &[Member],
     sender: u32,
@@ -80,7 +80,8 @@ fn add_sender_frames(
     }
 }
 
-/// Replaces `frames` with those that arrive at the time, hear row by hear row; `senders` has the sender of each row.
+/// Replaces `frames` with those that arrive at the time, hear row by hear row; `rows` are the hear rows of a node, and
+/// `senders` has the sender of each.
 fn gather_frames(
     problem: &Problem,
     scenario: &Scenario,
@@ -241,8 +242,8 @@ impl Cluster {
         AskStep::Took
     }
 
-    /// Asks the nodes from `first` on, round the circle, until one takes its turn or all have been asked. Returns how
-    /// many waited.
+    /// Asks the nodes from node `first` on, round the circle, until one takes its turn or all have been asked. Returns how
+    /// many answered that they wait.
     fn choose(&mut self, first: u32) -> u64
         requires { first < length self.old.graph.nodes }
         ensures state { self.new ≡ record self.old {
@@ -253,6 +254,7 @@ impl Cluster {
         ensures nearer { IsTrue (choose self.old.graph self.old.world self.old.cluster (circle (length self.old.graph.nodes) first)).took →
             remaining self.new.cluster < remaining self.old.cluster }
     {
+        // there is a member for each of at most 16 nodes
         let nodes = self.members.len() as u32;
         let mut waits: u64 = 0;
         let mut asked: u32 = 0;
@@ -284,6 +286,7 @@ impl Cluster {
             drawn = next_number(drawn);
             // a draw is the upper 31 of the 64 bits
             let first = (drawn >> 33) % nodes;
+            // it is below the number of nodes, so the cast keeps it
             waits += self.choose(first as u32);
         }
         waits

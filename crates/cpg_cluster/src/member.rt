@@ -28,7 +28,8 @@ pub struct Member {
     pub senders: Vec<u32>,
     /// For each node, when the frames arrive that this one hears of it, by time.
     pub arrivals: Vec<Vec<u64>>,
-    /// How long its slot lasts, in time units; 0 if it has none.
+    /// How long its slot lasts, in time units. For a node without a slot it is the length of the first slot, and 0 if
+    /// there are no slots.
     pub slot: u64,
     /// What it has done, in order.
     pub acts: Vec<Act>,
@@ -53,10 +54,11 @@ pub fn open_member(
 {
     let slot = problem.slot_length(number);
     let senders = senders_of(alloc, problem, table.hears())?;
+    // there are at most 16 nodes, so the cast keeps their number
     let count = problem.nodes().len() as u32;
     let arrivals = arrivals_of(alloc, table.hears(), senders.as_slice(), count)?;
     let mut acts = Vec::new(alloc);
-    // in a play of valid tables a node does each item at most once, and each of its processes ends and reports once
+    // in a play of valid tables a node does each item at most once, and each of its processes ends and reports at most once
     acts.reserve(table.sends().len() + table.starts().len())?;
     let noted = vec![in alloc; None; problem.item_count() as usize]?;
     let mut ends = Vec::new(alloc);
@@ -142,6 +144,7 @@ pub fn open_members(
     ensures members { IfOk result (λ members. AreOpen problem.now tables.nodes (length tables.nodes) members.items) }
     ensures lawful { AreTablesOf tables.head tables.nodes }
 {
+    // there are at most 16 nodes, so the cast keeps their number
     let count = tables.head().nodes().len() as u32;
     let mut members = Vec::new(alloc);
     for (number, table) in (0..count).zip(tables.into_nodes()) {

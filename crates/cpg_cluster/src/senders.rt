@@ -44,7 +44,8 @@ pub fn value_of_item(problem: &Problem, scenario: &Scenario, item: u32) -> bool
     }
 }
 
-/// Returns the value, in a scenario, of a process with this condition, or false if it has none.
+/// Returns the value, in a scenario, of a process with this condition, or false if it has none, or one that the graph
+/// hasn't.
 pub fn value_of_process(problem: &Problem, scenario: &Scenario, condition: Option<u32>) -> bool
     requires { IsScenario problem.now scenario.now }
     ensures { result ≡ (is_some condition && get_or scenario.now.values (unwrap_or condition 0) false) }

@@ -1,4 +1,4 @@
-//! The frames and reports that a node takes in a turn, and what it does.
+//! Gathering the frames, reports and planned ends of a node's turn, and noting the acts that it does.
 ghost use Rattle.std.specs.Prelude.{◌≡◌, ◌≤◌, ◌<◌, ◌+◌, ◌++◌, ◌∷◌, [], ◌==◌, ◌&&◌, ℕ, All, None, fold, get_or, nat_le, option_to_list, length, map};
 ghost use Rattle.std.specs.Vec.{vec_len, vec_capacity};
 ghost use Rattle.cpg_base.specs.Scenario.{IsScenario};
@@ -13,7 +13,7 @@ use cpg_base::{Lengths, Problem, Scenario};
 use cpg_node::{Act, Ended, Frame, Node, Running};
 use cpg_table::Own;
 
-/// Whether an act sends this item, and its frame arrives at the time: one slot length after the act.
+/// Whether an act is of this item, and its frame arrives at the time: one slot length, `slot`, after the act.
 fn arrives(act: &Act, item: u32, slot: u64, time: u64) -> bool
     ensures { result ≡ ((act.now.item == item) && (act.now.time + slot == time)) }
 {
@@ -24,7 +24,7 @@ fn arrives(act: &Act, item: u32, slot: u64, time: u64) -> bool
     time >= slot && act.time == time - slot
 }
 
-/// Adds the frame of an act, with this value, if it is of the item and arrives at the time.
+/// Adds to `frames` that of `act`, with `value`, if the act is of `item`, and its frame, of length `slot`, arrives at `time`.
 fn add_frame(value: bool, item: u32, slot: u64, time: u64, act: &Act, frames: &mut Vec<Frame>)
     requires { vec_len frames.old + length (frames_from value item slot time (act.now ∷ [])) ≤ vec_capacity frames.old }
     ensures frames { frames.new.items ≡ frames.old.items ++ frames_from value item slot time (act.now ∷ []) }
@@ -49,7 +49,8 @@ fn act_of(noted: &[Option<Act>], item: u32) -> Option<Act>
     }
 }
 
-/// Adds the frame of the act that is noted for an item, with this value, if there is one and it arrives at the time.
+/// Adds to `frames` that of the act that is noted for `item`, with `value`, if there is one, and its frame, of length
+/// `slot`, arrives at `time`.
 pub fn add_noted_frame(
     value: bool,
     item: u32,
@@ -67,7 +68,7 @@ pub fn add_noted_frame(
     }
 }
 
-/// Returns what an execution of a process reports at its end in the scenario.
+/// Returns what an execution of the process `own` reports at its end in the scenario.
 fn ended_of(problem: &Problem, scenario: &Scenario, own: &Own) -> Ended
     requires scenario { IsScenario problem.now scenario.now }
     requires own { IsOwnOf problem.now own.now }
@@ -80,7 +81,7 @@ fn ended_of(problem: &Problem, scenario: &Scenario, own: &Own) -> Ended
     }
 }
 
-/// Whether an execution that started at `start` is over by the time.
+/// Whether an execution that started at `start` and takes `length` is over by the time.
 fn is_over(start: u64, length: u64, time: u64) -> bool
     ensures { result ≡ nat_le (start + length) time }
 {
@@ -88,8 +89,8 @@ fn is_over(start: u64, length: u64, time: u64) -> bool
     time >= start && length <= time - start
 }
 
-/// Returns the report of a process's execution, with its actual end. `None` if the process isn't running, its report
-/// has been taken, or the execution isn't over by the time.
+/// Returns the report of the execution of the process `own`, with its actual end. `None` if the process isn't running, its
+/// report has been taken, or the execution isn't over by the time.
 fn report_of(
     problem: &Problem,
     scenario: &Scenario,
@@ -129,7 +130,8 @@ fn add_report(report: Option<(u64, Ended)>, reports: &mut Vec<(u64, Ended)>)
     }
 }
 
-/// Adds the reports of executions that are over by the time and haven't been taken, by process.
+/// Adds to `reports` those of executions that are over by `time` and haven't been taken, in the order of the processes. `own`
+/// are the node's processes, and `running` has the execution of each, if it runs.
 pub fn gather_reports(
     problem: &Problem,
     scenario: &Scenario,
@@ -159,8 +161,8 @@ pub fn gather_reports(
     }
 }
 
-/// Returns the report of a process's execution whose planned end is this time. `None` if the process isn't running, its
-/// report hasn't come, or its planned end is another time.
+/// Returns the report of the execution of the process `own`, if its planned end is this time. `None` if the process isn't
+/// running, its report hasn't come, or its planned end is another time.
 fn planned_end(own: &Own, running: Option<Running>, time: u64) -> Option<Ended>
     ensures { option_to_list result ≡ due_reports_of time own.now running }
 {
@@ -185,7 +187,8 @@ fn planned_end(own: &Own, running: Option<Running>, time: u64) -> Option<Ended>
     }
 }
 
-/// Adds the reports whose planned end is this time, each with it, by process.
+/// Adds to `ends` the reports whose planned end is `time`, each with this time, in the order of the processes. `own` are the
+/// node's processes, and `running` has the execution of each, if it runs.
 pub fn gather_ends(
     own: &[Own],
     running: &[Option<Running>],
@@ -203,7 +206,7 @@ pub fn gather_ends(
     }
 }
 
-/// Adds a report with its planned end, this time, if there is one.
+/// Adds the report `end` with its planned end, this time, if there is such a report.
 fn add_end(time: u64, end: Option<Ended>, ends: &mut Vec<(u64, Ended)>)
     requires { vec_len ends.old + length (option_to_list end) ≤ vec_capacity ends.old }
     ensures ends { ends.new.items ≡ ends.old.items ++ map (λ e. (time, e)) (option_to_list end) }
@@ -214,7 +217,7 @@ fn add_end(time: u64, end: Option<Ended>, ends: &mut Vec<(u64, Ended)>)
     }
 }
 
-/// Gives the node these reports, each at its time, one after another.
+/// Gives the node the reports `ended`, each at its time, one after another.
 pub fn finish_all(node: &mut Node, ended: &[(u64, Ended)])
     requires { AllFinish node.old.dispatcher ended.now }
     ensures { node.new ≡ record node.old { dispatcher = all_finished node.old.dispatcher ended.now } }
@@ -225,7 +228,7 @@ pub fn finish_all(node: &mut Node, ended: &[(u64, Ended)])
     }
 }
 
-/// Notes an act at its item, in place of any earlier one.
+/// Notes an act at its item, in place of any earlier one; an act of an item that the graph doesn't have isn't noted.
 fn note_act(noted: &mut Vec<Option<Act>>, act: Act)
     ensures { noted.new.items ≡ note noted.old.items act }
 {

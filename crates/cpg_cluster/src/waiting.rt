@@ -1,4 +1,4 @@
-//! Whether a node has to wait for another node before it takes its next instant.
+//! Whether a node has to wait on another node before it takes its next instant.
 ghost use Rattle.std.specs.Prelude.{◌≡◌, ◌<◌, ◌≤◌, ◌+◌, length, map, filter, get_or, nat_le, option_to_list};
 ghost use Rattle.std.specs.List.{list_any};
 ghost use Rattle.cpg_base.specs.Numbers.{numbers_below};
@@ -9,8 +9,8 @@ ghost use Rattle.cpg_cluster.specs.Keeping.{AreIndexed, waits_until, waits_betwe
 use crate::arrivals::first_after;
 use crate::member::Member;
 
-/// Whether a node with this next instant and slot length may still send a frame that arrives at a time. Without a next
-/// instant it sends nothing more.
+/// Whether a node with this next instant and slot length may still send a frame that arrives at the time `arrival`. Without
+/// a next instant it sends nothing more.
 fn may_still_send(next: Option<u64>, slot: u64, arrival: u64) -> bool
     ensures { result ≡ list_any (λ u. nat_le (u + slot) arrival) (option_to_list next) }
 {
@@ -21,7 +21,8 @@ fn may_still_send(next: Option<u64>, slot: u64, arrival: u64) -> bool
     }
 }
 
-/// Whether a sender may still send one of the frames whose arrivals are `times` and which arrive by `time`.
+/// Whether a sender with this next instant and slot length may still send one of the frames whose arrivals are `times` and
+/// which arrive by `time`.
 fn waits_on(times: &[u64], time: u64, next: Option<u64>, slot: u64) -> bool
     requires { IsNonDecreasingBy (λ t. t) times.now }
     ensures { result ≡ list_any (waits_until time next slot) times.now }
@@ -40,7 +41,7 @@ fn waits_on(times: &[u64], time: u64, next: Option<u64>, slot: u64) -> bool
     may_still_send(next, slot, arrival)
 }
 
-/// Whether a member waits on the member with number `other` before it takes an instant.
+/// Whether a member waits on `sender`, the member with number `other`, before it takes the instant `time`.
 fn waits_between(member: &Member, time: u64, other: u32, sender: &Member) -> bool
     requires indexed { AreIndexed member.now.node.dispatcher.table.hears member.now.senders.items (length member.now.arrivals.items) member.now.arrivals.items }
     requires other { other < length member.now.arrivals.items }
@@ -50,8 +51,8 @@ fn waits_between(member: &Member, time: u64, other: u32, sender: &Member) -> boo
     waits_on(times.as_slice(), time, sender.node.next(), sender.slot)
 }
 
-/// Returns the least number of a member that a member waits on before it takes an instant, or `None` if it waits on
-/// none.
+/// Returns the least number of a member that a member waits on before it takes the instant `time`, or `None` if it waits
+/// on none.
 pub fn waited_on(members: &[Member], member: &Member, time: u64) -> Option<u32>
     requires indexed { AreIndexed member.now.node.dispatcher.table.hears member.now.senders.items (length members.now) member.now.arrivals.items }
     requires few { length members.now ≤ 16 }

@@ -1,4 +1,5 @@
--- The readers of literals and columns read exactly the bytes of lawful ones (`Reads`, of Laws).
+-- The readers of literals and columns read exactly the bytes of lawful ones (`Reads`, of Laws). In the lemmas s has the
+-- variables of a head, v is one of them, l is a literal on one, and ls are literals.
 use Rattle.std.proofs.Common.{◌≡◌, ℕ, zero, suc, ◌+◌, ◌-◌, ◌^◌, ◌<◌, ◌≤◌, max, Bool, true, false, cond, eqb, ltb, leb}
 use Rattle.std.proofs.Common.{◌&&◌, List, [], ◌∷◌, ◌++◌, length, Ok, refl, sym, ap, ap₂, subst, ◌∙◌}
 use Rattle.std.proofs.Common.{append_assoc, arith, inl, inr, ◌⊎◌}
@@ -360,8 +361,8 @@ regroup_3 a b c = simp (append_assoc, append-nil)
 room_small : (e c : ℕ) → e ≤ 128 → c ≤ 32 → (e - 0) + ((128 + c) - max 128 0) < 256
 room_small e c a b = omega arith
 
--- the reader of a column's front reads exactly the bytes of a time below 2^60 and a count that the space allows. As in all
--- these lemmas, `seq` joins the readers of the parts, and `adapt` says the same of the whole
+-- The reader of a column's front reads exactly the bytes of a time below 2^60 and a count that the space allows. As in all
+-- these lemmas, `seq` joins the readers of the parts, and `adapt` says the same of the whole.
 pub front_reads : (s : VariableSpace) → IsSpace s →
     Reads (λ (f : ℕ × ℕ). (f.0 < 2 ^ 60) × (f.1 ≤ variable_count_from s 0))
     (λ (f : ℕ × ℕ). to_be_bytes w64 f.0 ++ byte f.1) (read_front s)
@@ -378,9 +379,9 @@ front_reads s i =
     (λ f h. (h.0, ((omega arith, h.1), refl)))
     (λ f h. refl)
 
--- the reader of a column reads exactly the bytes of a lawful column: its front, then as many literals as the front
+-- The reader of a column reads exactly the bytes of a lawful column: its front, then as many literals as the front
 -- says. The last three parts say the same of the column: what the parts allow is lawful, what is lawful they allow, and
--- the bytes are the same
+-- the bytes are the same.
 pub column_reads : (s : VariableSpace) → IsSpace s → Reads (IsLawfulColumn s) column_bytes (read_column s)
 unfolding read_column
 column_reads s i =

@@ -4,9 +4,9 @@ use Rattle.std.proofs.Common.{◌≡◌, ℕ, suc, Bool, true, false, cond, List
 use Rattle.std.proofs.Common.{sym, ap, subst, ◌∙◌, append_assoc, inl, inr, ◌⊎◌}
 use Rattle.cpg_codec.specs.Reading.{Reader, pure, onward, ◌>>=◌, byte_by}
 
--- where a reader stops. `bytes` are `good` ones and `bad` ones, of which `left` are left. The spelling of some value that
+-- Where a reader stops. `bytes` are `good` ones and `bad` ones, of which `left` are left. The spelling of some value that
 -- fits goes on with `more` after the good ones; and with the first bad one, if there is one, the reader fails at it
--- whatever comes after it (`stays`)
+-- whatever comes after it (`stays`).
 pub record Stop {A : Type 0} (Fits : A → Type 0) (spell : A → List ℕ) (read : Reader A) (bytes : List ℕ)
     (left : ℕ) : Type 0 where
   -- the bytes are a good part and then the `left` bytes from the failure on
@@ -64,7 +64,7 @@ pure_reads x = record {
   stops = λ bytes left e. absurd cc;
 }
 
--- given a reader r1, a reader r2 for each value of it, and that the value of r2 has the value of r1 as a part, `first`
+-- given: a reader r1, a reader r2 for each value of it, and that the value of r2 has the value of r1 as a part, `first`
 module _ {A X : Type 0} (F1 : A → Type 0) (s1 : A → List ℕ) (r1 : Reader A) (F2 : A → X → Type 0) (s2 : A → X → List ℕ)
     (r2 : A → Reader X) (first : X → A)
     (one : Reads F1 s1 r1) (two : (a : A) → F1 a → Reads (F2 a) (s2 a) (r2 a))

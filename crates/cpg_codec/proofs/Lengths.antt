@@ -137,6 +137,7 @@ places_few test i (x ∷ xs) = by_test (test x) (places_few test (i + 1) xs) whe
   by_test true few = omega (arith, few)
   by_test false few = omega (arith, few)
 
+-- given: a lawful head h, and the number of a node
 module _ (h : Head) (q : IsHead h) (node : ℕ) where
   -- at most 128 processes have a condition
   conditioned_few : length (conditioned h) ≤ 128

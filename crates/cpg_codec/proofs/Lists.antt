@@ -1,4 +1,5 @@
--- Readers of lists read exactly the spellings of lists (`Reads`, of Laws), if those of the elements do so.
+-- Readers of lists read exactly the spellings of lists (`Reads`, of Laws), if those of the elements do so. In the
+-- lemmas l is a label, ls are labels, s is a state, and ys are values.
 use Rattle.std.proofs.Common.{◌≡◌, ℕ, zero, suc, ◌<◌, List, [], ◌∷◌, ◌++◌, length, refl, sym, ap, subst, ◌∙◌, arith}
 use Rattle.std.specs.List.{flat_map, AllByRecursion}
 use Rattle.std.proofs.lemmas.List.{append-nil}

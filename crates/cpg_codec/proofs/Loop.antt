@@ -18,7 +18,7 @@ pub nothing_in_front : {A : Type 0} (r : Result (List A × List ℕ) ℕ) → wi
 nothing_in_front (Ok x) = refl
 nothing_in_front (Err n) = refl
 
--- given a reader for each label and state, and the state after a value
+-- given: a reader for each label and state, and the state after a value
 module _ {L S A : Type 0} (step : S → A → S) (one : L → S → Reader A) where
   -- a first value of the result may as well be the last one in front
   regroup : (front : List A) (x : A) (r : Result (List A × List ℕ) ℕ) →

@@ -1,4 +1,6 @@
 -- Big-endian numbers, digit by digit (in base 256): their readers read exactly the bytes of lawful ones (`Reads`, of Laws).
+-- In the lemmas n is the number that the first digits spell, b the next digit, w how many digits follow, and m the
+-- whole number.
 use Rattle.std.proofs.Common.{◌≡◌, ℕ, zero, suc, ◌+◌, ◌*◌, ◌-◌, ◌/◌, ◌%◌, ◌^◌, ◌<◌, ◌≤◌, Bool, true, ltb, leb, [], ◌∷◌}
 use Rattle.std.proofs.Common.{refl, sym, ap, subst, ◌∙◌, arith}
 use Rattle.std.specs.Int.{byte_at, bytes_high_first}
@@ -76,7 +78,7 @@ digit_high T t m n b e lt hi =
     let k : (b + 1) * t ≤ 256 * t = mul-le (b + 1) t 256 t (omega arith) (omega arith) in
     subst (λ (x : ℕ). m < (n + 1) * x) (sym e) (omega arith)
 
--- given a test that says whether a lawful number is in a range
+-- given: a test that says whether a lawful number is in a range
 module _ (Lawful : ℕ → Type 0) (may : ℕ → ℕ → Bool) (choice : IsChoice Lawful may) where
   -- m is lawful, begins with the digits n and has w more
   pub record Continues (w n m : ℕ) : Type 0 where

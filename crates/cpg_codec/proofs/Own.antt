@@ -1,4 +1,5 @@
--- An own deadline is eight bytes ff or a number up to 10^9; the first byte says which.
+-- An own deadline is eight bytes ff or a number up to 10^9; the first byte says which. In the lemmas n is the number
+-- that the digits so far spell, b the next digit, and w how many digits follow.
 use Rattle.std.proofs.Common.{◌≡◌, ℕ, zero, suc, ◌+◌, ◌*◌, ◌^◌, ◌<◌, ◌≤◌, Bool, true, false, cond, ltb, leb, ◌&&◌, ◌||◌}
 use Rattle.std.proofs.Common.{List, [], ◌∷◌, length, get_or, Result, Ok, Err, refl, sym, ap, subst, ◌∙◌}
 use Rattle.std.proofs.Common.{arith, inl, inr}

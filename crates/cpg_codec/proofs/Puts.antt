@@ -66,6 +66,7 @@ Puts-first a b h m x y r e is p = rw is (fails_first a b h x y p)
 
 -- ---- a loop over a list, with f for the bytes of an element
 
+-- given: the bytes f of an element
 module _ {X : Type 0} (f : X → List ℕ) where
   -- the bytes of i + 1 elements are those of the first i and of the next one
   one_more : (xs : List X) (i : ℕ) (d : X) → i < length xs →

@@ -11,6 +11,7 @@ last_part bytes front rest e =
     let n : length bytes - length rest ≡ length front = omega (arith, ap length e, length-append front rest) in
     ap₂ (λ (n : ℕ) (bs : List ℕ). drop n bs) n e ∙ drop-append_seam front rest
 
+-- given: a reader that reads exactly the spellings of the values that fit
 module _ {A : Type 0} {Fits : A → Type 0} {spell : A → List ℕ} {read : Reader A} (reads : Reads Fits spell read) where
   -- a reader that reads exactly some spellings leaves no more bytes than there were
   pub left_within : (bytes : List ℕ) (x : A) (rest : List ℕ) → read bytes ≡ Ok (x, rest) → length rest ≤ length bytes

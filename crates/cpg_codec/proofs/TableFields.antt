@@ -1,4 +1,5 @@
--- The readers of rows, tables and the whole read exactly the bytes of lawful ones (`Reads`, of Laws).
+-- The readers of rows, tables and the whole read exactly the bytes of lawful ones (`Reads`, of Laws). In the lemmas h
+-- is a head, s has its variables, a is a node, r is a row, rs are rows, and t is a table.
 use Rattle.std.proofs.Common.{◌≡◌, ℕ, zero, suc, ◌+◌, ◌-◌, ◌<◌, ◌≤◌, min, List, [], ◌∷◌, ◌++◌, length, take, drop}
 use Rattle.std.proofs.Common.{get_or, Ok, refl, sym, ap, ap₂, subst, ◌∙◌, arith, take-append-drop}
 use Rattle.std.specs.Prelude.{All, sum_by}
@@ -33,23 +34,23 @@ regroup_2 a b = simp append-nil
 
 -- ---- rows
 
--- a lawful row of the item; with its columns, and `before` of them before, a pack has at most 524,288
-pub record FitsRow (s : VariableSpace) (item before : ℕ) (r : Row) : Type 0 where
+-- a lawful row of the item; with its columns, and `columns_read` before them, a pack has at most 524,288
+pub record FitsRow (s : VariableSpace) (item columns_read : ℕ) (r : Row) : Type 0 where
   -- the row is of this item and lawful
   pub item_is : r.item ≡ item
   pub lawful : IsLawfulRow s r
   -- with the columns before it, the columns are no more than allowed
-  pub room : before + length r.columns ≤ most
+  pub room : columns_read + length r.columns ≤ most
 
 -- the reader of a row reads exactly the bytes of a lawful row of the item that doesn't bring too many columns: how many
 -- columns it has, which is limited by both `MOST_COLUMNS` and the room left, and then these columns
-pub row_reads : (s : VariableSpace) (item before : ℕ) → IsSpace s → before ≤ most →
-    Reads (FitsRow s item before) row_bytes (read_row s item before)
+pub row_reads : (s : VariableSpace) (item columns_read : ℕ) → IsSpace s → columns_read ≤ most →
+    Reads (FitsRow s item columns_read) row_bytes (read_row s item columns_read)
 unfolding read_row
-row_reads s item before i le =
+row_reads s item columns_read i le =
     adapt
     (seq (λ (r : Row). length r.columns)
-    (field_reads 2 0 (min MOST_COLUMNS (most - before)) (omega arith) (omega arith))
+    (field_reads 2 0 (min MOST_COLUMNS (most - columns_read)) (omega arith) (omega arith))
     (λ n fn. seq (λ (r : Row). r.columns)
     (times_reads (IsLawfulColumn s) column_bytes (read_column s) n (λ _. column_reads s i))
     (λ cs fcs. pure_reads (record { item = item; columns = cs }))
@@ -70,13 +71,13 @@ row_reads s item before i le =
     ))
     (λ r h. regroup_2 (to_be_bytes w16 (length r.columns)) (flat_map column_bytes r.columns))
 
--- lawful rows of the items in their order; with their columns, and `before` of them before, a pack has at most 524,288
-pub record FitRows (s : VariableSpace) (items : List ℕ) (before : ℕ) (rs : List Row) : Type 0 where
+-- lawful rows of the items in their order; with their columns, and `columns_read` before them, a pack has at most 524,288
+pub record FitRows (s : VariableSpace) (items : List ℕ) (columns_read : ℕ) (rs : List Row) : Type 0 where
   -- the rows are of these items and lawful
   pub items_are : items_of rs ≡ items
   pub lawful : AllByRecursion (IsLawfulRow s) rs
   -- with the columns before them, their columns are no more than allowed
-  pub room : before + column_count rs ≤ most
+  pub room : columns_read + column_count rs ≤ most
 
 -- a row more at the front adds its columns
 count_more : (r : Row) (rs : List Row) → column_count (r ∷ rs) ≡ length r.columns + column_count rs
@@ -96,10 +97,10 @@ none_last a xs e = cc
 
 -- The reader of rows reads exactly the bytes of lawful rows of these items. `each_reads` goes from item to item with the
 -- number of columns so far; its invariant is that this is within the limit.
-pub rows_reads : (s : VariableSpace) (items : List ℕ) (before : ℕ) → IsSpace s → before ≤ most →
-    Reads (FitRows s items before) (flat_map row_bytes) (read_rows s items before)
+pub rows_reads : (s : VariableSpace) (items : List ℕ) (columns_read : ℕ) → IsSpace s → columns_read ≤ most →
+    Reads (FitRows s items columns_read) (flat_map row_bytes) (read_rows s items columns_read)
 unfolding read_rows
-rows_reads s items before i le =
+rows_reads s items columns_read i le =
     each_reads (λ (c : ℕ) (r : Row). c + length r.columns) (read_row s)
     (λ ls c. c ≤ most) (λ l ls c. FitsRow s l c) row_bytes (λ ls c rs. FitRows s ls c rs)
     (λ l ls c inv. row_reads s l c i inv)
@@ -117,7 +118,7 @@ rows_reads s items before i le =
       record { item_is = p.0; lawful = g.lawful.0; room = omega (arith, count_more r rs, g.room) },
       record { items_are = p.1; lawful = g.lawful.1; room = omega (arith, count_more r rs, g.room) },
     ))
-    items before le
+    items columns_read le
 
 -- ---- a table of its rows
 
@@ -145,7 +146,7 @@ items-drop zero rs = refl
 items-drop (suc n) [] = refl
 items-drop (suc n) (r ∷ rs) = items-drop n rs
 
--- given rows whose items are those of three lists, one after another
+-- given: rows whose items are those of three lists, one after another
 module _ (rs : List Row) (s t u : List ℕ) (e : items_of rs ≡ s ++ (t ++ u)) where
   -- the first rows have the items of the first list
   first_part : items_of (take (length s) rs) ≡ s
@@ -213,21 +214,21 @@ table_again h a t q =
     (ap (take (length (sends_of h a))) b ∙ starts_again (length (sends_of h a)) t.sends t.hears m)
     (ap (drop (length (sends_of h a))) b ∙ rest_again (length (sends_of h a)) t.sends t.hears m)
 
--- a table of the node; with its columns, and `before` of them before, a pack has at most 524,288
-pub record FitsTable (h : Head) (a before : ℕ) (t : NodeTable) : Type 0 where
+-- a table of the node; with its columns, and `columns_read` before them, a pack has at most 524,288
+pub record FitsTable (h : Head) (a columns_read : ℕ) (t : NodeTable) : Type 0 where
   -- the table is one of this node
   pub lawful : IsTableOf h a t
   -- with the columns before it, its columns are no more than allowed
-  pub room : before + column_count (rows_of t) ≤ most
+  pub room : columns_read + column_count (rows_of t) ≤ most
 
 -- the reader of a node's table reads exactly the bytes of a table of the node that doesn't bring too many columns: the
 -- rows of its items, of which the table is made again
-pub table_reads : (h : Head) (a before : ℕ) → IsSpace (space_of h) → before ≤ most →
-    Reads (FitsTable h a before) table_bytes (read_node_table h a before)
+pub table_reads : (h : Head) (a columns_read : ℕ) → IsSpace (space_of h) → columns_read ≤ most →
+    Reads (FitsTable h a columns_read) table_bytes (read_node_table h a columns_read)
 unfolding read_node_table
-table_reads h a before i le =
+table_reads h a columns_read i le =
     adapt
-    (seq rows_of (rows_reads (space_of h) (items_of_node h a) before i le)
+    (seq rows_of (rows_reads (space_of h) (items_of_node h a) columns_read i le)
     (λ rs frs. pure_reads (table_from h a rs))
     (λ rs t frs q. ap rows_of q ∙ rows_again h a rs))
     (λ t q. record {
@@ -258,15 +259,15 @@ AreFor P (l ∷ ls) (x ∷ xs) = P l x × AreFor P ls xs
 abbrev pub columns_of : NodeTable → ℕ
 columns_of t = column_count (rows_of t)
 
--- a table for each node of the list; with their columns, and `before` of them before, a pack has at most 524,288
-pub record FitNodes (h : Head) (labels : List ℕ) (before : ℕ) (ts : List NodeTable) : Type 0 where
+-- a table for each node of the list; with their columns, and `columns_read` before them, a pack has at most 524,288
+pub record FitNodes (h : Head) (labels : List ℕ) (columns_read : ℕ) (ts : List NodeTable) : Type 0 where
   -- there is a lawful table for each label
   pub lawful : AreFor (IsTableOf h) labels ts
   -- with the columns before them, their columns are no more than allowed
-  pub room : before + sum_by columns_of ts ≤ most
+  pub room : columns_read + sum_by columns_of ts ≤ most
 
--- the reader of the nodes reads exactly the bytes of a table for each node, with at most 524,288 columns in all. By
--- `each_reads`, with the number of columns so far
+-- The reader of the nodes reads exactly the bytes of a table for each node, with at most 524,288 columns in all. By
+-- `each_reads`, with the number of columns so far.
 pub nodes_reads : (h : Head) → IsSpace (space_of h) →
     Reads (FitNodes h (numbers_from 0 (length h.nodes)) 0) (flat_map table_bytes) (read_nodes h)
 unfolding read_nodes
@@ -286,6 +287,7 @@ nodes_reads h i =
     ))
     (numbers_from 0 (length h.nodes)) 0 (omega arith)
 
+-- given: a fact P of a label and a value
 module _ {A : Type 0} (P : ℕ → A → Type 0) (d : A) where
   -- there are as many values as labels, from i on
   pub for_count : (i n : ℕ) (xs : List A) → AreFor P (numbers_from i n) xs → length xs ≡ n
@@ -359,12 +361,12 @@ tables_reads =
 
 -- rows that the grammar reads for the items of a node are the lawful rows of the node, as `rows_reads` says of what it
 -- takes
-pub rows_are_of : (h : Head) (a : ℕ) (s : VariableSpace) (items : List ℕ) (before : ℕ) (bytes : List ℕ) (rs : List Row)
-    (rest : List ℕ) → IsSpace s → before ≤ most →
+pub rows_are_of : (h : Head) (a : ℕ) (s : VariableSpace) (items : List ℕ) (columns_read : ℕ) (bytes : List ℕ) (rs : List Row)
+    (rest : List ℕ) → IsSpace s → columns_read ≤ most →
     s ≡ space_of h →
-    items ≡ items_of_node h a → read_rows s items before bytes ≡ Ok (rs, rest) → AreRowsOf h a rs
-rows_are_of h a s items before bytes rs rest i le f g e =
-    let k = (rows_reads s items before i le).takes bytes rs rest e in
+    items ≡ items_of_node h a → read_rows s items columns_read bytes ≡ Ok (rs, rest) → AreRowsOf h a rs
+rows_are_of h a s items columns_read bytes rs rest i le f g e =
+    let k = (rows_reads s items columns_read i le).takes bytes rs rest e in
     record {
       items = k.0.items_are ∙ g;
       lawful =

@@ -9,11 +9,11 @@ use Rattle.cpg_codec.proofs.TableFields.{row_reads}
 
 -- if bytes begin with the spelling of a lawful row of the item, which doesn't bring too many columns, the grammar reads just
 -- it
-pub row_taken : (s : VariableSpace) (item before : ℕ) (r : Row) (bytes rest : List ℕ) → IsSpace s → before ≤ most →
+pub row_taken : (s : VariableSpace) (item columns_read : ℕ) (r : Row) (bytes rest : List ℕ) → IsSpace s → columns_read ≤ most →
     r.item ≡ item → IsLawfulRow s r →
-    before + length r.columns ≤ most →
+    columns_read + length r.columns ≤ most →
     bytes ≡ row_bytes r ++ rest
-    → read_row s item before bytes ≡ Ok (r, rest)
-row_taken s item before r bytes rest i le same lawful few e =
-    ap (read_row s item before) e
-    ∙ (row_reads s item before i le).again r rest (record { item_is = same; lawful = lawful; room = few })
+    → read_row s item columns_read bytes ≡ Ok (r, rest)
+row_taken s item columns_read r bytes rest i le same lawful few e =
+    ap (read_row s item columns_read) e
+    ∙ (row_reads s item columns_read i le).again r rest (record { item_is = same; lawful = lawful; room = few })

@@ -11,6 +11,6 @@ one_more f xs x = flat_map-append f xs (x ∷ []) ∙ ap (λ (t : List ℕ). fla
 -- elements and what is left
 pub taken_more : {X : Type 0} (f : X → List ℕ) (xs more : List X) (x : X) (bytes rest left : List ℕ) →
     bytes ≡ flat_map f xs ++ rest → rest ≡ f x ++ left → more ≡ xs ++ x ∷ [] → bytes ≡ flat_map f more ++ left
-taken_more f xs more x bytes rest left before taken is =
-    before ∙ ap (λ (t : List ℕ). flat_map f xs ++ t) taken ∙ sym (append_assoc (flat_map f xs) (f x) left)
+taken_more f xs more x bytes rest left so_far taken is =
+    so_far ∙ ap (λ (t : List ℕ). flat_map f xs ++ t) taken ∙ sym (append_assoc (flat_map f xs) (f x) left)
     ∙ ap (λ (t : List ℕ). t ++ left) (sym (one_more f xs x)) ∙ ap (λ (ys : List _). flat_map f ys ++ left) (sym is)

@@ -1,4 +1,6 @@
--- A head and its parts, among them the processes with what version 2 adds to each (`Written`).
+-- A head and its parts, among them the processes with what version 2 adds to each (`Written`). In the lemmas v is a
+-- version, k the most faults, n how many nodes there are and ns their names; p and ps are processes, ws written ones;
+-- es are extras, or the edges of a head.
 use Rattle.std.proofs.Common.{◌≡◌, ℕ, zero, suc, ◌+◌, ◌<◌, ◌≤◌, Bool, true, false, cond, eqb, List, [], ◌∷◌, ◌++◌}
 use Rattle.std.proofs.Common.{length, get_or, map, Option, Some, None, refl, sym, ap, ap₂, subst, ◌∙◌, arith}
 use Rattle.std.specs.Prelude.{All, IfSome, is_some, unwrap_or, count_by, slice_get, option_and_then}

@@ -52,16 +52,16 @@ read_extra version = if version == 2
       pure (Some (record { release = release; deadline = deadline })))
     else pure None
 
--- reads the node of a process, and its flag: 1 if it has a condition. `ones` processes before it have one; if these are
--- 32, the flag is 0
+-- Reads the node of a process, and its flag: 1 if it has a condition. `ones` processes before it have one; if these are
+-- 32, the flag is 0.
 unfoldable pub read_place : ℕ → ℕ → Reader (ℕ × ℕ)
 read_place nodes ones = do
   node ← read_small 0 (nodes - 1)
   flag ← read_small 0 (if nat_lt ones MOST_CONDITIONS then 1 else 0)
   pure (node, flag)
 
--- reads a process and what the version adds to it; `ones` processes before it have a condition. Its times are those of
--- executions with 0 to `faults` faults
+-- Reads a process and what the version adds to it; `ones` processes before it have a condition. Its times are those of
+-- executions with 0 to `faults` faults.
 unfoldable pub read_process : ℕ → ℕ → ℕ → ℕ → Reader Written
 read_process version faults nodes ones = do
   name ← read_name
@@ -182,16 +182,16 @@ read_column s = do
 abbrev pub most : ℕ
 most = MOST_LOAD
 
--- reads the row of an item: how many columns it has, and these; the rows before it in the pack have `before` columns
+-- reads the row of an item: how many columns it has, and these; the rows before it in the pack have `columns_read` columns
 unfoldable pub read_row : VariableSpace → ℕ → ℕ → Reader Row
-read_row s item before = do
-  count ← read_number 2 (within 0 (min MOST_COLUMNS (most - before)))
+read_row s item columns_read = do
+  count ← read_number 2 (within 0 (min MOST_COLUMNS (most - columns_read)))
   columns ← read_repeated (read_column s) count
   pure (record { item = item; columns = columns })
 
--- reads a row for each of these items; the state is how many columns have been read, `before` at first
+-- reads a row for each of these items; the state is how many columns have been read, `columns_read` at first
 unfoldable pub read_rows : VariableSpace → List ℕ → ℕ → Reader (List Row)
-read_rows s items before = read_each (λ (c : ℕ) (r : Row). c + length r.columns) (read_row s) items before
+read_rows s items columns_read = read_each (λ (c : ℕ) (r : Row). c + length r.columns) (read_row s) items columns_read
 
 -- the items of a node's rows in their order: what it starts, what it sends, what it hears
 abbrev pub items_of_node : Head → ℕ → List ℕ
@@ -208,10 +208,10 @@ table_from h node rows = record {
   hears = drop (length (sends_of h node)) (drop (length (starts_of h node)) rows);
 }
 
--- reads the table of a node; those of the nodes before it have `before` columns
+-- reads the table of a node; those of the nodes before it have `columns_read` columns
 unfoldable pub read_node_table : Head → ℕ → ℕ → Reader NodeTable
-read_node_table h node before = do
-  rows ← read_rows (space_of h) (items_of_node h node) before
+read_node_table h node columns_read = do
+  rows ← read_rows (space_of h) (items_of_node h node) columns_read
   pure (table_from h node rows)
 
 -- the n numbers from i on
@@ -231,8 +231,8 @@ read_tables = do
   nodes ← read_nodes head
   pure (record { head = head; nodes = nodes })
 
--- what a reading of `size` bytes says of them all: the tables if no byte is left, or else the place of the first byte
--- that no pack has after those before it. That is `size` if the bytes end too early
+-- What a reading of `size` bytes says of them all: the tables if no byte is left, or else the place of the first byte
+-- that no pack has after those before it. That is `size` if the bytes end too early.
 abbrev pub whole : ℕ → Result (Tables × List ℕ) ℕ → Result Tables ℕ
 whole size (Ok (tables, [])) = Ok tables
 whole size (Ok (tables, b ∷ rest)) = Err (size - suc (length rest))

@@ -133,6 +133,7 @@ fn named(alloc: Global, text: &[u8]) -> Result<Name, OutOfMemory>
     };
     match Name::new(alloc, text)? {
         Some(name) => Ok(name),
+        // the text is that of a name
         None => unreachable!(),
     }
 }

@@ -282,6 +282,7 @@ fn parts_of(alloc: Global, bytes: &[u8]) -> Result<(HeadParts, &[u8]), ReadError
     let (_text, rest) = number_of(bytes, 4, MAGIC, MAGIC)?;
     let (version, rest) = small_of(rest, 1, 2)?;
     let (faults, rest) = small_of(rest, 0, MOST_FAULTS)?;
+    // at most 16 nodes, so the limit fits a byte
     let (names, rest) = small_of(rest, 0, MOST_NODES as u8)?;
     let (nodes, rest) = names_of(alloc, rest, names)?;
     parts_behind(alloc, rest, version, faults, names, nodes)
@@ -303,6 +304,7 @@ fn joined(parts: HeadParts) -> Head
     }
     match head.with_extras(parts.extras) {
         Some(head) => head,
+        // version 2 adds something lawful to each process
         None => unreachable!(),
     }
 }

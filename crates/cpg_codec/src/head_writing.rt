@@ -138,6 +138,7 @@ fn put_processes<O: Sink>(buffer: &mut Buffer, sink: &mut O, head: &Head) -> Res
     ensures cause { HasCause (O.state sink.old).faults (O.state sink.new).faults result }
 {
     let processes = head.processes();
+    // at most 128 processes, so their number fits a `u32`
     let count = processes.len() as u32;
     for number in 0..count {
         let extra = extra_of(head, number);

@@ -37,9 +37,9 @@ fn nodes_of(
     let count = head.nodes().len() as u32;
     for node in 0..count {
         let items = NodeItems::of(alloc, head, node)?;
-        let (table, now) = table_of(alloc, unread, head, space, node, items.all(), total)?;
+        let (table, with_table) = table_of(alloc, unread, head, space, node, items.all(), total)?;
         nodes.push(table)?;
-        total = now;
+        total = with_table;
     }
     Ok(nodes)
 }
@@ -76,7 +76,7 @@ fn answer_of(alloc: Global, bytes: Vec<u8>) -> Result<Tables, PackFault>
     match tables_of(alloc, &mut unread) {
         Ok(tables) => {
             let rest = unread.rest();
-            // bytes after a pack: the first of them is bad. No more bytes are left than there were
+            // Bytes after a pack: the first of them is bad. No more bytes are left than there were.
             if !rest.is_empty() {
                 return Err(PackFault::BadPack(size.saturating_sub(rest.len()) as u64));
             }

@@ -1,8 +1,8 @@
 //! Reading rows and their columns.
 //!
 //! Each function that takes `bytes` returns what it read, and the bytes after it. It fails with `Left` at the first byte
-//! that no pack has there; with `alloc` it may also fail with `Memory`, if memory runs out. `before` is how many columns
-//! were read before in the pack.
+//! that no pack has there; with `alloc` it may also fail with `Memory`, if memory runs out. `columns_read` is how many
+//! columns were read in the pack up to there.
 ghost use Rattle.std.specs.Prelude.{◌≡◌, ◌≤◌, ◌<◌, ◌+◌, ◌-◌, ◌*◌, ◌^◌, IsTrue, true, ℕ, suc, List, length, Ok, Err, IfOk, if◌then◌else◌, nat_lt};
 ghost use Rattle.cpg_cube.specs.declared.literal.Literal.{Literal};
 ghost use Rattle.cpg_cube.specs.Cube.{IsRising};
@@ -240,19 +240,19 @@ fn row_by_fields<'a>(
     bytes: &'a [u8],
     space: &VariableSpace,
     item: u32,
-    before: u64,
+    columns_read: u64,
 ) -> Result<(Row, u64, &'a [u8]), ReadError>
     requires space { IsSpace space.now }
-    requires before { before ≤ MOST_LOAD }
-    ensures gives { Gives (λ x. (x.0, x.2.now)) result (read_row space.now item before bytes.now) }
-    ensures total { IfOk result (λ x. (x.1 ≡ before + length x.0.columns) × (x.1 ≤ MOST_LOAD)) }
+    requires few { columns_read ≤ MOST_LOAD }
+    ensures gives { Gives (λ x. (x.0, x.2.now)) result (read_row space.now item columns_read bytes.now) }
+    ensures total { IfOk result (λ x. (x.1 ≡ columns_read + length x.0.columns) × (x.1 ≤ MOST_LOAD)) }
 {
-    // `before` is at most MOST_LOAD: the difference is how many columns the pack may still have
-    let most = MOST_LOAD.saturating_sub(before).min(MOST_COLUMNS);
+    // `columns_read` is at most MOST_LOAD: the difference is how many columns the pack may still have
+    let most = MOST_LOAD.saturating_sub(columns_read).min(MOST_COLUMNS);
     let (count, rest) = number_of(bytes, 2, 0, most)?;
     // it was read from two bytes
     let (columns, rest) = columns_of(alloc, rest, space, count as u16)?;
-    Ok((Row::new(item, columns), before + count, rest))
+    Ok((Row::new(item, columns), columns_read + count, rest))
 }
 
 /// Reads the row of an item, and returns with it how many columns were read up to its end. `held` is memory for
@@ -263,18 +263,18 @@ fn row_of<'a>(
     bytes: &'a [u8],
     space: &VariableSpace,
     item: u32,
-    before: u64,
+    columns_read: u64,
 ) -> Result<(Row, u64, &'a [u8]), ReadError>
     requires space { IsSpace space.now }
-    requires before { before ≤ MOST_LOAD }
-    ensures gives { Gives (λ x. (x.0, x.2.now)) result (read_row space.now item before bytes.now) }
-    ensures total { IfOk result (λ x. (x.1 ≡ before + length x.0.columns) × (x.1 ≤ MOST_LOAD)) }
+    requires few { columns_read ≤ MOST_LOAD }
+    ensures gives { Gives (λ x. (x.0, x.2.now)) result (read_row space.now item columns_read bytes.now) }
+    ensures total { IfOk result (λ x. (x.1 ≡ columns_read + length x.0.columns) × (x.1 ≤ MOST_LOAD)) }
 {
-    match take_lawful(alloc, held, bytes, space, item, before) {
+    match take_lawful(alloc, held, bytes, space, item, columns_read) {
         Ok(taken) => Ok(taken),
         Err(Untaken::Memory) => Err(ReadError::Memory),
         // it may be no lawful row: reading it field by field finds the bad byte, if there is one
-        Err(Untaken::Odd) => row_by_fields(alloc, bytes, space, item, before),
+        Err(Untaken::Odd) => row_by_fields(alloc, bytes, space, item, columns_read),
     }
 }
 
@@ -285,14 +285,14 @@ fn next_row(
     unread: &mut Unread,
     space: &VariableSpace,
     item: u32,
-    before: u64,
+    columns_read: u64,
 ) -> Result<(Row, u64), ReadError>
     requires space { IsSpace space.now }
-    requires before { before ≤ MOST_LOAD }
-    ensures gives { Gives (λ x. (x.0, unread.new)) result (read_row space.now item before unread.old) }
-    ensures total { IfOk result (λ x. (x.1 ≡ before + length x.0.columns) × (x.1 ≤ MOST_LOAD)) }
+    requires few { columns_read ≤ MOST_LOAD }
+    ensures gives { Gives (λ x. (x.0, unread.new)) result (read_row space.now item columns_read unread.old) }
+    ensures total { IfOk result (λ x. (x.1 ≡ columns_read + length x.0.columns) × (x.1 ≤ MOST_LOAD)) }
 {
-    let (row, total, rest) = row_of(alloc, held, unread.rest(), space, item, before)?;
+    let (row, total, rest) = row_of(alloc, held, unread.rest(), space, item, columns_read)?;
     let left = rest.len();
     unread.read_to(left);
     Ok((row, total))
@@ -304,19 +304,19 @@ fn rows_of(
     unread: &mut Unread,
     space: &VariableSpace,
     items: &[u32],
-    before: u64,
+    columns_read: u64,
 ) -> Result<(Vec<Row>, u64), ReadError>
     requires space { IsSpace space.now }
-    requires before { before ≤ MOST_LOAD }
-    ensures gives { Gives (λ x. (x.0.items, unread.new)) result (read_rows space.now items.now before unread.old) }
-    ensures total { IfOk result (λ x. (x.1 ≡ before + column_count x.0.items) × (x.1 ≤ MOST_LOAD)) }
+    requires few { columns_read ≤ MOST_LOAD }
+    ensures gives { Gives (λ x. (x.0.items, unread.new)) result (read_rows space.now items.now columns_read unread.old) }
+    ensures total { IfOk result (λ x. (x.1 ≡ columns_read + column_count x.0.items) × (x.1 ≤ MOST_LOAD)) }
 {
     let mut held = Vec::new(alloc);
     let mut rows = Vec::with_capacity(alloc, items.len())?;
-    let mut total = before;
+    let mut total = columns_read;
     for item in items {
-        let (row, now) = next_row(alloc, &mut held, unread, space, *item, total)?;
-        total = now;
+        let (row, with_row) = next_row(alloc, &mut held, unread, space, *item, total)?;
+        total = with_row;
         rows.push(row)?;
     }
     Ok((rows, total))
@@ -332,16 +332,16 @@ pub fn table_of(
     space: &VariableSpace,
     node: u32,
     items: &[u32],
-    before: u64,
+    columns_read: u64,
 ) -> Result<(NodeTable, u64), ReadError>
     requires space { space.now ≡ space_of head.now }
     requires within { IsSpace space.now }
-    requires before { before ≤ MOST_LOAD }
+    requires few { columns_read ≤ MOST_LOAD }
     requires items { items.now ≡ items_of_node head.now node }
-    ensures gives { Gives (λ x. (x.0, unread.new)) result (read_node_table head.now node before unread.old) }
-    ensures total { IfOk result (λ x. (x.1 ≡ before + column_count (rows_of x.0)) × (x.1 ≤ MOST_LOAD)) }
+    ensures gives { Gives (λ x. (x.0, unread.new)) result (read_node_table head.now node columns_read unread.old) }
+    ensures total { IfOk result (λ x. (x.1 ≡ columns_read + column_count (rows_of x.0)) × (x.1 ≤ MOST_LOAD)) }
 {
-    let (rows, total) = rows_of(alloc, unread, space, items, before)?;
+    let (rows, total) = rows_of(alloc, unread, space, items, columns_read)?;
     let table = NodeTable::of_rows(alloc, head, node, rows)?;
     Ok((table, total))
 }

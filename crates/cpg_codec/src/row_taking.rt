@@ -238,28 +238,28 @@ fn skip_same<'a>(literals: &[Literal], bytes: &'a [u8], most: usize) -> (usize, 
     (same + ones, rest)
 }
 
-/// Returns the cube of the first `count` literals of `bytes`, all lawful, and the bytes after them. Those that the column
-/// before, `before`, begins with are lawful and aren't judged again; `held` takes the others.
+/// Returns the cube of the first `count` literals of `bytes`, all lawful, and the bytes after them. Those that it has in
+/// common with the front of `previous`, the literals of the column before, aren't judged again; `held` takes the others.
 fn take_cube<'a>(
     alloc: Global,
     held: &mut Vec<Literal>,
-    before: &[Literal],
+    previous: &[Literal],
     bytes: &'a [u8],
     space: &VariableSpace,
     count: u8,
 ) -> Result<(Cube, &'a [u8]), Untaken>
     requires space { IsSpace space.now }
-    requires rising { IsRising before.now }
-    requires lawful { All (IsLawfulLiteral space.now) before.now }
+    requires rising { IsRising previous.now }
+    requires lawful { All (IsLawfulLiteral space.now) previous.now }
     ensures taken { IfOk result (λ x. bytes.now ≡ flat_map literal_bytes x.0 ++ x.1.now) }
     ensures count { IfOk result (λ x. length x.0 ≡ count) }
     ensures lawful { IfOk result (λ x. All (IsLawfulLiteral space.now) x.0) }
 {
-    let (same, rest) = skip_same(before, bytes, count as usize);
+    let (same, rest) = skip_same(previous, bytes, count as usize);
     // at most `count` are the same, so their number fits a byte
     let rest = take_literals(held, rest, count - same as u8)?;
     // the variables don't rise
-    let Some(cube) = Cube::joined(alloc, &before[..same], held.as_slice())? else {
+    let Some(cube) = Cube::joined(alloc, &previous[..same], held.as_slice())? else {
         return Err(Untaken::Odd);
     };
     // a literal may not be lawful
@@ -269,18 +269,18 @@ fn take_cube<'a>(
     Ok((cube, rest))
 }
 
-/// Returns a lawful column, and the bytes after it. `before` are the literals of the column before, and `held` takes those
-/// from the first on that differs.
+/// Returns a lawful column, and the bytes after it. `previous` are the literals of the column before, and `held` takes
+/// those from the first on that differs.
 fn take_column<'a>(
     alloc: Global,
     held: &mut Vec<Literal>,
-    before: &[Literal],
+    previous: &[Literal],
     bytes: &'a [u8],
     space: &VariableSpace,
 ) -> Result<(Column, &'a [u8]), Untaken>
     requires space { IsSpace space.now }
-    requires rising { IsRising before.now }
-    requires lawful { All (IsLawfulLiteral space.now) before.now }
+    requires rising { IsRising previous.now }
+    requires lawful { All (IsLawfulLiteral space.now) previous.now }
     ensures taken { IfOk result (λ x. bytes.now ≡ column_bytes x.0 ++ x.1.now) }
     ensures lawful { IfOk result (λ x. IsLawfulColumn space.now x.0) }
 {
@@ -289,7 +289,7 @@ fn take_column<'a>(
     if time >= TIME_END {
         return Err(Untaken::Odd);
     }
-    let (cube, rest) = take_cube(alloc, held, before, rest, space, count)?;
+    let (cube, rest) = take_cube(alloc, held, previous, rest, space, count)?;
     Ok((Column { time, cube }, rest))
 }
 
@@ -322,8 +322,8 @@ fn take_columns<'a>(
     let mut rest = bytes;
     // columns are compared with the one before; the first, with no literals
     for _ in 0..count {
-        let before = last_literals(space, columns.as_slice());
-        let (column, after) = take_column(alloc, held, before, rest, space)?;
+        let previous = last_literals(space, columns.as_slice());
+        let (column, after) = take_column(alloc, held, previous, rest, space)?;
         columns.push(column)?;
         rest = after;
     }
@@ -358,22 +358,22 @@ fn take_row<'a>(
 }
 
 /// Returns the row of an item that `bytes` begin with, how many columns were read up to its end, and the bytes after it.
-/// `before` columns were read before in the pack; `held` is memory for literals, used again from row to row.
+/// `columns_read` columns were read before it in the pack; `held` is memory for literals, used again from row to row.
 pub fn take_lawful<'a>(
     alloc: Global,
     held: &mut Vec<Literal>,
     bytes: &'a [u8],
     space: &VariableSpace,
     item: u32,
-    before: u64,
+    columns_read: u64,
 ) -> Result<(Row, u64, &'a [u8]), Untaken>
     requires space { IsSpace space.now }
-    requires before { before ≤ MOST_LOAD }
-    ensures taken { IfOk result (λ x. read_row space.now item before bytes.now ≡ Ok (x.0, x.2.now)) }
-    ensures total { IfOk result (λ x. (x.1 ≡ before + length x.0.columns) × (x.1 ≤ MOST_LOAD)) }
+    requires few { columns_read ≤ MOST_LOAD }
+    ensures taken { IfOk result (λ x. read_row space.now item columns_read bytes.now ≡ Ok (x.0, x.2.now)) }
+    ensures total { IfOk result (λ x. (x.1 ≡ columns_read + length x.0.columns) × (x.1 ≤ MOST_LOAD)) }
 {
-    let most = (MOST_LOAD - before).min(MOST_COLUMNS);
+    let most = (MOST_LOAD - columns_read).min(MOST_COLUMNS);
     let (row, rest) = take_row(alloc, held, bytes, space, item, most)?;
-    let total = before + row.columns().len() as u64;
+    let total = columns_read + row.columns().len() as u64;
     Ok((row, total, rest))
 }

@@ -9,7 +9,7 @@ use Rattle.cpg_reach.specs.Wide.{IsNarrow}
 use Rattle.cpg_run.specs.declared.built.Built.{Built}
 use Rattle.cpg_run.specs.Built.{IsBuiltFor}
 use Rattle.cpg_run.proofs.BuiltTables.{admitted_under, found_tables_are_built}
-use Rattle.cpg_expand.proofs.WideRowsMade.{tables_fit}
+use Rattle.cpg_core.proofs.WideRowsMade.{tables_fit}
 use Rattle.cpg_built_laws.proofs.TablesExist.{tables_exist}
 use Rattle.cpg_core.specs.CompileLaws.{AcceptedHaveTables}
 use Rattle.cpg_core.proofs.Compilations.{compilation}

@@ -18,10 +18,10 @@ use Rattle.cpg_reach.specs.Wide.{IsNarrow}
 use Rattle.cpg_core.specs.Compiled.{IsCompileOrder, IsMeasured, IsLateUnder, IsInTimeUnder}
 use Rattle.cpg_core.specs.Compilation.{IsCompilation}
 use Rattle.cpg_core.proofs.Local.{know_locally}
-use Rattle.cpg_expand.specs.declared.expanding.Grown.{Grown}
+use Rattle.cpg_core.specs.declared.expanding.Grown.{Grown}
 use Rattle.cpg_tree_columns.specs.declared.measuring.Peak.{Peak}
-use Rattle.cpg_expand.specs.GrownFor.{IsGrownFor}
-use Rattle.cpg_expand.specs.WideRows.{DoTablesFit}
+use Rattle.cpg_core.specs.GrownFor.{IsGrownFor}
+use Rattle.cpg_core.specs.WideRows.{DoTablesFit}
 use Rattle.cpg_run.specs.declared.built.Built.{Built}
 use Rattle.cpg_run.specs.Built.{IsBuiltFor}
 use Rattle.cpg_run.specs.Laws.{Keeps}
@@ -156,7 +156,8 @@ pub some_shown : (g : Graph) (urgency order : List ℕ) (t : Grown) → IsGrownF
     t.excess.process ≡ None → ⊥
 some_shown g urgency order t is l e = omega (arith, nothing_late g urgency order t.trees.frozen t.excess is.excess e)
 
--- given: the orders of a well-formed graph
+-- given: a well-formed graph without joins of two live inputs (`joins`), and its urgency order
+-- `first_top`: its first order is topological; `narrow`: if it gives no order, no item is too wide under that
 module _ (g : Graph) (w : WellFormed g) (urgency : List ℕ) (top : IsTopological g urgency)
     (first_top : IsTopological g (first_order g urgency))
     (narrow : g.order ≡ None → IsNarrow g (first_order g urgency))

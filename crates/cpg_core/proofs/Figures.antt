@@ -6,8 +6,8 @@ use Rattle.cpg_base.specs.WellFormed.{WellFormed}
 use Rattle.cpg_order.specs.Urgency.{IsTopological, first_order}
 use Rattle.cpg_reach.specs.Wide.{IsNarrow, IsWide}
 use Rattle.cpg_tracks.specs.Tracks.{HasManyTracks, HasTrackOrder}
-use Rattle.cpg_expand.specs.GrownFor.{IsGrownFor}
-use Rattle.cpg_expand.specs.declared.expanding.Grown.{Grown}
+use Rattle.cpg_core.specs.GrownFor.{IsGrownFor}
+use Rattle.cpg_core.specs.declared.expanding.Grown.{Grown}
 use Rattle.cpg_latest.specs.Laws.{HasFigures}
 use Rattle.cpg_core.specs.Accepted.{IsAccepted, IsTaken, ShowsNoFinish, order_taken}
 use Rattle.cpg_core.specs.Compilation.{ShowsCompileFault}
@@ -27,14 +27,15 @@ pub figures_measure : (g : Graph) → WellFormed g → (urgency order : List ℕ
 figures_measure g w urgency order top excess worst h =
     measured_from g w urgency order top h.frozen h.times excess worst h.greatest
 
+-- given: a well-formed graph whose urgency order and first order are topological
 module _ (g : Graph) (w : WellFormed g) (urgency : List ℕ) (top : IsTopological g urgency)
     (first_top : IsTopological g (first_order g urgency)) where
   -- given: the figures of the first order
   module _ (narrow : g.order ≡ None → IsNarrow g (first_order g urgency)) (e v : ℕ)
-      (first : HasFigures g (first_order g urgency) e v) where
+      (has_figures : HasFigures g (first_order g urgency) e v) where
     -- the figures measure the first order
     own : IsMeasured g urgency (first_order g urgency) e v
-    own = figures_measure g w urgency (first_order g urgency) first_top e v first
+    own = figures_measure g w urgency (first_order g urgency) first_top e v has_figures
 
     -- the first order, as the order that is taken
     abbrev pub by_first : TakenOrder
@@ -123,38 +124,39 @@ module _ (g : Graph) (w : WellFormed g) (urgency : List ℕ) (top : IsTopologica
     pub first_same : (order : List ℕ) → HasTrackOrder g order → order ≡ first_order g urgency →
         IsTaken g urgency by_first
     first_same order track same =
-        first_better (first_order g urgency) (subst (HasTrackOrder g) same track) first_top e v first
+        first_better (first_order g urgency) (subst (HasTrackOrder g) same track) first_top e v has_figures
         (λ better. elim better [ inl less ↦ omega (arith, less) | inr earlier ↦ omega (arith, earlier.1) ])
 
   -- ---- what is found by the trees of the first order
 
-  module _ (first : Grown) (is : IsGrownFor g urgency (first_order g urgency) first) where
+  -- given: what is grown under the first order
+  module _ (grown : Grown) (is : IsGrownFor g urgency (first_order g urgency) grown) where
     -- if something is late under the first order, the trees that are grown for it have an excess
-    pub grown_late : IsLateUnder g urgency (first_order g urgency) → 0 < first.excess.time
-    grown_late h = let same = one_measure g w urgency (first_order g urgency) first_top first.excess.time
-        first.worst.time h.0 h.1 (found_measured g urgency (first_order g urgency) first is) h.2 in
+    pub grown_late : IsLateUnder g urgency (first_order g urgency) → 0 < grown.excess.time
+    grown_late h = let same = one_measure g w urgency (first_order g urgency) first_top grown.excess.time
+        grown.worst.time h.0 h.1 (found_measured g urgency (first_order g urgency) grown is) h.2 in
         omega (arith, same.0, h.3)
 
     -- if the first order has no excess, the trees that are grown for it have none
-    pub grown_in_time : (e v : ℕ) → IsMeasured g urgency (first_order g urgency) e v → e ≡ 0 → first.excess.time ≡ 0
-    grown_in_time e v m z = (one_measure g w urgency (first_order g urgency) first_top first.excess.time
-        first.worst.time e v (found_measured g urgency (first_order g urgency) first is) m).0 ∙ z
+    pub grown_in_time : (e v : ℕ) → IsMeasured g urgency (first_order g urgency) e v → e ≡ 0 → grown.excess.time ≡ 0
+    grown_in_time e v m z = (one_measure g w urgency (first_order g urgency) first_top grown.excess.time
+        grown.worst.time e v (found_measured g urgency (first_order g urgency) grown is) m).0 ∙ z
 
     -- if the graph has many tracks, the first order is taken
     pub grown_many : (g.order ≡ None → IsNarrow g (first_order g urgency)) → HasManyTracks g →
         IsTaken g urgency
-        (record { figures = record { excess = first.excess.time; worst = first.worst.time }; order = None })
+        (record { figures = record { excess = grown.excess.time; worst = grown.worst.time }; order = None })
     grown_many narrow many =
-        let found = found_measured g urgency (first_order g urgency) first is in
+        let found = found_measured g urgency (first_order g urgency) grown is in
         record {
           taken = inr (
             refl,
-            not_preferred_many g w urgency top first_top narrow first.excess.time first.worst.time found many,
+            not_preferred_many g w urgency top first_top narrow grown.excess.time grown.worst.time found many,
           );
           measured = found;
           topological = tt;
           narrow = tt;
-          late = λ l. ((first.excess.time, first.worst.time, found, l), inr (inl many));
+          late = λ l. ((grown.excess.time, grown.worst.time, found, l), inr (inl many));
         }
 
   -- if an order has no excess, the trees that are grown for it have none

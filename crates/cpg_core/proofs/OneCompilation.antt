@@ -17,6 +17,7 @@ use Rattle.cpg_core.specs.CompileLaws.{AskTheSame}
 use Rattle.cpg_core.proofs.BuiltUnique.{one_worst}
 use Rattle.cpg_core.proofs.CompiledLaws.{compile_topological, one_compile_order}
 
+-- given: a well-formed graph whose urgency order and first order are topological
 module _ (g : Graph) (w : WellFormed g) (urgency : List ℕ) (top : IsTopological g urgency)
     (first_top : IsTopological g (first_order g urgency)) where
   -- given: two builds under one order

@@ -8,11 +8,11 @@ use Rattle.cpg_reach.specs.Wide.{IsNarrow}
 use Rattle.cpg_table.specs.Writing.{AreWritable}
 use Rattle.cpg_run.specs.Built.{IsBuiltFor}
 use Rattle.cpg_built_laws.proofs.TablesExist.{is_written, written}
-use Rattle.cpg_expand.specs.BuiltRows.{AreBuiltRows, IsAssembledOf, built_of}
-use Rattle.cpg_expand.specs.declared.built_rows.BuiltRows.{BuiltRows}
-use Rattle.cpg_expand.specs.declared.expanding.Grown.{Grown}
+use Rattle.cpg_core.specs.BuiltRows.{AreBuiltRows, IsAssembledOf, built_of}
+use Rattle.cpg_core.specs.declared.built_rows.BuiltRows.{BuiltRows}
+use Rattle.cpg_core.specs.declared.expanding.Grown.{Grown}
 use Rattle.cpg_tree_columns.specs.declared.measuring.Peak.{Peak}
-use Rattle.cpg_expand.proofs.RowsBuilt.{built_fit, built_tables, built_writable}
+use Rattle.cpg_core.proofs.RowsBuilt.{built_fit, built_tables, built_writable}
 use Rattle.cpg_core.specs.declared.compiling.Compiled.{Compiled}
 use Rattle.cpg_core.specs.Compilation.{AreCompiledRows, IsCompilation}
 use Rattle.cpg_core.specs.Compiled.{IsCompileOrder}

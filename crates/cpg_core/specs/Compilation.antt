@@ -5,12 +5,12 @@ use Rattle.cpg_order.specs.Urgency.{first_order}
 use Rattle.cpg_table.specs.Lawful.{Tables}
 use Rattle.cpg_table.specs.Valid.{IsValid}
 use Rattle.cpg_table.specs.Writing.{AreTablesWith, AreWritable}
-use Rattle.cpg_expand.specs.BuiltRows.{built_of}
-use Rattle.cpg_expand.specs.declared.built_rows.BuiltRows.{BuiltRows}
-use Rattle.cpg_expand.specs.declared.expanding.Grown.{Grown}
-use Rattle.cpg_expand.specs.GrownFor.{IsGrownFor}
+use Rattle.cpg_core.specs.BuiltRows.{built_of}
+use Rattle.cpg_core.specs.declared.built_rows.BuiltRows.{BuiltRows}
+use Rattle.cpg_core.specs.declared.expanding.Grown.{Grown}
+use Rattle.cpg_core.specs.GrownFor.{IsGrownFor}
 use Rattle.cpg_expand.specs.Large.{HasLargeTree}
-use Rattle.cpg_expand.specs.WideRows.{DoTablesFit, HaveWideRows}
+use Rattle.cpg_core.specs.WideRows.{DoTablesFit, HaveWideRows}
 use Rattle.cpg_run.specs.Built.{IsBuiltFor}
 use Rattle.cpg_run.specs.Knowledge.{KnowLocally}
 use Rattle.cpg_core.specs.declared.compiling.Compiled.{Compiled}

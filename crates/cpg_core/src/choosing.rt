@@ -14,7 +14,7 @@ ghost use Rattle.cpg_tracks.specs.Tracks.{HasTrackOrder};
 
 use crate::CompileFault;
 use cpg_base::{Order, OutOfMemory, Scenario};
-use cpg_latest::{Figures, latest};
+use cpg_latest::{Figures, figures_under};
 use cpg_reach::too_wide;
 use cpg_rules::Admitted;
 use cpg_tracks::merged_order;
@@ -30,7 +30,7 @@ pub(crate) struct TakenOrder {
 }
 
 impl TakenOrder {
-    /// Returns the choice of the first order, which has these figures.
+    /// Returns the first order as the one that is taken. It has these figures.
     fn first(figures: Figures) -> TakenOrder
         ensures { result ≡ record { figures = figures; order = None } }
     {
@@ -49,7 +49,7 @@ fn are_same(first: &Order, second: &Order) -> bool
     first.processes() == second.processes()
 }
 
-/// Whether these figures are better than the others: the excess is less, or it is equal and the finish is earlier.
+/// Whether these figures are better than the others: the excess is less, or the excesses are equal and the finish is earlier.
 fn is_better(figures: &Figures, other: &Figures) -> bool
     ensures { IsTrue result ↔ IsBetter figures.now.excess figures.now.worst other.now.excess other.now.worst }
 {
@@ -104,7 +104,7 @@ fn taken_of_tracks(
     if are_same(&order, first_order) {
         return Ok(TakenOrder::first(first));
     }
-    let figures = latest(alloc, admitted, &order, tracks)?;
+    let figures = figures_under(alloc, admitted, &order, tracks)?;
     // the track order isn't better
     if !is_better(&figures, &first) {
         return Ok(TakenOrder::first(first));
@@ -119,7 +119,9 @@ fn taken_of_tracks(
     })
 }
 
-/// Returns the compile's order with its figures. `tracks` are the outcomes of the graph's tracks.
+/// Returns the compile's order with its figures: the track order if the graph gives no order, has a track order, and that is
+/// better than the urgency order and no item is too wide under it, and otherwise the first order. `tracks` are the outcomes
+/// of the graph's tracks.
 pub(crate) fn choose(
     alloc: Global,
     admitted: &Admitted,
@@ -130,7 +132,7 @@ pub(crate) fn choose(
     requires narrow { admitted.now.graph.order ≡ None → IsNarrow admitted.now.graph (first_order admitted.now.graph admitted.now.order) }
     ensures { IfOk result (IsTaken admitted.now.graph admitted.now.order) }
 {
-    let first = latest(alloc, admitted, admitted.first_order(), tracks)?;
+    let first = figures_under(alloc, admitted, admitted.first_order(), tracks)?;
     // the order that the graph gives is always taken
     if admitted.given().is_some() {
         return Ok(TakenOrder::first(first));

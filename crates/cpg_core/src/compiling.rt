@@ -2,17 +2,17 @@
 ghost use Rattle.std.specs.Prelude.{◌≡◌, ◌≤◌, ◌<◌, ◌+◌, IfOk, IfErr, IfSome, None};
 ghost use Rattle.cpg_order.specs.Urgency.{IsTopological, first_order};
 ghost use Rattle.cpg_reach.specs.Wide.{IsNarrow};
-ghost use Rattle.cpg_expand.specs.GrownFor.{IsGrownFor};
+ghost use Rattle.cpg_core.specs.GrownFor.{IsGrownFor};
 ghost use Rattle.cpg_tracks.specs.Tracks.{HasManyTracks};
 ghost use Rattle.cpg_core.specs.Accepted.{order_taken};
 ghost use Rattle.cpg_core.specs.Compiled.{IsCompileOrder, IsHelpless, IsInTimeUnder, IsLateUnder};
 ghost use Rattle.cpg_core.specs.Compilation.{AreCompiledRows, IsCompilation, ShowsCompileFault};
-ghost use Rattle.cpg_expand.specs.BuiltRows.{AreBuiltRows};
+ghost use Rattle.cpg_core.specs.BuiltRows.{AreBuiltRows};
 
-use crate::CompileFault;
 use crate::choosing::{choose, wide_if_urgent};
+use crate::expanding::{Grown, grow, grow_bounded};
+use crate::{BuiltRows, CompileFault};
 use cpg_base::{Order, OutOfMemory};
-use cpg_expand::{BuiltRows, Grown, grow, grow_bounded};
 use cpg_rules::Admitted;
 use cpg_run::{BuildFault, Built};
 use cpg_tracks::track_outcomes;
@@ -60,7 +60,7 @@ pub(crate) fn late(admitted: &Admitted, first: Grown) -> CompileFault
     }
 }
 
-/// Returns what is found under the order that a graph gives: the trees of its items, the greatest finish and the greatest
+/// Returns what is found under `order`, which the graph gives: the trees of its items, the greatest finish and the greatest
 /// excess. The fault `TooWide` shows that a tree on the way is too large.
 fn grow_given(alloc: Global, admitted: &Admitted, order: Order) -> Result<Grown, CompileFault>
     requires topological { IsTopological admitted.now.graph order }
@@ -76,8 +76,8 @@ fn grow_given(alloc: Global, admitted: &Admitted, order: Order) -> Result<Grown,
     }
 }
 
-/// Returns what is found under the urgency order of a graph that gives no order. The fault `TooWide` names the least item
-/// that is too wide by its views.
+/// Returns what is found under `order`, the urgency order of a graph that gives no order. The fault `TooWide` names the
+/// least item that is too wide by its views.
 fn grow_urgent(alloc: Global, admitted: &Admitted, order: Order) -> Result<Grown, CompileFault>
     requires topological { IsTopological admitted.now.graph order }
     // the urgency order is the first order, since the graph gives none
@@ -94,7 +94,8 @@ fn grow_urgent(alloc: Global, admitted: &Admitted, order: Order) -> Result<Grown
     }
 }
 
-/// Returns what is found under the first order: the one that the graph gives, or else the urgency order.
+/// Returns what is found under the first order: the one that the graph gives, or else the urgency order. The fault `TooWide`
+/// names the least item that is too wide by its views; if the graph gives an order, what is made is too large as well.
 pub(crate) fn grow_first(alloc: Global, admitted: &Admitted) -> Result<Grown, CompileFault>
     ensures grown { IfOk result (IsGrownFor admitted.now.graph admitted.now.order (first_order admitted.now.graph admitted.now.order)) }
     // if the graph gives no order, no item is too wide by its views under the first order
@@ -111,8 +112,8 @@ pub(crate) fn grow_first(alloc: Global, admitted: &Admitted) -> Result<Grown, Co
     Ok(grown)
 }
 
-/// Returns the rows of the first order, under which nothing is late. The fault `TooWide` shows that a row, or all rows
-/// together, have too many columns.
+/// Returns the rows of the first order, under which nothing is late. `grown` is what was found under it. The fault
+/// `TooWide` shows that a row, or all rows together, have too many columns.
 fn rows_of_first(
     alloc: Global,
     admitted: &Admitted,
@@ -134,7 +135,8 @@ fn rows_of_first(
     }
 }
 
-/// Returns what is found under a track order, under which no item is too wide.
+/// Returns what is found under the track order `order`, under which no item is too wide: the trees of its items, the greatest
+/// finish and the greatest excess.
 fn grow_tracks(alloc: Global, admitted: &Admitted, order: Order) -> Result<Grown, OutOfMemory>
     requires topological { IsTopological admitted.now.graph order }
     requires narrow { IsNarrow admitted.now.graph order }
@@ -164,7 +166,8 @@ pub(crate) fn shown_late(alloc: Global, admitted: &Admitted) -> CompileFault
     }
 }
 
-/// Returns the rows of the first order, if that is taken and nothing is late under it.
+/// Returns the rows of the first order, given that it is taken and nothing is late under it. A fault shows why the graph isn't
+/// compiled.
 fn compile_first(alloc: Global, admitted: &Admitted) -> Result<BuiltRows, CompileFault>
     // the first order is the compile's, and nothing is late under it
     requires taken { IsCompileOrder admitted.now.graph admitted.now.order (first_order admitted.now.graph admitted.now.order) }
@@ -179,8 +182,8 @@ fn compile_first(alloc: Global, admitted: &Admitted) -> Result<BuiltRows, Compil
     Ok(rows)
 }
 
-/// Returns the rows of the first order of a graph that has too many tracks for a track order. The fault `Late` comes if
-/// something is late under it.
+/// Returns the rows of the first order of a graph that has too many tracks for a track order. A fault shows why the graph
+/// isn't compiled; it is `Late` if something is late under the first order.
 fn compile_untracked(alloc: Global, admitted: &Admitted) -> Result<BuiltRows, CompileFault>
     requires { HasManyTracks admitted.now.graph }
     ensures rows { IfOk result (AreCompiledRows admitted.now.graph admitted.now.order) }
@@ -197,7 +200,7 @@ fn compile_untracked(alloc: Global, admitted: &Admitted) -> Result<BuiltRows, Co
     Ok(rows)
 }
 
-/// Returns the rows of the track order, if that is taken and nothing is late under it.
+/// Returns the rows of the track order `order`, given that it is taken and nothing is late under it.
 fn compile_tracks(
     alloc: Global,
     admitted: &Admitted,
@@ -221,8 +224,8 @@ fn compile_tracks(
     Ok(rows)
 }
 
-/// Returns the rows of the order that is taken, if nothing is late under it. `order` is the track order if that is taken,
-/// and `None` if the first order is.
+/// Returns the rows of the order that is taken, given that nothing is late under it. `order` is the track order if that is
+/// taken, and `None` if the first order is. A fault shows why the graph isn't compiled.
 fn compile_taken(
     alloc: Global,
     admitted: &Admitted,
@@ -288,7 +291,8 @@ fn assembled(alloc: Global, admitted: &Admitted, rows: BuiltRows) -> Result<Comp
     Ok(Compiled { built, order })
 }
 
-/// Returns the tables of a graph: those of the rows that `compile_rows` makes.
+/// Returns the tables of a graph, those of the rows that `compile_rows` makes, with the order under which they were built. A
+/// fault shows why there are none, as `CompileFault` says.
 pub fn compile(alloc: Global, admitted: &Admitted) -> Result<Compiled, CompileFault>
     ensures compiled { IfOk result (IsCompilation admitted.now.graph admitted.now.order) }
     ensures fault { IfErr result (ShowsCompileFault admitted.now.graph admitted.now.order) }

@@ -2,7 +2,7 @@
 ghost use Rattle.std.specs.Prelude.{◌<◌, IfErr, IfOk};
 ghost use Rattle.cpg_core.specs.Accepted.{IsAccepted, ShowsNoFinish};
 ghost use Rattle.cpg_core.specs.Compiled.{IsHelpless, IsLateUnder};
-ghost use Rattle.cpg_expand.specs.GrownFor.{IsGrownFor};
+ghost use Rattle.cpg_core.specs.GrownFor.{IsGrownFor};
 ghost use Rattle.cpg_order.specs.Urgency.{first_order};
 ghost use Rattle.cpg_reach.specs.Wide.{IsNarrow};
 ghost use Rattle.cpg_tracks.specs.Tracks.{HasManyTracks};
@@ -10,14 +10,15 @@ ghost use Rattle.cpg_tracks.specs.Tracks.{HasManyTracks};
 use crate::CompileFault;
 use crate::choosing::choose;
 use crate::compiling::late;
+use crate::expanding::{Grown, grow_narrow};
 use cpg_base::OutOfMemory;
-use cpg_expand::{Grown, grow_narrow};
 use cpg_reach::too_wide;
 use cpg_rules::Admitted;
 use cpg_tracks::track_outcomes;
 use std::alloc::Global;
 
-/// Returns what is found under the first order, under which no item is too wide by its views.
+/// Returns what is found under the first order, under which no item is too wide by its views: the trees of its items, the
+/// greatest finish and the greatest excess.
 fn grow_narrow_first(alloc: Global, admitted: &Admitted) -> Result<Grown, OutOfMemory>
     requires { IsNarrow admitted.now.graph (first_order admitted.now.graph admitted.now.order) }
     ensures { IfOk result (IsGrownFor admitted.now.graph admitted.now.order (first_order admitted.now.graph admitted.now.order)) }
@@ -27,8 +28,8 @@ fn grow_narrow_first(alloc: Global, admitted: &Admitted) -> Result<Grown, OutOfM
     Ok(grown)
 }
 
-/// Returns the fault of a late graph in which no item is too wide by its views. `first` is what was found under the first
-/// order.
+/// Returns the fault `Late` of a late graph in which no item is too wide by its views. `first` is what was found under the
+/// first order.
 fn late_narrow(admitted: &Admitted, first: Grown) -> CompileFault
     // no item is too wide by its views under the first order
     requires grown { IsGrownFor admitted.now.graph admitted.now.order (first_order admitted.now.graph admitted.now.order) first }
@@ -41,8 +42,8 @@ fn late_narrow(admitted: &Admitted, first: Grown) -> CompileFault
     late(admitted, first)
 }
 
-/// Returns the fault of a late graph in which no item is too wide by its views, or `OutOfMemory`. What `late_narrow` is
-/// handed is found here.
+/// Returns the fault `Late` of a late graph in which no item is too wide by its views, or `OutOfMemory`. What is found under
+/// the first order is made for it.
 fn shown_late_narrow(alloc: Global, admitted: &Admitted) -> CompileFault
     requires narrow { IsNarrow admitted.now.graph (first_order admitted.now.graph admitted.now.order) }
     // some end is past its due under the first order, and no other order helps

@@ -24,7 +24,7 @@ use Rattle.cpg_cover.proofs.CoverSteps.{is_below_range, is_above_range, left_bel
 use Rattle.cpg_cube.proofs.Mapped.{any_map}
 use Rattle.cpg_cover.proofs.Kept.{taken_out}
 
--- literals in another order match the same
+-- if `other` has the literals of `one` in another order, both match the same scenarios
 pub matches_permutation : (one other : List Literal) (s : Scenario) → IsPermutation one other →
     matches one s ≡ matches other s
 matches_permutation one other s p = same_truth (matches one s) (matches other s)
@@ -32,6 +32,7 @@ matches_permutation one other s p = same_truth (matches one s) (matches other s)
     (λ l c. from_all (holds s) one l t (Contains-permutation other one l (IsPermutation-sym one other p) c)))
     (λ t. all_from (holds s) one (λ l c. from_all (holds s) other l t (Contains-permutation one other l p c)))
 
+-- given: a graph, and an order of its processes
 module _ (g : Graph) (order : List ℕ) where
   -- the earlier of an answer and none is the answer
   pub earlier_none : (o : Option Scenario) → earlier g order o None ≡ o

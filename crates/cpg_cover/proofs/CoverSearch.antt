@@ -151,6 +151,7 @@ module _ (g : Graph) (order : List ℕ) (by : List (List Literal)) (cube : List 
     least = λ t i k. first.least t i (and_parts (matches cube t) (not (list_any (λ b. matches b t) by)) k).0;
   }
 
+-- given: a graph of at most 128 processes
 module _ (g : Graph) (few : process_count g ≤ 128) where
   -- the part below a literal's range is a cube of the graph
   below_is : (l : Literal) (cube : List Literal) → IsVariable g l.variable → IsCube g cube → (c : List Literal) →
@@ -198,7 +199,7 @@ module _ (g : Graph) (few : process_count g ≤ 128) where
       (Contains-append_cases (part_below l cube ++ part_above g.faults l cube)
       (parts_outside g.faults ls (narrowed_by l cube)) c k)
 
-  -- what is left by one more cube is left in some part of what is outside it
+  -- b and the cubes bs leave a scenario of the cube exactly if bs leaves it of some part of the cube outside b
   pub left_in_parts : (b : List Literal) (bs : List (List Literal)) (cube : List Literal) (s : Scenario) →
       IsScenario g s →
       All (λ l. IsVariable g l.variable) b →
@@ -215,7 +216,7 @@ module _ (g : Graph) (few : process_count g ≤ 128) where
       both_any u (c ∷ cs) =
           ap (λ x. (matches c s && u) || x) (both_any u cs) ∙ spread (matches c s) (list_any (λ d. matches d s) cs) u
         where
-          -- the same of two parts
+          -- x or y holds together with z exactly if one of them does, and z
           spread : (x y z : Bool) → ((x && z) || (y && z)) ≡ ((x || y) && z)
           spread true true true = refl
           spread true false true = refl
@@ -223,12 +224,13 @@ module _ (g : Graph) (few : process_count g ≤ 128) where
           spread true false false = refl
           spread false y z = refl
 
-      -- what neither y nor z has is what their disjunction hasn't
+      -- x holds, and neither y nor z, exactly if x holds and not one of them does
       none_of_either : (x y z : Bool) → ((x && not y) && not z) ≡ (x && not (y || z))
       none_of_either true true z = refl
       none_of_either true false z = refl
       none_of_either false y z = refl
 
+  -- given: an order of the processes
   module _ (order : List ℕ) where
     -- the first of the answers to the parts is the answer to the cube with one cube more in the list
     pub left_by_parts : (b : List Literal) (bs : List (List Literal)) (cube : List Literal)

@@ -26,7 +26,7 @@ gather true false m u f k = cc (f refl)
 gather false true m u f k = cc (k refl)
 gather false false m u f k = refl
 
--- if u follows from m, m and the contrary of u don't hold together
+-- if u holds whenever m does, m doesn't hold without u
 neither : (m u : Bool) → (m ≡ true → u ≡ true) → (m && not u) ≡ false
 neither true true h = refl
 neither true false h = cc (h refl)
@@ -74,7 +74,7 @@ module _ (g : Graph) (few : process_count g ≤ 128) (order : List ℕ) (by : Li
       (λ t. let h = ltb-true l.high (number_of s l.variable) t in holds-from s m (omega arith) (omega arith)))
       f
 
-  -- no number is below a low of 0, or above the top
+  -- nothing is left below a range that begins at 0
   pub none_below : (l : Literal) (rest : List Literal) → l.low ≡ 0 →
       IsFirst g order (λ s. is_below_range l s && is_left by rest s) None
   none_below l rest e =

@@ -27,21 +27,21 @@ module _ {X : Type 0} (test : X → Bool) (xs : List X) (i : ℕ) (d : X) (h : i
   taken_all = ap (list_all test) (take_more xs i d h) ∙ list_all-append test (take i xs) (get_or xs i d ∷ [])
       ∙ ap (λ b. list_all test (take i xs) && b) (and-true (test (get_or xs i d)))
 
-  -- some of them passes if one of the first i does or the next one does
+  -- some of the first i + 1 elements passes if one of the first i does or the next one does
   taken_any : list_any test (take (i + 1) xs) ≡ (list_any test (take i xs) || test (get_or xs i d))
   taken_any = ap (list_any test) (take_more xs i d h) ∙ list_any-append test (take i xs) (get_or xs i d ∷ [])
       ∙ ap (λ b. list_any test (take i xs) || b) (or-false (test (get_or xs i d)))
 
-  -- if the first elements pass and the next does, too, one more passes
+  -- if the first i elements pass and the next does, too, the first i + 1 pass
   pub all_one_more : list_all test (take i xs) ≡ true → test (get_or xs i d) ≡ true →
       list_all test (take (i + 1) xs) ≡ true
   all_one_more a b = taken_all ∙ and_from _ _ a b
 
-  -- if some of the first elements passes, some of one more does
+  -- if some of the first i elements passes, some of the first i + 1 does
   pub any_of_before : list_any test (take i xs) ≡ true → list_any test (take (i + 1) xs) ≡ true
   any_of_before a = taken_any ∙ or_left _ _ a
 
-  -- if the next element passes, some of one more does
+  -- if the next element passes, some of the first i + 1 does
   pub any_of_last : test (get_or xs i d) ≡ true → list_any test (take (i + 1) xs) ≡ true
   any_of_last a = taken_any ∙ or_right _ _ a
 
@@ -101,7 +101,8 @@ held_high n l t = leb-true (n l.variable) l.high (and_parts (nat_le l.low (n l.v
 pub counted : (n : ℕ → ℕ) (count v : ℕ) → v < count → n v ≤ sum_by n (numbers_below count)
 counted n count v h = le-sum_by n (numbers_below count) v (Contains-numbers count v h)
 
--- if a literal that doesn't hold takes r faults, a cube with it takes the lesser of r and what it took before
+-- If numbers outside the first i literals have at least a faults, and those in which the literal at place i fails have at
+-- least r, then those outside the first i + 1 have at least the lesser of a and r.
 pub outside_more : (ls : List Literal) (i : ℕ) (d : Literal) (a r : ℕ) → i < length ls → NeedsOutside (take i ls) a →
     (0 < r → (get_or ls i d).variable < 128)
     → ((n : ℕ → ℕ) → holds_at n (get_or ls i d) ≡ false → r ≤ n (get_or ls i d).variable) →
@@ -110,7 +111,7 @@ outside_more ls i d a r h f small g count e n t = ⊎_elim
     -- all literals before hold, so the last one doesn't
     (λ (b : list_all (holds_at n) (take i ls) ≡ true).
     by_last (false_from_ne_true _ (λ k. both_ways _ t (all_one_more (holds_at n) ls i d h b k))))
-    -- one before doesn't hold, which takes at least a faults
+    -- one before doesn't hold, so there are at least a faults
     (λ (b : list_all (holds_at n) (take i ls) ≡ false). let x = f count e n b in omega arith)
     (cases_Bool (list_all (holds_at n) (take i ls)))
   where
@@ -124,19 +125,20 @@ outside_more ls i d a r h f small g count e n t = ⊎_elim
         (λ (p : r ≤ 0). omega arith)
         (cases_lt 0 r)
 
--- if no cube of a list is matched, the faults are at least the greatest number that one cube takes
+-- if numbers that none of the first i cubes matches have at least a faults, and those outside the cube at place i at least r,
+-- then those that none of the first i + 1 matches have at least the greater of a and r
 pub each_more : (cubes : List (List Literal)) (i : ℕ) (d : List Literal) (a r : ℕ) → i < length cubes →
     Needs (take i cubes) a →
     NeedsOutside (get_or cubes i d) r →
     Needs (take (i + 1) cubes) (max a r)
--- if none of one cube more is matched, none of those before is, and the next one isn't
+-- if none of the first i + 1 cubes is matched, none of the first i is, and the cube at place i isn't
 each_more cubes i d a r h f g count e n values t =
     let x =
     f count e n values (false_from_ne_true _ (λ k. both_ways _ t (any_of_before (matches_at n) cubes i d h k))) in
     let y = g count e n (false_from_ne_true _ (λ k. both_ways _ t (any_of_last (matches_at n) cubes i d h k))) in
     omega arith
 
--- every list takes at least 0 faults
+-- numbers that no cube of a list matches have at least 0 faults
 pub needs_nothing : (cubes : List (List Literal)) → Needs cubes 0
 needs_nothing cubes count e n values t = omega arith
 
@@ -339,11 +341,12 @@ parts_from cubes first others marks a b r m m' k k' f f' l count e n values t =
     let z = both_parts marks n count in
     omega arith
 
--- if it takes at least a faults that no cube of a list matches, it takes at least any lesser number b
+-- if numbers that no cube of a list matches have at least a faults, they have at least any lesser number b
 pub needs_fewer : (cubes : List (List Literal)) (a b : ℕ) → b ≤ a → Needs cubes a → Needs cubes b
 needs_fewer cubes a b l f count e n values t = let x = f count e n values t in omega arith
 
--- if no cube of a list is matched, none of a part of it is, so it takes the faults that the part needs
+-- if a cube of the list matches what one of the part does, numbers that none of the list matches have the faults that the part
+-- needs
 pub needs_by : (cubes part : List (List Literal)) (r : ℕ) →
     ((m : ℕ → ℕ) → is_any_at m part ≡ true → is_any_at m cubes ≡ true) → Needs part r → Needs cubes r
 needs_by cubes part r k f count e n values t = f count e n values (false_from_ne_true _ (λ x. both_ways _ t (k n x)))
@@ -431,7 +434,7 @@ still_marked (m ∷ ms) zero (suc v) t = t
 still_marked (m ∷ ms) (suc i) zero t = t
 still_marked (m ∷ ms) (suc i) (suc v) t = still_marked ms i v t
 
--- a variable that is marked has a mark
+-- a mark that is set at place i is there
 pub now_marked : (marks : List Bool) (i : ℕ) → i < length marks → get_or (slice_set marks i true) i false ≡ true
 now_marked [] i h = absurd (omega arith)
 now_marked (m ∷ ms) zero h = refl

@@ -27,7 +27,7 @@ use Rattle.cpg_cube.proofs.CubeLows.{holds-high, low_in-le, budget_of_cube}
 use Rattle.cpg_cube.proofs.Meeting.{small_variable, holds_where_spanned}
 use Rattle.cpg_cover.proofs.FewestLaws.{held}
 
--- if a function is 0 from a on, its sum up to b is its sum up to a
+-- if f is 0 from a on, its sum up to b is its sum up to a
 sum_short : (f : ℕ → ℕ) (a b : ℕ) → a ≤ b → ((v : ℕ) → a ≤ v → v < b → f v ≡ 0) →
     sum_by f (numbers_below b) ≡ sum_by f (numbers_below a)
 -- by induction on `b`, and by whether `b` is below `a`

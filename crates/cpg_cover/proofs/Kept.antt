@@ -14,7 +14,7 @@ use Rattle.cpg_cube.specs.declared.literal.Literal.{Literal}
 use Rattle.cpg_cube.proofs.Mapped.{any_map}
 use Rattle.cpg_cover.specs.Cover.{is_left}
 
--- what is left depends on the list only if the cube matches
+-- if the cubes of xs and those of ys match s alike whenever the cube does, both leave s of the cube or neither does
 pub left_same : {X : Type 0} (f : X → List Literal) (xs ys : List X) (cube : List Literal) (s : Scenario) →
     (matches cube s ≡ true → list_any (λ b. matches (f b) s) xs ≡ list_any (λ b. matches (f b) s) ys)
     → is_left (map f xs) cube s ≡ is_left (map f ys) cube s
@@ -26,8 +26,9 @@ left_same f xs ys cube s h = ⊎_elim
     ∙ sym (ap (λ m. m && not (list_any (λ b. matches b s) (map f ys))) e))
     (cases_Bool (matches cube s))
 
+-- given: a test of elements. Below, `kept` are elements kept of the first i of `by`, and the next one stands at place i.
 module _ {X : Type 0} (test : X → Bool) where
-  -- with the next element kept, too, the test passes for some kept element as it does for one more of all
+  -- with the next element kept, too, the test passes for some kept element as it does for some of the first i + 1
   pub kept_push : (kept by : List X) (i : ℕ) (d : X) → i < length by → list_any test kept ≡ list_any test (take i by) →
       list_any test (kept ++ get_or by i d ∷ []) ≡ list_any test (take (i + 1) by)
   kept_push kept by i d h e =
@@ -35,7 +36,7 @@ module _ {X : Type 0} (test : X → Bool) where
       ∙ sym (list_any-append test (take i by) (get_or by i d ∷ [])) ∙
       sym (ap (list_any test) (take_more by i d h))
 
-  -- if the test fails for the next element, it passes for some kept element as it does for one more of all
+  -- if the test fails for the next element, it passes for some kept element as it does for some of the first i + 1
   pub kept_skip : (kept by : List X) (i : ℕ) (d : X) → i < length by → test (get_or by i d) ≡ false →
       list_any test kept ≡ list_any test (take i by) →
       list_any test kept ≡ list_any test (take (i + 1) by)
@@ -43,7 +44,7 @@ module _ {X : Type 0} (test : X → Bool) where
       ∙ ap (λ x. list_any test (take i by) || x) (sym (or-false (test (get_or by i d)) ∙ n))
       ∙ sym (list_any-append test (take i by) (get_or by i d ∷ [])) ∙ sym (ap (list_any test) (take_more by i d h))
 
-  -- with the next element kept, too, the test passes for all that are kept as it does for one more of all
+  -- with the next element kept, too, the test passes for all that are kept as it does for all of the first i + 1
   pub all_push : (kept by : List X) (i : ℕ) (d : X) → i < length by → list_all test kept ≡ list_all test (take i by) →
       list_all test (kept ++ get_or by i d ∷ []) ≡ list_all test (take (i + 1) by)
   all_push kept by i d h e =
@@ -51,7 +52,7 @@ module _ {X : Type 0} (test : X → Bool) where
       ∙ sym (list_all-append test (take i by) (get_or by i d ∷ [])) ∙
       sym (ap (list_all test) (take_more by i d h))
 
-  -- if the test passes for the next element, it passes for all that are kept as it does for one more of all
+  -- if the test passes for the next element, it passes for all that are kept as it does for all of the first i + 1
   pub all_skip : (kept by : List X) (i : ℕ) (d : X) → i < length by → test (get_or by i d) ≡ true →
       list_all test kept ≡ list_all test (take i by) →
       list_all test kept ≡ list_all test (take (i + 1) by)

@@ -1,5 +1,5 @@
--- How many faults it takes at least that no cube of a list matches. A scenario is given here as its numbers: a function
--- from each variable to its number.
+-- How many faults scenarios have at least that no cube of a list matches. A scenario is given here as its numbers: a
+-- function from each variable to its number.
 use Rattle.std.specs.Prelude.{ℕ, ◌-◌, ◌≡◌, ◌≤◌, ◌<◌, Bool, true, false, ◌&&◌, ◌==◌, nat_le, if◌then◌else◌, List, All}
 use Rattle.std.specs.Prelude.{get_or, sum_by}
 use Rattle.std.specs.List.{list_all, list_any}
@@ -25,18 +25,19 @@ is_any_at n cubes = list_any (matches_at n) cubes
 abbrev pub AreValues : (ℕ → ℕ) → Type 0
 AreValues n = (v : ℕ) → 128 ≤ v → n v ≤ 1
 
--- It takes at least r faults that the cube doesn't match: all numbers that it doesn't match have that many. (The sum over
--- the 128 counts has `count` for 128, since the prover would otherwise unfold it.)
+-- All numbers n that the cube doesn't match have at least r faults. (The sum over the 128 counts has `count` for 128, since
+-- the prover would otherwise unfold it.)
 abbrev pub NeedsOutside : List Literal → ℕ → Type 0
 NeedsOutside cube r =
     (count : ℕ) → count ≡ 128 → (n : ℕ → ℕ) → matches_at n cube ≡ false → r ≤ sum_by n (numbers_below count)
 
--- it takes at least r faults that no cube of the list matches
+-- all numbers n that no cube of the list matches have at least r faults
 abbrev pub Needs : List (List Literal) → ℕ → Type 0
 Needs cubes r = (count : ℕ) → count ≡ 128 → (n : ℕ → ℕ) → AreValues n → is_any_at n cubes ≡ false →
     r ≤ sum_by n (numbers_below count)
 
--- it takes at least r faults that no cube of the list matches, if one variable is 0 and the faults are within the budget
+-- all numbers n that no cube of the list matches have at least r faults, if the variable is 0 in them and their faults are
+-- within the budget
 abbrev pub NeedsWithout : List (List Literal) → ℕ → ℕ → ℕ → Type 0
 NeedsWithout cubes variable budget r = (count : ℕ) → count ≡ 128 → (n : ℕ → ℕ) → AreValues n → n variable ≡ 0 →
     sum_by n (numbers_below count) ≤ budget → is_any_at n cubes ≡ false → r ≤ sum_by n (numbers_below count)
@@ -50,8 +51,9 @@ after variable n v = if variable == v then n v - 1 else n v
 pub record IsStep (variable : ℕ) (more : Bool) (budget : ℕ) (n : ℕ → ℕ) : Type 0 where
   -- a value is 0 or 1
   pub values : (v : ℕ) → 128 ≤ v → n v ≤ 1
-  -- the variable is 0 if `more` is false, and at least 1 if it is true
+  -- the variable is 0 if `more` is false
   pub zero : more ≡ false → n variable ≡ 0
+  -- it is at least 1 if `more` is true
   pub some : more ≡ true → 1 ≤ n variable
   -- after the step no count is above the budget (if `more` is false, one less than 0 is 0)
   pub few : (v : ℕ) → v < 128 → after variable n v ≤ budget
@@ -62,15 +64,17 @@ rest_holds n Held = true
 rest_holds n Missed = false
 rest_holds n (Asked l) = holds_at n l
 
--- each variable of each cube is marked as wanted: true or false
+-- each variable of each cube is marked, if `wanted` is true, or unmarked, if it is false
 abbrev pub AreMarked : List Bool → Bool → List (List Literal) → Type 0
 AreMarked marks wanted cubes =
     All (λ c. list_all (λ l. same_bool (get_or marks l.variable false) wanted) c ≡ true) cubes
 
--- what is marked earlier is marked later too, and so are the variables of the cube's literals
-pub record AreMore (cube : List Literal) (marks later : List Bool) : Type 0 where
-  pub kept : (v : ℕ) → get_or marks v false ≡ true → get_or later v false ≡ true
-  pub marked : list_all (λ l. same_bool (get_or later l.variable false) true) cube ≡ true
+-- `more` has the marks of `marks`, and marks the variables of the cube's literals too
+pub record AreMore (cube : List Literal) (marks more : List Bool) : Type 0 where
+  -- what `marks` marks is marked
+  pub kept : (v : ℕ) → get_or marks v false ≡ true → get_or more v false ≡ true
+  -- the variable of each literal is marked
+  pub marked : list_all (λ l. same_bool (get_or more l.variable false) true) cube ≡ true
 
 -- ---- Numbers beyond the lows of a cube: what is left to choose for a scenario that the cube matches.
 
@@ -79,7 +83,7 @@ abbrev pub beyond : List ℕ → (ℕ → ℕ) → ℕ → ℕ
 beyond low s v = s v - get_or low v 0
 
 -- the numbers are those of a scenario that the cube matches, as far as a search knows: the cube has these lows and highs, and
--- leaves this many faults
+-- leaves `left` faults
 pub record IsOn (low high : List ℕ) (left : ℕ) (s : ℕ → ℕ) : Type 0 where
   -- no number is below its low
   pub lows : (v : ℕ) → get_or low v 0 ≤ s v

@@ -215,15 +215,15 @@ fn left_outside(
         return Ok(beside);
     }
     // the literal holds in no scenario of the cube
-    let Some(within) = cube.with(*literal)? else {
+    let Some(inside) = cube.with(*literal)? else {
         return Ok(beside);
     };
-    let kept = meeting(alloc, problem, &within, by)?;
+    let kept = meeting(alloc, problem, &inside, by)?;
     let found = left_outside(
         alloc,
         problem,
         order,
-        &within,
+        &inside,
         rest,
         kept.as_slice(),
         effort,
@@ -258,8 +258,8 @@ fn left_of(
     };
     // what is left is outside the cube of the list that matches, so one of its literals fails, and outside the others
     let mut others = by;
-    let first = others.remove(place);
-    let cutting = cutting(alloc, problem, cube, first.literals())?;
+    let matching = others.remove(place);
+    let cutting = cutting(alloc, problem, cube, matching.literals())?;
     let literals = by_frequency(alloc, cutting.as_slice(), others.as_slice())?;
     let found = left_outside(
         alloc,
@@ -396,6 +396,7 @@ fn least_by_number(
     };
     let mut found = None;
     for number in 0..u32::from(top(problem.faults(), *variable)) + 1 {
+        // at most 8 or 1, so the casts keep the number
         let literal = Literal {
             variable: *variable,
             low: number as u8,

@@ -1,5 +1,5 @@
-//! Whether a list of cubes covers a cube, by how many faults it takes at least that the cube matches and none of the list
-//! does: if these are more than there may be, the cube is covered.
+//! Whether a list of cubes covers a cube, by how many faults scenarios have at least that the cube matches and none of the
+//! list does: if these are more than there may be, the cube is covered.
 ghost use Rattle.std.specs.Prelude.{◌≡◌, ◌≤◌, ◌-◌, ◌||◌, ◌∷◌, [], ℕ, IfOk, IfSome, false, get_or, true};
 ghost use Rattle.std.specs.Bool.{OnTrue};
 ghost use Rattle.std.specs.List.{list_any};
@@ -30,7 +30,7 @@ fn single(alloc: Global, literal: Literal) -> Result<Cube, OutOfMemory>
 struct Ground {
     /// The cube's ranges.
     bounds: Bounds,
-    /// How many faults are left beyond its lows.
+    /// How many faults are left beyond the cube's lows.
     left: u8,
 }
 
@@ -160,7 +160,7 @@ pub(crate) fn is_surely_covered(
     ensures { IfOk result (λ covered. OnTrue covered ((s : Scenario) → IsScenario problem.now s → matches cube.now s ≡ true →
         list_any (λ b. matches b.now s) by.now ≡ true)) }
 {
-    // the cube has no scenario, which callers have ruled out: it isn't worth a proof that it is covered
+    // the cube matches no scenario, which callers have ruled out: that it is covered isn't worth a proof
     let Some(left) = budget_left(problem.faults(), cube.literals()) else {
         return Ok(false);
     };

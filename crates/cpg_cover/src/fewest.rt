@@ -1,5 +1,5 @@
-//! How many faults it takes at least that no cube of a list matches: a lower bound that a search finds. It takes a scenario
-//! to be any choice of numbers whose values are 0 or 1.
+//! How many faults scenarios have at least that no cube of a list matches: a lower bound that a search finds. A scenario is
+//! taken to be any choice of numbers whose values are 0 or 1.
 ghost use Rattle.std.specs.Prelude.{◌≡◌, ◌≤◌, ◌<◌, ℕ, IfOk, false};
 ghost use Rattle.cpg_cover.specs.Fewest.{Needs, NeedsOutside, NeedsWithout, holds_at};
 
@@ -18,13 +18,13 @@ pub(crate) const DEPTH: u32 = 256;
 /// What a search for the fewest faults is bounded by.
 #[derive(Clone, Copy)]
 pub(crate) struct SearchBound {
-    /// The most faults that are of interest: if it takes more, no one asks how many more.
+    /// The most faults that are of interest: of a greater bound no one asks how much greater it is.
     pub(crate) budget: u8,
     /// How many more calls may be within one another.
     pub(crate) depth: u32,
 }
 
-/// Returns how many faults it takes at least that a literal doesn't hold.
+/// Returns how many faults a scenario has at least if a literal doesn't hold in it.
 fn fewest_of_literal(literal: &Literal) -> u8
     ensures count { 0 < result → literal.now.variable < 128 }
     ensures fewest { (n : ℕ → ℕ) → holds_at n literal.now ≡ false → result ≤ n literal.now.variable }
@@ -36,8 +36,8 @@ fn fewest_of_literal(literal: &Literal) -> u8
     literal.high.saturating_add(1)
 }
 
-/// Returns how many faults it takes at least that a cube doesn't match: the least of its literals', and 255 for the cube
-/// without literals, which always matches.
+/// Returns how many faults a scenario has at least if a cube doesn't match it: the least of its literals' numbers, and 255 for
+/// the cube without literals, which always matches.
 fn fewest_of_cube(cube: &Cube) -> u8
     ensures { NeedsOutside cube.now result }
 {
@@ -48,7 +48,7 @@ fn fewest_of_cube(cube: &Cube) -> u8
     fewest
 }
 
-/// Returns a lower bound of the faults that it takes that none of the cubes matches: the greatest that one cube alone takes.
+/// Returns a lower bound of the faults of scenarios that none of the cubes matches: the greatest that one cube alone gives.
 fn fewest_of_each(cubes: &[Cube]) -> u8
     ensures { Needs cubes.now result }
 {
@@ -59,7 +59,7 @@ fn fewest_of_each(cubes: &[Cube]) -> u8
     most
 }
 
-/// Returns a lower bound of the faults that it takes that none of the cubes matches: the sum over some cubes that have no
+/// Returns a lower bound of the faults of scenarios that none of the cubes matches: the sum over some cubes that have no
 /// variable in common, taken as they come.
 fn fewest_of_apart(cubes: &[Cube]) -> u8
     ensures { Needs cubes.now result }
@@ -223,8 +223,8 @@ fn fewest_of_joined(
     Ok(least_faults)
 }
 
-/// Returns a lower bound of the faults that it takes that none of the cubes matches. It is just these faults if they are
-/// within the budget and the search isn't cut short; no clause says so.
+/// Returns a lower bound of the faults of scenarios that none of the cubes matches. It is the fewest that such a scenario has
+/// if these are within the budget and the search isn't cut short; no clause says so.
 #[cycle(fewest)]
 pub(crate) fn fewest(
     alloc: Global,
@@ -235,16 +235,16 @@ pub(crate) fn fewest(
     ensures { IfOk result (Needs cubes.now) }
 {
     let alone = fewest_of_each(cubes);
-    // one cube alone takes more faults than are of interest, or there is but one
+    // one cube alone gives a bound above the budget, or there is but one
     if alone > bound.budget || cubes.len() == 1 {
         return Ok(alone);
     }
     let apart = fewest_of_apart(cubes);
-    // cubes without common variables take more faults than are of interest
+    // cubes without common variables give a bound above the budget
     if apart > bound.budget {
         return Ok(apart);
     }
-    // the search is cut short, so nothing is known; or no cube matches without faults, so it takes none
+    // the search is cut short, so nothing is known; or no cube matches the scenario of zeros, which has no faults
     if bound.depth == 0 || memory.is_spent() || !cubes.iter().any(matches_zero) {
         return Ok(0);
     }

@@ -8,7 +8,8 @@ use cpg_cube::{Cube, Literal};
 use std::alloc::Global;
 use std::marker::Model;
 
-/// How many lists the facts are spread over, by a sum of the cubes that they are about, so that few are looked through.
+/// How many buckets the facts are spread over. A sum of the cubes that a fact is about says in which one it lies, so that
+/// few facts are looked through.
 const BUCKETS: u32 = 1024;
 
 /// How much room all facts may take together, counted in literals of 3 bytes: 4 Mi of these, which is 12 MiB.
@@ -20,12 +21,12 @@ const FIRST_LOOKS: u64 = 1 << 22;
 /// How many cubes each later question may look at, at least.
 const LATER_LOOKS: u64 = 1 << 14;
 
-/// A fact: how many faults it takes at least that none of some cubes matches.
+/// A fact: how many faults scenarios have at least that none of some cubes matches.
 #[derive(Drop)]
 pub(crate) struct Fact {
     /// The cubes.
     cubes: Vec<Cube>,
-    /// A lower bound of the faults that it takes that none of the cubes matches.
+    /// A lower bound of the faults of scenarios that none of the cubes matches.
     fewest: u8,
     /// Whether the bound is believed to be exact, so that it answers for every budget. No clause speaks of this.
     is_exact: bool,
@@ -130,7 +131,8 @@ fn bucket_of(cubes: &[Cube]) -> usize {
 }
 
 impl Fact {
-    /// Returns the fact that it takes at least `fewest` faults that none of the cubes matches. The one error is `OutOfMemory`.
+    /// Returns the fact that scenarios that none of the cubes matches have at least `fewest` faults. The one error is
+    /// `OutOfMemory`.
     pub(crate) fn new(
         alloc: Global,
         cubes: &[Cube],
@@ -214,13 +216,13 @@ impl Memory {
         self.looks_left == 0
     }
 
-    /// Takes this many cubes from those that the present question may still look at.
+    /// Takes `cubes` from the number of cubes that the present question may still look at.
     pub(crate) fn spend(&mut self, cubes: usize) {
         self.looks_left = self.looks_left.saturating_sub(cubes as u64);
     }
 
-    /// Returns how many faults it takes at least that none of the cubes matches, if a fact is kept that settles a question
-    /// with this budget; `None` otherwise.
+    /// Returns how many faults scenarios have at least that none of the cubes matches, if a fact is kept that settles a
+    /// question with this budget; `None` otherwise.
     pub(crate) fn recall(&self, cubes: &[Cube], budget: u8) -> Option<u8>
         ensures { IfSome result (Needs cubes.now) }
     {

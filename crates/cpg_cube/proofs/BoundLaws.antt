@@ -122,7 +122,7 @@ module _ (g : Graph) (few : process_count g ≤ 128) (a : List Literal) (is_a : 
       ∙ sym (cond-false (nat_lt l.variable 128) (l.low - get_or lows l.variable 0) 0 (le-ltb l.variable 128 h)))
       (cases_lt l.variable 128)
 
-  -- the greater lows add up to what the first cube asks for and what the second asks for beyond
+  -- the greater lows of the cubes a and b add up to what a asks for and what b asks for beyond a's lows
   pub sum_of_both : (b : List Literal) → IsCube g b →
       sum_by (both_low a b) (numbers_below (process_count g)) ≡ asked_faults a + sum_by (more_asked lows) b
   -- the greater of two lows is the first and what the second is above it; each part is summed up over the literals

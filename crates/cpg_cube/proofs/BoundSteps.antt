@@ -101,7 +101,7 @@ module _ (ls : List Literal) (i : ℕ) (d : Literal) (rising : IsRising ls) (wit
             (λ (o : l.variable ≡ v → ⊥). get_or-set_other lows l.variable v l.low 0 (λ e. o (sym e)) ∙ b.low v h
             ∙ sym (low_in-before (take i ls) l v o))
             (cases_eq l.variable v);
-        -- and so with the highs
+        -- the literal's variable gets its high, and the others keep theirs
         high = λ v h. ⊎_elim
             (λ (e : l.variable ≡ v).
             subst (λ w. get_or (slice_set highs l.variable l.high) w 0 ≡ bound_in (take i ls ++ l ∷ []) w) e

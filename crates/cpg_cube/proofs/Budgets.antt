@@ -9,6 +9,7 @@ use Rattle.cpg_base.proofs.Lists.{same_truth}
 use Rattle.cpg_cube.specs.Cube.{Literal}
 use Rattle.cpg_cube.specs.Bounds.{budget_left}
 
+-- given: a test of literals, and how much each literal demands of the budget
 module _ (test : Literal → Bool) (demand : Literal → ℕ) where
   -- a literal that passes and demands no more than is left takes its demand, and the others go on with the rest
   budget_first : (left : ℕ) (l : Literal) (ls : List Literal) → test l ≡ true → demand l ≤ left →
@@ -21,7 +22,7 @@ module _ (test : Literal → Bool) (demand : Literal → ℕ) where
       budget_left test demand left (l ∷ ls) ≡ None
   budget_stops left l ls e = ap (λ b. cond b (budget_left test demand (left - demand l) ls) None) e
 
-  -- if all literals pass and their demands sum to no more than the budget, something is left of it
+  -- if all literals pass and their demands sum to no more than the budget, it is enough for them
   pub budget_fits : (left : ℕ) (ls : List Literal) → list_all test ls ≡ true → sum_by demand ls ≤ left →
       is_some (budget_left test demand left ls) ≡ true
   -- by induction on the literals

@@ -63,6 +63,7 @@ module _ (l : Literal) where
 
   -- ---- one was
 
+  -- given: a literal `was` on the variable of l
   module _ (was : Literal) (same : was.variable ≡ l.variable) where
     -- with `was` on the variable of l, what l leaves is what the two have in common
     range_set : (cube : List Literal) (i : ℕ) (d : Literal) → IsRising cube → i < length cube →
@@ -132,13 +133,13 @@ module _ (l : Literal) (cube : List Literal) (r : IsRising cube) (n : Narrowing)
     (is : IsOn l.variable n cube) (left : Literal) (e : left ≡ left_of l n.was) where
   -- the range that the literal leaves of the cube as it was
   range_exchanged : range_left l (restored n cube) ≡ left
-  range_exchanged = range_at l cube r n.place h (is.now blank) n.was is.before ∙ sym e
+  range_exchanged = range_at l cube r n.place h (is.there blank) n.was is.was ∙ sym e
 
   -- narrowing the cube as it was by the literal is setting what is left at the place
   pub put_exchanged : narrowed_by l (restored n cube) ≡ slice_set cube n.place left
-  put_exchanged = put_at l cube r n.place h (is.now blank) n.was is.before ∙ ap (slice_set cube n.place) (sym e)
+  put_exchanged = put_at l cube r n.place h (is.there blank) n.was is.was ∙ ap (slice_set cube n.place) (sym e)
 
-  -- the literal leaves the cube as it was no number of its variable if the low left is above the high
+  -- if the low that is left is above the high, the cube as it was can't be narrowed by the literal
   pub none_exchanged : left.high < left.low → with_literal l (restored n cube) ≡ None
   none_exchanged empty =
       let none : nat_le (range_left l (restored n cube)).low (range_left l (restored n cube)).high ≡ false =

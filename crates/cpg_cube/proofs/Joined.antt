@@ -66,7 +66,8 @@ rises_not xs ys last first rest is e le r =
     (subst (λ ls. Contains ls first) (sym e) (Contains-first first rest)) in
     omega (arith, below, le)
 
--- if the last variable before them is below their first, one pass over literals says whether they rise together
+-- if the variable of the last literal of xs is below that of the first of ys, a pass over ys says whether both lists
+-- together rise
 pub rises_together : (xs ys : List Literal) (last first : Literal) (rest : List Literal) (b : Bool) → IsRising xs →
     slice_get xs (length xs - 1) ≡ Some last → ys ≡ first ∷ rest → last.variable < first.variable →
     b ≡ rises_from 0 ys →

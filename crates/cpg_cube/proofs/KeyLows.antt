@@ -24,7 +24,7 @@ use Rattle.cpg_cube.proofs.KeyOrder.{within_order}
 -- given: two functions that agree on all variables of the graph
 module _ (g : Graph) (few : process_count g ≤ 128) (few_conditions : condition_count g ≤ 32) (low other : ℕ → ℕ)
     (same : (v : ℕ) → v < 256 → low v ≡ other v) where
-  -- they give the same low of a process's value
+  -- both give the same low of the value of p's condition, if p has one
   same_value : (p : ℕ) (o : Option ℕ) → condition_of g p ≡ o → low_of_value low o ≡ low_of_value other o
   same_value p None e = refl
   same_value p (Some c) e = let l = condition_of_below g p c e in

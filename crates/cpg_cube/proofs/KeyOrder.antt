@@ -55,7 +55,7 @@ asked_some left x xs n = cond-false (x == 0) _ _ (ne_eqb x 0 n)
 pub same_first : (x : ℕ) (xs ys : List ℕ) → is_below (x ∷ xs) (x ∷ ys) ≡ is_below xs ys
 same_first x xs ys = ap (λ (o : Ordering). is_lt (ordering_then o (slice_cmp nat_cmp xs ys))) (cmp_same x x refl)
 
--- a list whose first number is greater isn't below the other
+-- if x is greater than y, a list that begins with x isn't below one that begins with y
 pub more_first : (x y : ℕ) (xs ys : List ℕ) → y < x → is_below (x ∷ xs) (y ∷ ys) ≡ false
 more_first x y xs ys l = ap (λ (o : Ordering). is_lt (ordering_then o (slice_cmp nat_cmp xs ys))) (cmp_more x y l)
 
@@ -168,7 +168,8 @@ pub key_is : (g : Graph) (order variables : List ℕ) → variables ≡ variable
 key_is g order variables along cube =
     ap (λ (vs : List ℕ). key_by vs cube) along ∙ ap (asked_from 256) (lows_by_variable g order (low_in cube))
 
--- if the key of one cube isn't below that of another, its lows along the order aren't below the other's
+-- if the key of cube a along the order isn't below that of cube b, the lows of a along the order aren't below those
+-- of b
 pub lows_from_keys : (g : Graph) (order : List ℕ) → length order ≤ 128 → (a b : List Literal) → AreBytes a →
     is_below (key_along g order (low_in a)) (key_along g order (low_in b)) ≡ false →
     is_below (lows_along g order (low_in a)) (lows_along g order (low_in b)) ≡ false
@@ -181,8 +182,9 @@ lows_from_keys g order few a b bytes h =
     ∙ asked_below (low_in a) (low_in b) (low_in-byte a bytes) 256 (variables_along g order) (few_variables g order few)
     (ap₂ is_below (along (low_in a)) (along (low_in b)) ∙ below)))
 
+-- given: columns, each of which has a cube
 module _ {T : Type 0} (cube : T → List Literal) (columns : List T) where
-  -- the first column by keys is the first by lows
+  -- the first column by the keys along an order is the first by the lows along it
   pub first_by_lows : (g : Graph) (order variables : List ℕ) → length order ≤ 128 →
       variables ≡ variables_along g order → (at : ℕ) →
       IsFirstByKeys cube variables (length columns) columns at →
@@ -199,7 +201,7 @@ module _ {T : Type 0} (cube : T → List Literal) (columns : List T) where
     abbrev key_at : ℕ → T → List ℕ
     key_at j d = key_by variables (cube (get_or columns j d))
 
-    -- the first column is the first by keys of one column
+    -- of one column alone, it is the first by keys
     pub first_alone : ((d : T) → AreBytes (cube (get_or columns 0 d))) → IsFirstByKeys cube variables 1 columns 0
     first_alone bytes = record {
       there = omega arith;
@@ -209,10 +211,11 @@ module _ {T : Type 0} (cube : T → List Literal) (columns : List T) where
           λ j d l. subst (λ i. AreBytes (cube (get_or columns i d))) (let e : 0 ≡ j = omega (arith, l) in e) (bytes d);
     }
 
-    -- the one of the least key of the first n
+    -- `best` is the first of the first n columns by their keys
     pub record IsBest (n : ℕ) (best : Placed) : Type 0 where
-      -- its place is that of the first of them by keys, and its key is that of the column there
+      -- its place is that of the first of them by keys
       pub first : IsFirstByKeys cube variables n columns best.place
+      -- its key is that of the column there
       pub key : (d : T) → best.key.items ≡ key_at best.place d
 
     -- the best of the first n columns, and the next one with its key

@@ -102,7 +102,7 @@ places_more vs apart i d left within is places long small h v =
 
 -- ---- the place of a number
 
--- a lesser number first: the number's place is in front
+-- if the first number a of a key is less than `number`, the place of `number` is in front
 stop_at : (number a : ℕ) (key : List ℕ) → nat_lt a number ≡ true → place_in number (a ∷ key) ≡ 0
 stop_at number a key t = cond-true (nat_lt a number) 0 (suc (place_in number key)) t
 
@@ -141,7 +141,7 @@ insert_at (k ∷ key) (suc i) x l = ap (λ ks. k ∷ ks) (insert_at key i x (ome
 put_front : (number : ℕ) (key : List ℕ) → place_in number key ≡ 0 → with_number number key ≡ number ∷ key
 put_front number key e = ap (λ n. take n key ++ number ∷ drop n key) e
 
--- a low that isn't above the first of the key is put behind that
+-- a low whose number isn't above the first number a of the key is put behind a
 put_past : (p low a : ℕ) (key : List ℕ) → p * 256 + low ≤ a →
     with_any_asked p low (a ∷ key) ≡ a ∷ with_any_asked p low key
 -- without a place, the key stays as it is; with one, the new number belongs behind the first
@@ -214,6 +214,7 @@ module _ (v : ℕ) (f g : ℕ → ℕ) (nothing : f v ≡ 0) (something : g v �
 
 -- ---- a key literal by literal
 
+-- given: `places` has, by variable, how many places are left at each of the variables
 module _ (variables places : List ℕ) (are : ArePlaces variables places) where
   -- a key of literals `done` with the low of a literal on a variable above them is the key of these and that literal
   one_more : (done : List Literal) (l : Literal) → AreBytes done → l.low < 256 →
@@ -306,6 +307,7 @@ bytes_of_none ls h k d l = omega (
 
 -- ---- the variables along an order are each there once
 
+-- given: a graph of at most 128 processes
 module _ (g : Graph) (few : process_count g ≤ 128) where
   -- the variables of one process differ
   own_apart : (p : ℕ) → p < process_count g → AllPairs (λ u v. u ≢ v) (variables_of g p)
@@ -355,7 +357,7 @@ module _ (g : Graph) (few : process_count g ≤ 128) where
     ]
   ]
     where
-      -- one condition is of one process
+      -- equal conditions c and d have the same process
       process_same : (c d : ℕ) → c ≡ d → process_of g c ≡ process_of g d
       process_same c d e = ap (process_of g) e
 

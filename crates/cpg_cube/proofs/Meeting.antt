@@ -31,7 +31,7 @@ pub met_from_none : (k : ℕ) (cube : List Literal) → budget_left (is_open k) 
     is_met k cube ≡ false
 met_from_none k cube e = sym (met_is k cube) ∙ ap is_some e
 
--- a cube is met if something is left of the budget
+-- a cube is met if the budget is enough for its literals
 pub met_from_some : (k left : ℕ) (cube : List Literal) → budget_left (is_open k) asked_of_literal k cube ≡ Some left →
     is_met k cube ≡ true
 met_from_some k left cube e = sym (met_is k cube) ∙ ap is_some e
@@ -53,7 +53,7 @@ small_variable g limits v h =
 
 -- ---- scenarios of lows
 
--- functions that agree below 256 make the same scenario
+-- if f and h agree below 256, they make the same scenario of the graph
 pub same_scenario : (g : Graph) → IsWithinLimits g → (f h : ℕ → ℕ) → ((v : ℕ) → v < 256 → f v ≡ h v) →
     scenario_of g f ≡ scenario_of g h
 -- the values and the counts are made of numbers of variables, which are all below 256
@@ -99,6 +99,7 @@ module _ (g : Graph) (limits : IsWithinLimits g) (a : List Literal) (is_a : IsCu
   within_where_unmet b e =
       or_left (not (is_met g.faults a)) (list_all (bounds g.faults a) b) (not_from_false (is_met g.faults a) e)
 
+  -- given: a second cube of the graph
   module _ (b : List Literal) (is_b : IsCube g b) where
     -- the bounds of the cube, and the faults that it leaves
     module _ (lows_of highs_of : List ℕ) (are : AreBounds a lows_of highs_of) (left : ℕ)

@@ -19,7 +19,7 @@ IsPlace v (m ∷ ms) zero = v ≤ m.variable
 IsPlace v (m ∷ ms) (suc i) = (m.variable < v) × IsPlace v ms i
 
 module _ (v : ℕ) where
-  -- nothing stands before a first literal on the variable or above
+  -- no literal stands before a first one on the variable or above
   counted_first : (m : Literal) (ms : List Literal) → v ≤ m.variable → position_or_len (from_variable v) (m ∷ ms) ≡ 0
   counted_first m ms h = ap (λ b. cond (not b) (1 + position_or_len (from_variable v) ms) 0) (le-leb v m.variable h)
 

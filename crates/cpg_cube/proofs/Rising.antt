@@ -33,7 +33,7 @@ rising_from least (l ∷ ls) h =
     AllPairs-cons_by (λ l m. l.variable < m.variable) l ls (λ m c. let a = from_least (l.variable + 1) ls r.1 m c in
     omega arith) (rising_from (l.variable + 1) ls r.1)
 
--- if the variables rise from at least the given one, the pass says so
+-- if the variables rise, and none is below `least`, the pass from `least` on says so
 pub rises_by : (least : ℕ) (ls : List Literal) → IsRising ls → ((l : Literal) → Contains ls l → least ≤ l.variable) →
     rises_from least ls ≡ true
 -- by induction on the literals

@@ -23,7 +23,7 @@ module _ {T : Type 0} (x : T) where
   removed_in (y ∷ ys) zero h = refl
   removed_in (y ∷ ys) (suc i) h = ap (λ zs. y ∷ zs) (removed_in ys i (omega (arith, h)))
 
-  -- the list with an element put in still has the place
+  -- the list with x put in at place i has a place i
   in_there : (xs : List T) (i : ℕ) → i < length xs → i < length (insert xs i x)
   in_there [] i h = absurd (omega (arith, h))
   in_there (y ∷ ys) zero h = omega arith
@@ -85,25 +85,25 @@ module _ (l : Literal) (xs : List Literal) where
   pub on_last : (new : List Literal) (place : ℕ) → place ≡ length xs → new ≡ xs ++ l ∷ [] →
       IsOn l.variable (record { place = place; was = None }) new
   on_last new place at is = record {
-    now = λ d. let e : get_or new place d ≡ l = rw (is, at) (last_is l xs d) in ap (λ (m : Literal). m.variable) e;
-    before = tt;
+    there = λ d. let e : get_or new place d ≡ l = rw (is, at) (last_is l xs d) in ap (λ (m : Literal). m.variable) e;
+    was = tt;
   }
 
   -- at the place of a narrowing is a literal on the variable, if it was put in there
   pub on_in : (new : List Literal) (place : ℕ) → place < length xs → new ≡ insert xs place l →
       IsOn l.variable (record { place = place; was = None }) new
   on_in new place h is = record {
-    now = λ d. let e : get_or new place d ≡ l = rw is (in_is l xs place d h) in ap (λ (m : Literal). m.variable) e;
-    before = tt;
+    there = λ d. let e : get_or new place d ≡ l = rw is (in_is l xs place d h) in ap (λ (m : Literal). m.variable) e;
+    was = tt;
   }
 
-  -- at the place of a narrowing is a literal on v, and so was the one before, if both are on v and the one was set there
+  -- at the place of a narrowing is a literal on v, as was the one before it, if l is on v too and was set there
   pub on_set : (new : List Literal) (place v : ℕ) (was : Literal) → place < length xs → was.variable ≡ v →
       l.variable ≡ v →
       new ≡ slice_set xs place l →
       IsOn v (record { place = place; was = Some was }) new
-  on_set new place v was h before now is = record {
-    now = λ d. let e : get_or new place d ≡ l = rw is (get_or-set_same xs place l d h) in
-        ap (λ (m : Literal). m.variable) e ∙ now;
-    before = before;
+  on_set new place v was h was_on on is = record {
+    there = λ d. let e : get_or new place d ≡ l = rw is (get_or-set_same xs place l d h) in
+        ap (λ (m : Literal). m.variable) e ∙ on;
+    was = was_on;
   }

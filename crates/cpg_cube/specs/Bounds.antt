@@ -9,14 +9,16 @@ abbrev pub bound_in : List Literal → ℕ → ℕ
 bound_in [] v = 255
 bound_in (l ∷ ls) v = if l.variable == v then l.high else bound_in ls v
 
--- the lists have the low and the high of each variable in the cube: 0 and 255 if it has no literal on the variable
+-- the lists have the low and the high of each variable in the cube
 pub record AreBounds (cube : List Literal) (lows highs : List ℕ) : Type 0 where
+  -- the low of v is that of the cube's range, or 0 if no literal is on v
   pub low : (v : ℕ) → v < 256 → get_or lows v 0 ≡ low_in cube v
+  -- the high of v is that of the cube's range, or 255 if no literal is on v
   pub high : (v : ℕ) → v < 256 → get_or highs v 0 ≡ bound_in cube v
 
--- each later low is the greater of the one before and the cube's
+-- `raised` is `lows` with each number raised to the cube's low of its variable, if that is greater
 abbrev pub AreRaised : List Literal → List ℕ → List ℕ → Type 0
-AreRaised cube lows later = (v : ℕ) → v < 256 → get_or later v 0 ≡ max (get_or lows v 0) (low_in cube v)
+AreRaised cube lows raised = (v : ℕ) → v < 256 → get_or raised v 0 ≡ max (get_or lows v 0) (low_in cube v)
 
 -- What is left of a budget after each literal has taken its demand from it. None if a literal fails the test, or demands
 -- more than is left at its turn.

@@ -29,7 +29,9 @@ AreByLows {T} cube g order columns = AllPairs (λ (c d : T).
 pub record IsFirstByLows {T : Type 0} (cube : T → List Literal) (g : Graph) (order : List ℕ) (columns : List T)
     -- d is what `get_or` answers behind the last column, so it plays no part
     (at : ℕ) : Type 0 where
+  -- there is a column at the place
   pub there : at < length columns
+  -- no column's lows come before its lows
   pub first : (j : ℕ) (d : T) → j < length columns →
       is_below (lows_along g order (low_in (cube (get_or columns j d))))
       (lows_along g order (low_in (cube (get_or columns at d)))) ≡ false
@@ -74,10 +76,11 @@ left_at left (u ∷ us) v = if u == v then left else left_at (left - 1) us v
 
 -- `places` has, by variable, how many places are left at each of a list of variables
 pub record ArePlaces (variables places : List ℕ) : Type 0 where
-  -- there are at most 256, and none is there twice
+  -- there are at most 256 variables
   pub few : length variables ≤ 256
+  -- no variable is there twice
   pub apart : AllPairs (λ u v. u ≢ v) variables
-  -- 256 at the first of them, and one less at each that follows
+  -- 256 places are left at the first of them, and one less at each that follows
   pub left : (v : ℕ) → get_or places v 0 ≡ left_at 256 variables v
 
 -- how many numbers at the front of a key are at least `number`; a key falls, so it belongs behind these
@@ -109,12 +112,15 @@ AreBytes cube = All (λ (l : Literal). l.low < 256) cube
 
 -- the key is that of a cube for a list of variables, and the cube's lows are bytes
 pub record IsKeyOf (variables : List ℕ) (cube : List Literal) (key : List ℕ) : Type 0 where
+  -- it is the key of the cube's lows
   pub is : key ≡ key_by variables cube
+  -- the cube's lows are bytes
   pub bytes : AreBytes cube
 
 -- none of the first n columns has a key before that of the column at the place `at`, which is one of them
 pub record IsFirstByKeys {T : Type 0} (cube : T → List Literal) (variables : List ℕ) (n : ℕ) (columns : List T)
     (at : ℕ) : Type 0 where
+  -- the place is one of the first n
   pub there : at < n
   -- no column's key comes before the key at the place
   pub first : (j : ℕ) (d : T) → j < n →

@@ -13,15 +13,19 @@ restored_at place None literals = remove literals place
 abbrev pub restored : Narrowing → List Literal → List Literal
 restored n literals = restored_at n.place n.was literals
 
--- the narrowing n leads from the new literals back to the old ones
-pub record IsUndo (n : Narrowing) (new old : List Literal) : Type 0 where
-  pub place : n.place < length new
-  pub back : restored n new ≡ old
+-- the narrowing n made the literals `narrowed` of `literals`, and leads back to these
+pub record IsUndo (n : Narrowing) (narrowed literals : List Literal) : Type 0 where
+  -- there is a literal at the narrowing's place
+  pub place : n.place < length narrowed
+  -- undoing the narrowing gives the literals as they were
+  pub back : restored n narrowed ≡ literals
 
--- the literal at the narrowing's place is on v, and so was the one before it, if there was one
+-- the narrowing n is one of variable v in the cube of these literals
 pub record IsOn (v : ℕ) (n : Narrowing) (literals : List Literal) : Type 0 where
-  pub now : (d : Literal) → (get_or literals n.place d).variable ≡ v
-  pub before : IfSome n.was (λ w. w.variable ≡ v)
+  -- the literal at the narrowing's place is on v; d is what `get_or` answers behind the last literal, so it plays no part
+  pub there : (d : Literal) → (get_or literals n.place d).variable ≡ v
+  -- the literal that stood there before, if one did, was on v too
+  pub was : IfSome n.was (λ w. w.variable ≡ v)
 
 -- what is left of l's variable: its range met with that of the literal that was there, or its own if none was
 abbrev pub left_of : Literal → Option Literal → Literal

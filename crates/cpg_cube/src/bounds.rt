@@ -14,12 +14,12 @@ use cpg_base::{FIRST_VALUE, Problem, Scenario};
 /// How many variables there may be: the number of a variable is a byte.
 pub const VARIABLES: usize = 256;
 
-/// The least and the greatest number of each variable in a cube; 0 and 255 if it has no literal on the variable.
+/// A range of numbers for each variable: that of a cube (`of`), whose lows may then be raised to those of another (`raise`).
 #[derive(Drop)]
 pub struct Bounds {
-    /// The least number of each variable, 0 without a literal.
+    /// The least number of each variable; 0 if no literal is on it.
     pub low: [u8; VARIABLES],
-    /// The greatest number of each variable, 255 without a literal.
+    /// The greatest number of each variable; 255 if no literal is on it.
     pub high: [u8; VARIABLES],
 }
 
@@ -97,7 +97,7 @@ impl Bounds {
         true
     }
 
-    /// Whether a literal's range has all numbers that its variable can have here if this many faults are left.
+    /// Whether a literal's range has all numbers that its variable can have here if `left` faults are left.
     pub fn spans(&self, left: u8, literal: &Literal) -> bool
         ensures { result ≡ spans self.now.low self.now.high left literal.now }
     {
@@ -112,7 +112,7 @@ impl Bounds {
         literal.low <= low && high.min(most) <= literal.high
     }
 
-    /// Whether the range of each literal has all numbers that its variable can have here if this many faults are left.
+    /// Whether the range of each literal has all numbers that its variable can have here if `left` faults are left.
     pub(crate) fn span_all(&self, left: u8, literals: &[Literal]) -> bool
         ensures { result ≡ list_all (spans self.now.low self.now.high left) literals.now }
     {
@@ -160,6 +160,7 @@ impl Bounds {
         ensures lows { least.new ≡ scenario_of problem.now (λ v. get_or self.now.low v 0) }
         ensures within { IsWithinLimits problem.now }
     {
+        // at most 128 processes, so the cast keeps their count
         self.write_faults(least, problem.processes().len() as u32);
         self.write_values(least, problem.conditions());
     }

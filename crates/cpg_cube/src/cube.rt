@@ -70,10 +70,10 @@ fn do_variables_rise(literals: &[Literal]) -> bool
         return true;
     };
     let mut do_rise = true;
-    let mut before = first.variable;
+    let mut previous = first.variable;
     for literal in rest {
-        do_rise &= before < literal.variable;
-        before = literal.variable;
+        do_rise &= previous < literal.variable;
+        previous = literal.variable;
     }
     do_rise
 }
@@ -442,7 +442,7 @@ impl Cube {
         ensures some { IfSome result (λ _. do_meet problem.now self.now other.now ≡ true) }
         ensures lows { IfSome result (λ b. scenario_of problem.now (λ v. get_or b.low v 0) ≡ both_lows problem.now self.now other.now) }
         ensures cubes { IsCube problem.now self.now × IsCube problem.now other.now }
-        ensures within { IsWithinLimits problem.now }
+        ensures limits { IsWithinLimits problem.now }
     {
         let k = problem.faults();
         let literals = other.literals();
@@ -488,14 +488,14 @@ impl Cube {
         self.is_within(other, problem)
     }
 
-    /// Does what `within` does. Its contract also says that both are cubes of the problem, and the problem is within its
-    /// limits, from which the clause of `within` follows.
+    /// Does what `within` does. Its contract also says that both are cubes of the problem, and that the problem is within its
+    /// limits; from these the clause `all` of `within` follows.
     fn is_within(&self, other: &Cube, problem: &Problem) -> bool
         requires first { IsKnown problem.now self.now }
         requires second { IsKnown problem.now other.now }
         ensures exact { result ≡ is_within problem.now.faults self.now other.now }
         ensures cubes { IsCube problem.now self.now × IsCube problem.now other.now }
-        ensures within { IsWithinLimits problem.now }
+        ensures limits { IsWithinLimits problem.now }
     {
         let literals = other.literals();
         // a cube that matches no scenario lies within every cube

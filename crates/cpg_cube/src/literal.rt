@@ -38,7 +38,7 @@ impl Literal {
         self.low <= number && number <= self.high
     }
 
-    /// Whether the literal's variable is one of a graph with this many processes and conditions.
+    /// Whether the literal's variable is one of a graph with `processes` processes and `conditions` conditions.
     pub(crate) fn is_known(&self, processes: usize, conditions: u32) -> bool
         ensures { IsTrue result ↔ (self.now.variable < processes) ⊎ ((128 ≤ self.now.variable) × (self.now.variable < 128 + conditions)) }
     {

@@ -61,7 +61,7 @@ pub fn variables_along(
     requires order { All (λ p. p < process_count problem.now) order.now }
     ensures { IfOk result (λ r. r.items ≡ variables_along problem.now order.now) }
 {
-    // called for its contract: a problem is within the limits of a graph file
+    // asked only for its clause: a problem is within the limits of a graph file
     let _processes = problem.processes();
     let mut variables = Vec::new(alloc);
     for process in order {
@@ -96,7 +96,7 @@ pub fn places_along(
     requires { IsPermutation (numbers_below (process_count problem.now)) order.now }
     ensures { IfOk result (ArePlaces (variables_along problem.now order.now)) }
 {
-    // called for its contract: a problem is within the limits of a graph file, so there are at most 256 variables
+    // asked only for its clause: a problem is within the limits of a graph file, so there are at most 256 variables
     let _processes = problem.processes();
     let variables = variables_along(alloc, problem, order.processes())?;
     Ok(places_of(variables.as_slice()))
@@ -253,7 +253,7 @@ pub fn by_least_scenario<T: Cubed + Drop>(
     ensures permutation { IfOk result (λ r. IsPermutation columns.items r.items) }
     ensures by_lows { IfOk result (λ r. AreByLows T.cubed problem.now order.now r.items) }
 {
-    // called for its contract: a problem is within the limits of a graph file, so there are at most 256 variables
+    // asked only for its clause: a problem is within the limits of a graph file, so there are at most 256 variables
     let _processes = problem.processes();
     let variables = variables_along(alloc, problem, order.processes())?;
     let mut ranked = with_keys(alloc, variables.as_slice(), columns)?;
@@ -318,7 +318,7 @@ pub fn first_by_least_scenario<T: Cubed>(
     ensures none { IfOk result (λ r. IfNone r (columns.now ≡ [])) }
     ensures first { IfOk result (λ r. IfSome r (IsFirstByLows T.cubed problem.now order.now columns.now)) }
 {
-    // called for its contract: a problem is within the limits of a graph file, so there are at most 256 variables
+    // asked only for its clause: a problem is within the limits of a graph file, so there are at most 256 variables
     let _processes = problem.processes();
     let variables = variables_along(alloc, problem, order.processes())?;
     let place = first_by_key(alloc, variables.as_slice(), columns)?;

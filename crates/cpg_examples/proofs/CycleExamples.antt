@@ -125,16 +125,16 @@ late-not_over_by_40 o =
 -- a cycle that begins at 40 starts A before the frame of the one before is there
 pub late-not_apart_at_40 : AreApart late_broadcast late_world.scenario late_play late_play 0 40 → ⊥
 late-not_apart_at_40 a =
-    let before : 50 ≤ 40 = a.frames 0 0 (act 40 4 0) (act 0 0 0) (omega arith) (2, omega arith, refl)
+    let wrong : 50 ≤ 40 = a.frames 0 0 (act 40 4 0) (act 0 0 0) (omega arith) (2, omega arith, refl)
     (0, omega arith, refl) (omega arith) in
-    absurd (omega (arith, before))
+    absurd (omega (arith, wrong))
 
 -- no cycle is apart from itself
 pub late-not_apart_from_itself : AreApart late_broadcast late_world.scenario late_play late_play 60 60 → ⊥
 late-not_apart_from_itself a =
-    let before : 110 ≤ 60 = a.frames 0 0 (act 40 4 0) (act 0 0 0) (omega arith) (2, omega arith, refl)
+    let wrong : 110 ≤ 60 = a.frames 0 0 (act 40 4 0) (act 0 0 0) (omega arith) (2, omega arith, refl)
     (0, omega arith, refl) (omega arith) in
-    absurd (omega (arith, before))
+    absurd (omega (arith, wrong))
 
 -- one node, without a bus
 abbrev pub alone : Graph

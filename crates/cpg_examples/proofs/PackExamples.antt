@@ -1,4 +1,4 @@
--- What a pack isn't.
+-- A whole pack is no bad pack, neither where it ends nor as a front of itself.
 use Rattle.std.proofs.Common.{ℕ, length, take, refl, arith}
 use Rattle.std.proofs.lemmas.List.{take_all}
 use Rattle.cpg_table.specs.Lawful.{Tables}

@@ -21,7 +21,7 @@ use Rattle.cpg_live.specs.Stream.{after, outcome, turns_below}
 use Rattle.cpg_live.specs.Spelling.{closed_at, stream_bytes}
 use Rattle.cpg_follow_laws.specs.Follow.{records_in, GivesWhatIsDue}
 use Rattle.cpg_follow_laws.specs.Sent.{only}
-use Rattle.cpg_follow_laws.specs.Streams.{IsToldAll}
+use Rattle.cpg_follow_laws.specs.Streams.{AreAllRecords}
 use Rattle.cpg_follow_laws.proofs.Follow.{streams_give}
 use Rattle.cpg_examples.proofs.Examples.{pair, frozen_pair, branching, branching_tables, act}
 use Rattle.cpg_examples.proofs.Pair.{formed}
@@ -124,7 +124,7 @@ pub told-is_lawful_events : records_in pair pair_world (initial_cluster pair pai
 told-is_lawful_events = refl
 
 -- these are all events that it is told
-pub told-all : IsToldAll pair pair_tables pair_world pair_turns 1 105 lawful_events
+pub told-all : AreAllRecords pair pair_tables pair_world pair_turns 1 105 lawful_events
 told-all = record {
   those = ([], (105, Ending 1 0 false) ∷ [], refl, ([], [], refl, refl));
   rise = (omega arith, refl, (omega arith, refl, omega arith));

@@ -32,7 +32,7 @@ module _ (xs ys : List Literal) (v : ℕ) where
     kept_low_below ys v (kept_low (xs ++ ys) v) (λ m j e. low_kept (xs ++ ys) v m (Contains-append_right xs ys m j) e),
   )
 
-  -- and the high is no greater
+  -- the high that both lists leave together is no greater than that of either
   kept_high_both : (k : ℕ) → kept_high k (xs ++ ys) v ≤ min (kept_high k xs v) (kept_high k ys v)
   kept_high_both k = omega (
     arith,
@@ -44,7 +44,7 @@ module _ (xs ys : List Literal) (v : ℕ) where
 
 -- ---- the operations
 
--- `s` is the scenario in which trees agree
+-- given: the scenario in which trees agree
 module _ (s : Scenario) where
   -- a tree that agrees with some literals agrees with more of them, and has any fact that follows
   pub agrees_weaker : {T : Type 0} (t : TreeState T) (some more : List Literal) (fact other : T → Type 0) →
@@ -94,15 +94,16 @@ module _ (s : Scenario) where
             });
       }
 
-  -- the tree of the answers to two trees' values agrees with the literals of both
+  -- the tree r of the answers to the values of a and b agrees with the literals of both: where `by_a` says `fact_a` of
+  -- a's value and `by_b` says `fact_b` of b's, both lists say `fact` of the answer
   pub agrees_join : {T U V : Type 0} (answers : T → U → V → Type 0) (a : TreeState T) (b : TreeState U)
-      (r : TreeState V) (first second : List Literal) (fact_a : T → Type 0) (fact_b : U → Type 0)
+      (r : TreeState V) (by_a by_b : List Literal) (fact_a : T → Type 0) (fact_b : U → Type 0)
       (fact : V → Type 0) →
       HasAtMostFaults a.faults s → b.faults ≡ a.faults → HasOnePathEach a.faults a.paths →
       HasOnePathEach a.faults b.paths → IsJoin answers a b r →
-      ((x : T) (y : U) (z : V) → fact_a x → fact_b y → answers x y z → fact z) → Agrees s first fact_a a →
-      Agrees s second fact_b b → Agrees s (first ++ second) fact r
-  agrees_join answers a b r first second fact_a fact_b fact few same each_a each_b is follows of_a of_b =
+      ((x : T) (y : U) (z : V) → fact_a x → fact_b y → answers x y z → fact z) → Agrees s by_a fact_a a →
+      Agrees s by_b fact_b b → Agrees s (by_a ++ by_b) fact r
+  agrees_join answers a b r by_a by_b fact_a fact_b fact few same each_a each_b is follows of_a of_b =
       -- the paths of the two trees that the scenario takes
       let x = the_path a.faults a.paths each_a s few in
       let y = the_path a.faults b.paths each_b s few in
@@ -112,26 +113,32 @@ module _ (s : Scenario) where
         -- the path's literals say no more than those of the two
         says = λ z on.
             let wide = is.ranges s x.0 y.0 z few x.1 y.1 on in
-            let one = of_a.says x.0 x.1 in
-            let two = subst (λ k. ContainsKept k y.0.0 second) same (of_b.says y.0 y.1) in
-            subst (λ k. ContainsKept k z.0 (first ++ second)) (sym is.faults) (record {
-              low = λ v. omega (arith, wide.low v, one.low v, two.low v, kept_low_both first second v);
-              high = λ v. omega (arith, wide.high v, one.high v, two.high v, kept_high_both first second v a.faults);
+            let kept_a = of_a.says x.0 x.1 in
+            let kept_b = subst (λ k. ContainsKept k y.0.0 by_b) same (of_b.says y.0 y.1) in
+            subst (λ k. ContainsKept k z.0 (by_a ++ by_b)) (sym is.faults) (record {
+              low = λ v. omega (arith, wide.low v, kept_a.low v, kept_b.low v, kept_low_both by_a by_b v);
+              high = λ v. omega (
+                arith,
+                wide.high v,
+                kept_a.high v,
+                kept_b.high v,
+                kept_high_both by_a by_b v a.faults,
+              );
             });
       }
 
-  -- a tree that is made of two where a chooser is true: if it is true, the answer to both values, by the literals of
-  -- all three
+  -- the tree r is made of a and b where a chooser is true: if `chosen_by` says that it is, `by_a` says `fact_a` of a's
+  -- value and `by_b` says `fact_b` of b's, the three lists say `fact` of the answer
   pub agrees_where : {T U V : Type 0} (answers : T → U → V → Type 0) (none : V) (chooser : TreeState Bool)
-      (a : TreeState T) (b : TreeState U) (r : TreeState V) (given first second : List Literal)
+      (a : TreeState T) (b : TreeState U) (r : TreeState V) (chosen_by by_a by_b : List Literal)
       (fact_a : T → Type 0) (fact_b : U → Type 0) (fact : V → Type 0) →
       HasAtMostFaults chooser.faults s → a.faults ≡ chooser.faults → b.faults ≡ chooser.faults →
       HasOnePathEach chooser.faults chooser.paths → HasOnePathEach chooser.faults a.paths →
       HasOnePathEach chooser.faults b.paths → IsJoinWhere answers none chooser a b r →
       ((x : T) (y : U) (z : V) → fact_a x → fact_b y → answers x y z → fact z) →
-      Agrees s given (λ c. c ≡ true) chooser → Agrees s first fact_a a → Agrees s second fact_b b →
-      Agrees s (given ++ (first ++ second)) fact r
-  agrees_where answers none chooser a b r given first second fact_a fact_b fact few same_a same_b each_c each_a each_b
+      Agrees s chosen_by (λ c. c ≡ true) chooser → Agrees s by_a fact_a a → Agrees s by_b fact_b b →
+      Agrees s (chosen_by ++ (by_a ++ by_b)) fact r
+  agrees_where answers none chooser a b r chosen_by by_a by_b fact_a fact_b fact few same_a same_b each_c each_a each_b
       is follows of_c of_a of_b =
       -- the paths c, x and y of the scenario in the three trees decide the value, and the literals on the path in the
       -- join are those that the three paths say
@@ -146,38 +153,39 @@ module _ (s : Scenario) where
         -- the path says no more than the three paths, whose literals these are
         says = λ z on.
             let wide = is.on_ranges s c.0 x.0 y.0 z few c.1 chosen x.1 y.1 on in
-            let zero = of_c.says c.0 c.1 in
-            let one = subst (λ k. ContainsKept k x.0.0 first) same_a (of_a.says x.0 x.1) in
-            let two = subst (λ k. ContainsKept k y.0.0 second) same_b (of_b.says y.0 y.1) in
-            subst (λ k. ContainsKept k z.0 (given ++ (first ++ second))) (sym is.faults) (record {
+            let kept_c = of_c.says c.0 c.1 in
+            let kept_a = subst (λ k. ContainsKept k x.0.0 by_a) same_a (of_a.says x.0 x.1) in
+            let kept_b = subst (λ k. ContainsKept k y.0.0 by_b) same_b (of_b.says y.0 y.1) in
+            subst (λ k. ContainsKept k z.0 (chosen_by ++ (by_a ++ by_b))) (sym is.faults) (record {
               low = λ v. omega (
                 arith,
                 wide.low v,
-                zero.low v,
-                one.low v,
-                two.low v,
-                kept_low_both first second v,
-                kept_low_both given (first ++ second) v,
+                kept_c.low v,
+                kept_a.low v,
+                kept_b.low v,
+                kept_low_both by_a by_b v,
+                kept_low_both chosen_by (by_a ++ by_b) v,
               );
               high = λ v. omega (
                 arith,
                 wide.high v,
-                zero.high v,
-                one.high v,
-                two.high v,
-                kept_high_both first second v chooser.faults,
-                kept_high_both given (first ++ second) v chooser.faults,
+                kept_c.high v,
+                kept_a.high v,
+                kept_b.high v,
+                kept_high_both by_a by_b v chooser.faults,
+                kept_high_both chosen_by (by_a ++ by_b) v chooser.faults,
               );
             });
       }
 
-  -- the same if the chooser is false: the one value, by the chooser's literals alone
+  -- the tree r is made as in `agrees_where`: if `chosen_by` says that the chooser is false, it says that r's value is
+  -- `none`
   pub agrees_elsewhere : {T U V : Type 0} (answers : T → U → V → Type 0) (none : V) (chooser : TreeState Bool)
-      (a : TreeState T) (b : TreeState U) (r : TreeState V) (given : List Literal) →
+      (a : TreeState T) (b : TreeState U) (r : TreeState V) (chosen_by : List Literal) →
       HasAtMostFaults chooser.faults s → HasOnePathEach chooser.faults chooser.paths →
-      IsJoinWhere answers none chooser a b r → Agrees s given (λ c. c ≡ false) chooser
-      → Agrees s given (λ z. z ≡ none) r
-  agrees_elsewhere answers none chooser a b r given few each is of_c =
+      IsJoinWhere answers none chooser a b r → Agrees s chosen_by (λ c. c ≡ false) chooser
+      → Agrees s chosen_by (λ z. z ≡ none) r
+  agrees_elsewhere answers none chooser a b r chosen_by few each is of_c =
       -- the path of the chooser that the scenario takes, whose value is false
       let c = the_path chooser.faults chooser.paths each s few in
       let chosen = of_c.value c.0 c.1 in
@@ -186,21 +194,23 @@ module _ (s : Scenario) where
         says = λ z on.
             let wide = is.off_ranges s c.0 z few c.1 chosen on in
             let kept = of_c.says c.0 c.1 in
-            subst (λ k. ContainsKept k z.0 given) (sym is.faults) (record {
+            subst (λ k. ContainsKept k z.0 chosen_by) (sym is.faults) (record {
               low = λ v. omega (arith, wide.low v, kept.low v);
               high = λ v. omega (arith, wide.high v, kept.high v);
             });
       }
 
-  -- the tree that a chooser picks has the picked value, by the literals of that tree and the chooser's
+  -- the tree r picks `on` where the chooser is true and `off` where it is false: if `by_chooser` says that the chooser
+  -- is b, and `by_picked` says `fact` of the value of the tree that b picks, both lists say it of r's value
   pub agrees_pick : {T : Type 0} (chooser : TreeState Bool) (on off r : TreeState T) (b : Bool)
-      (first second : List Literal) (fact : T → Type 0) →
+      (by_chooser by_picked : List Literal) (fact : T → Type 0) →
       HasAtMostFaults chooser.faults s → on.faults ≡ chooser.faults → off.faults ≡ chooser.faults →
       HasOnePathEach chooser.faults chooser.paths → HasOnePathEach chooser.faults on.paths →
       HasOnePathEach chooser.faults off.paths →
-      IsPick chooser on off r → Agrees s first (λ c. c ≡ b) chooser → Agrees s second fact (if b then on else off) →
-      Agrees s (first ++ second) fact r
-  agrees_pick {T} chooser on off r b first second fact few same_on same_off each_c each_on each_off is of_c of_picked =
+      IsPick chooser on off r → Agrees s by_chooser (λ c. c ≡ b) chooser →
+      Agrees s by_picked fact (if b then on else off) →
+      Agrees s (by_chooser ++ by_picked) fact r
+  agrees_pick {T} chooser on off r b by_chooser by_picked fact few same_on same_off each_c each_on each_off is of_c of_picked =
       -- the path of the scenario in the chooser, and that in the tree that it picks
       let c = the_path chooser.faults chooser.paths each_c s few in
       let chosen : c.0.1 ≡ b = of_c.value c.0 c.1 in
@@ -214,12 +224,17 @@ module _ (s : Scenario) where
         -- the path says no more than these two paths
         says = λ z there.
             let wide = is.ranges s c.0 x.0 z few c.1 here there in
-            let one = of_c.says c.0 c.1 in
-            let two = picked_says b of_picked x.0 x.1 in
-            subst (λ k. ContainsKept k z.0 (first ++ second)) (sym is.faults) (record {
-              low = λ v. omega (arith, wide.low v, one.low v, two.low v, kept_low_both first second v);
-              high =
-                  λ v. omega (arith, wide.high v, one.high v, two.high v, kept_high_both first second v chooser.faults);
+            let kept_c = of_c.says c.0 c.1 in
+            let kept_x = picked_says b of_picked x.0 x.1 in
+            subst (λ k. ContainsKept k z.0 (by_chooser ++ by_picked)) (sym is.faults) (record {
+              low = λ v. omega (arith, wide.low v, kept_c.low v, kept_x.low v, kept_low_both by_chooser by_picked v);
+              high = λ v. omega (
+                arith,
+                wide.high v,
+                kept_c.high v,
+                kept_x.high v,
+                kept_high_both by_chooser by_picked v chooser.faults,
+              );
             });
       }
     where
@@ -229,17 +244,17 @@ module _ (s : Scenario) where
       picked_path false = the_path chooser.faults off.paths each_off s few
 
       -- its value has the fact
-      picked_value : (d : Bool) → Agrees s second fact (if d then on else off) → (x : Path T) →
+      picked_value : (d : Bool) → Agrees s by_picked fact (if d then on else off) → (x : Path T) →
           IsOnPath (if d then on.paths else off.paths) s x → fact x.1
       picked_value true a x h = a.value x h
       picked_value false a x h = a.value x h
 
       -- its path says no more than the second literals
-      picked_says : (d : Bool) → Agrees s second fact (if d then on else off) → (x : Path T) →
+      picked_says : (d : Bool) → Agrees s by_picked fact (if d then on else off) → (x : Path T) →
           IsOnPath (if d then on.paths else off.paths) s x →
-          ContainsKept chooser.faults x.0 second
-      picked_says true a x h = subst (λ k. ContainsKept k x.0 second) same_on (a.says x h)
-      picked_says false a x h = subst (λ k. ContainsKept k x.0 second) same_off (a.says x h)
+          ContainsKept chooser.faults x.0 by_picked
+      picked_says true a x h = subst (λ k. ContainsKept k x.0 by_picked) same_on (a.says x h)
+      picked_says false a x h = subst (λ k. ContainsKept k x.0 by_picked) same_off (a.says x h)
 
   -- a tree of a variable's number has that number, by the literal that says it
   pub agrees_number : {T : Type 0} (v k : ℕ) (number : T → ℕ) (t : TreeState T) → HasAtMostFaults k s →

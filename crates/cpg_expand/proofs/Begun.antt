@@ -76,7 +76,7 @@ pub own_rows_hold : (g : Graph) (order : List ℕ) (i : ℕ) (f : ForestState) �
     RowsHold g order i f (own_rows f)
 unfolding path_column
 own_rows_hold g order i f has = record {
-  sends = λ x l sent before path time j is. (
+  sends = λ x l sent frozen_old path time j is. (
     path_column path,
     subst (λ (columns : List Column). Contains columns (path_column path)) (sym (row x l))
         (Contains-map path_column (times_of g f x).paths path j),
@@ -91,14 +91,14 @@ own_rows_hold g order i f has = record {
 
 -- given: trees that are grown before the place of a process, and the trees once that process has begun
 -- `a`, `order`, `topological`: an admitted graph and an order of it; `p`, `l`: one of its processes
--- `old`, `before`, `grown`: the trees and frozen times up to p's place; `new`, `after`, `trees`, `b`: those once p
--- has begun
+-- `old`, `frozen_old`, `grown`: the trees and frozen times up to p's place; `new`, `frozen_new`, `trees`, `b`: those
+-- once p has begun
 -- `chooser`: the tree of where p is active
 module _ (g : Graph) (urgency : List ℕ) (guards : Guards) (a : IsAdmitted g urgency guards) (order : List ℕ)
     (topological : IsTopological g order) (p : ℕ) (l : p < process_count g)
-    (old new : ForestState) (before after : List (Option ℕ)) (chooser : TreeState Bool)
-    (grown : IsGrown g order (place order p) before old) (trees : HasTrees g new)
-    (b : IsBegun g order guards p old new before after chooser) where
+    (old new : ForestState) (frozen_old frozen_new : List (Option ℕ)) (chooser : TreeState Bool)
+    (grown : IsGrown g order (place order p) frozen_old old) (trees : HasTrees g new)
+    (b : IsBegun g order guards p old new frozen_old frozen_new chooser) where
   -- p's guard
   abbrev guard : Guard
   guard = tree_of guards p
@@ -134,7 +134,7 @@ module _ (g : Graph) (urgency : List ℕ) (guards : Guards) (a : IsAdmitted g ur
   p_item = omega (arith, l)
 
   -- p has no frozen time yet, since its place isn't passed
-  unset : get_or before p None ≡ None
+  unset : get_or frozen_old p None ≡ None
   unset = grown.settled.others p (λ h f e. early_apart p e refl)
 
   -- each item of an earlier process has an earlier moment than p's start
@@ -159,14 +159,14 @@ module _ (g : Graph) (urgency : List ℕ) (guards : Guards) (a : IsAdmitted g ur
   frozen_start_of : is_frozen g p ≡ true → (process_at g p).frozen ≡ true
   frozen_start_of e = sym (ap (is_frozen_item g) (item_at-start g p l)) ∙ e
 
-  -- ---- in one scenario with its run under frozen times that are those so far for what is done
+  -- ---- in the run of one scenario
 
   -- given: a run under frozen times that are those so far for each item of an earlier process, and rows that hold
   -- what the trees list
-  -- `fs`, `same`, `early`: the frozen times of the run, which agree with those so far for earlier items
+  -- `fs`, `same`, `early`: the frozen times of the run, which are those so far for earlier items, and each below 2^58
   -- `rows`, `hold`: the rows that hold the old trees; `s`, `law`, `t`, `run`: a scenario and its run
   module _ (fs : List (Option ℕ)) (same : (x : ℕ) → x < item_count g → IsEarlier g order (place order p) x →
-      get_or before x None ≡ get_or fs x None) (early : AreEarly fs)
+      get_or frozen_old x None ≡ get_or fs x None) (early : AreEarly fs)
       (rows : List (List Column)) (hold : RowsHold g order (place order p) old rows) (s : Scenario)
       (law : IsScenario g s) (t : Times) (run : IsRun g order fs s t) where
     -- a scenario of the graph has at most its faults
@@ -183,7 +183,7 @@ module _ (g : Graph) (urgency : List ℕ) (guards : Guards) (a : IsAdmitted g ur
 
     -- the old trees give the lines of this run up to p's place, since its frozen times agree with those so far
     lines : Lines g order rows s t (place order p) old
-    lines = lines_over g order topological rows s (place order p) old before fs same
+    lines = lines_over g order topological rows s (place order p) old frozen_old fs same
         (λ u r. grown.lines rows hold s law u r) t run
 
     -- so the old trees give the run's times of earlier processes, with the literals that are carried
@@ -191,68 +191,71 @@ module _ (g : Graph) (urgency : List ℕ) (guards : Guards) (a : IsAdmitted g ur
     valued = valued_from_lines g order rows (place order p) old grown.trees hold fs s t run lines
 
     -- what the trees say of its start
-    valued_start : (from : ℕ) → IsCut g order guards (node_of g p) (place order p) from →
+    valued_start : (from : ℕ) → IsCut g order guards (node_of g p) from (place order p) →
         IsStartByTrees g order guards old chooser from p s t
     valued_start from cut = start_is_valued g a.limits order topological a.joins urgency a.urgency a.topological rows s
         law fs t run small old grown.trees p l nodes valued lines guards
         (λ q k. a.guards.trees q k) chooser b.actives from cut
 
   -- each frozen time so far is below 2^58
-  early_before : AreEarly before
-  early_before = early_from_low g order before a.limits topological grown.settled.count grown.settled.low
+  early_before : AreEarly frozen_old
+  early_before = early_from_low g order frozen_old a.limits topological grown.settled.count grown.settled.low
 
   -- in each run under the frozen times so far, the trees say what p's start waits for
-  all_valued : (from : ℕ) → IsCut g order guards (node_of g p) (place order p) from → (s : Scenario) → IsScenario g s →
+  all_valued : (from : ℕ) → IsCut g order guards (node_of g p) from (place order p) → (s : Scenario) → IsScenario g s →
       (t : Times) →
-      IsRun g order before s t →
+      IsRun g order frozen_old s t →
       IsStartByTrees g order guards old chooser from p s t
-  all_valued from cut s law t run = valued_start before (λ y h e. refl) early_before (own_rows old)
+  all_valued from cut s law t run = valued_start frozen_old (λ y h e. refl) early_before (own_rows old)
       (own_rows_hold g order (place order p) old grown.trees) s law t run from cut
 
   -- p's start is active exactly if p is
   acts_as : (values : List Bool) → item_active g values (item_at g p) ≡ active g values p
   acts_as values = ap (item_active g values) (item_at-start g p l)
 
-  -- if p is frozen, its time in `after` is the greatest that it would have in the runs so far
-  found : IsFrozenStart g order guards p old before after chooser b.start → IsFound g order before p after
-  found f = frozen_found g order topological before p (omega (arith, p_item, grown.settled.count)) unset f.latest
-      (λ s law t run on. latest_above g order guards before old chooser b.chooser_tree f.from p topological
+  -- if p is frozen, its time in `frozen_new` is the greatest that it would have in the runs so far
+  found : IsFrozenStart g order guards p old frozen_old frozen_new chooser b.start →
+      IsFound g order frozen_old p frozen_new
+  found f = frozen_found g order topological frozen_old p (omega (arith, p_item, grown.settled.count)) unset f.latest
+      (λ s law t run on. latest_above g order guards frozen_old old chooser b.chooser_tree f.from p topological
       (all_valued f.from f.cut) f.latest f.top s law t run (sym (acts_as s.values) ∙ on))
-      (λ m e. let r = latest_reached g order guards before old chooser b.chooser_tree f.from p topological
+      (λ m e. let r = latest_reached g order guards frozen_old old chooser b.chooser_tree f.from p topological
       (all_valued f.from f.cut) f.latest f.top m e in
       (r.0, r.1, acts_as r.0.values ∙ r.2, r.3))
-      after f.frozen.set
+      frozen_new f.frozen.set
 
   -- ---- the frozen times
 
   -- the frozen times stay settled once p's start is done
-  new_settled : AreSettledOf g order (IsDone g order p 0) after
+  new_settled : AreSettledOf g order (IsDone g order p 0) frozen_new
   new_settled = by b.starts
     where
       -- an unfrozen start leaves them as they are, and a frozen one adds its latest time
-      by : any_start g order guards p old before after chooser b.start → AreSettledOf g order (IsDone g order p 0) after
+      by : any_start g order guards p old frozen_old frozen_new chooser b.start →
+          AreSettledOf g order (IsDone g order p 0) frozen_new
       by (inl th) = subst (AreSettledOf g order (IsDone g order p 0)) (sym th.1)
           (settled_idle g order topological a.limits (IsEarlier g order (place order p))
-          (IsDone g order p 0) before grown.settled p p_item later (λ y e. inl e) (inr (inl refl)) only th.0)
+          (IsDone g order p 0) frozen_old grown.settled p p_item later (λ y e. inl e) (inr (inl refl)) only th.0)
       by (inr f) =
           let r = found f.1 in
           settled_more g order topological a.limits (IsEarlier g order (place order p))
-          (IsDone g order p 0) before grown.settled p p_item later (λ y e. inl e)
-          (inr (inl refl)) only f.0 after r.is r.same r.long
+          (IsDone g order p 0) frozen_old grown.settled p p_item later (λ y e. inl e)
+          (inr (inl refl)) only f.0 frozen_new r.is r.same r.long
 
   -- the frozen times of items of earlier processes stay the same
   same_earlier : (x : ℕ) → x < item_count g → IsEarlier g order (place order p) x →
-      get_or before x None ≡ get_or after x None
+      get_or frozen_old x None ≡ get_or frozen_new x None
   same_earlier x h e = by b.starts
     where
       -- by whether p isn't frozen, so that none changes, or is, so that its own alone does
-      by : any_start g order guards p old before after chooser b.start → get_or before x None ≡ get_or after x None
+      by : any_start g order guards p old frozen_old frozen_new chooser b.start →
+          get_or frozen_old x None ≡ get_or frozen_new x None
       by (inl th) = sym (ap (λ fs. get_or fs x None) th.1)
       by (inr f) = let k = found f.1 in sym (k.same x (early_apart x e))
 
   -- each of the new frozen times is below 2^58
-  early_after : AreEarly after
-  early_after = early_from_low g order after a.limits topological new_settled.count new_settled.low
+  early_after : AreEarly frozen_new
+  early_after = early_from_low g order frozen_new a.limits topological new_settled.count new_settled.low
 
   -- ---- the new trees
 
@@ -314,7 +317,7 @@ module _ (g : Graph) (urgency : List ℕ) (guards : Guards) (a : IsAdmitted g ur
   -- given: rows that hold what the new trees list, and a run under the new frozen times
   -- `rows`, `hold`: the rows that hold the new trees; `s`, `law`, `t`, `run`: a scenario and its run
   module _ (rows : List (List Column)) (hold : RowsHold g order (place order p) new rows) (s : Scenario)
-      (law : IsScenario g s) (t : Times) (run : IsRun g order after s t) where
+      (law : IsScenario g s) (t : Times) (run : IsRun g order frozen_new s t) where
     -- these rows hold the old trees
     held : RowsHold g order (place order p) old rows
     held = hold_old rows hold
@@ -325,15 +328,15 @@ module _ (g : Graph) (urgency : List ℕ) (guards : Guards) (a : IsAdmitted g ur
 
     -- each time of its run is below 2^59
     run_is_small : AreSmall t
-    run_is_small = small after same_earlier early_after rows held s law t run
+    run_is_small = small frozen_new same_earlier early_after rows held s law t run
 
     -- the old trees give the lines of the run up to p's place
     lines_before : Lines g order rows s t (place order p) old
-    lines_before = lines after same_earlier early_after rows held s law t run
+    lines_before = lines frozen_new same_earlier early_after rows held s law t run
 
     -- and the times of all that is before it, with the literals that are carried
     valued_before : HasTreeValues g order rows s t (place order p) old
-    valued_before = valued after same_earlier early_after rows held s law t run
+    valued_before = valued frozen_new same_earlier early_after rows held s law t run
 
     -- p's node was ready by its tree, if p or a later process waits for that
     was_ready : IsWaitedFor g order (place order p) (node_of g p) →
@@ -350,13 +353,13 @@ module _ (g : Graph) (urgency : List ℕ) (guards : Guards) (a : IsAdmitted g ur
     leads_there = is_guard.is s.values law.values
 
     -- if p is active, p's start would have its unfrozen time in this run
-    would : active g s.values p ≡ true → WouldHave g order after p (unfrozen_time g order s t p)
+    would : active g s.values p ≡ true → WouldHave g order frozen_new p (unfrozen_time g order s t p)
     would on = record { scenario = s; lawful = law; times = t; run = run; active = acts_as s.values ∙ on; has = refl }
 
     -- if p is frozen, its frozen time where it is active, and none elsewhere, is its time in the run
-    frozen_time : is_frozen g p ≡ true → (latest : Option ℕ) → get_or after p None ≡ latest →
+    frozen_time : is_frozen g p ≡ true → (latest : Option ℕ) → get_or frozen_new p None ≡ latest →
         (if active g s.values p then Some (unwrap_or latest 0) else None) ≡ get_or t.times p None
-    frozen_time is (Some time) e = frozen_value g order after s t run p l time e
+    frozen_time is (Some time) e = frozen_value g order frozen_new s t run p l time e
         (λ on. (new_settled.each p p_item is (inr (inl refl))).greatest time (unfrozen_time g order s t p) e (would on))
     frozen_time is None e = by (active g s.values p) refl
       where
@@ -366,7 +369,7 @@ module _ (g : Graph) (urgency : List ℕ) (guards : Guards) (a : IsAdmitted g ur
         by true on =
             absurd ((new_settled.each p p_item is (inr (inl refl))).none e (unfrozen_time g order s t p) (would on))
         by false idle = cond-false _ _ _ idle
-            ∙ sym (time_is g order after s t run p p_item ∙ cond-false _ _ _ (acts_as s.values ∙ idle))
+            ∙ sym (time_is g order frozen_new s t run p p_item ∙ cond-false _ _ _ (acts_as s.values ∙ idle))
 
     -- the tree of the start has p's time in the run, by whether p isn't frozen (the start's own line) or is (its
     -- frozen time)
@@ -374,19 +377,19 @@ module _ (g : Graph) (urgency : List ℕ) (guards : Guards) (a : IsAdmitted g ur
     started = by b.starts
       where
         -- the start's tree gives p's time, whether p isn't frozen or is
-        by : any_start g order guards p old before after chooser b.start →
+        by : any_start g order guards p old frozen_old frozen_new chooser b.start →
             HasValueFrom s (carried_at_start g order rows s p) (get_or t.times p None) b.start
         by (inl th) =
             let was = was_ready (waits_here th.0) in
             subst (λ (o : Option ℕ). HasValueFrom s (carried_at_start g order rows s p) o b.start)
-            (start_value g order topological urgency a.urgency a.topological after s law.values t run p l guard is_guard
+            (start_value g order topological urgency a.urgency a.topological frozen_new s law.values t run p l guard is_guard
             was.time was.is (ap (λ fs. get_or fs p None) th.1 ∙ unset))
             (start_line g a.limits order topological a.joins urgency a.urgency a.topological rows s law.values
             few_faults t run_is_small old p l nodes valued_before guard is_guard th.2.wait th.2.waits
             was.time was.is was.has_value b.start th.2.is (thawed_start_of th.0))
         by (inr f) = subst (λ (o : Option ℕ). HasValueFrom s (carried_at_start g order rows s p) o b.start)
             (frozen_time f.0 f.1.latest (ap (λ h. get_or h p None) f.1.frozen.set
-            ∙ set_here before p f.1.latest (omega (arith, p_item, grown.settled.count)) unset))
+            ∙ set_here frozen_old p f.1.latest (omega (arith, p_item, grown.settled.count)) unset))
             (frozen_line g order rows s few_faults p guard leads_there way_decides (frozen_start_of f.0) chooser b.start
             (unwrap_or f.1.latest 0) b.chooser_tree b.actives f.1.frozen.made)
 
@@ -396,7 +399,7 @@ module _ (g : Graph) (urgency : List ℕ) (guards : Guards) (a : IsAdmitted g ur
 
     -- the tree of ends gives p's end, since the tree of starts gives its start
     ended : HasValueFrom s (carried_at_end g order rows s p) (get_or t.ends p None) b.end
-    ended = end_line g a.limits order after s law t run run_is_small p l few_here rows b.start b.end
+    ended = end_line g a.limits order frozen_new s law t run run_is_small p l few_here rows b.start b.end
         few_faults b.ends started
 
     -- p's node goes on at p's end if p is active, and else when it was ready
@@ -407,11 +410,11 @@ module _ (g : Graph) (urgency : List ℕ) (guards : Guards) (a : IsAdmitted g ur
     -- carried
     readied waited made =
         let was = was_ready waited in
-        ready_next g order topological (place order p) p l refl rows s after t run was.time
+        ready_next g order topological (place order p) p l refl rows s frozen_new t run was.time
         (greatest (map (heard_there g t (node_of g p)) (way guard s.values))) was.is
-        (most g order topological urgency a.urgency a.topological after s law.values t run p l guard is_guard
+        (most g order topological urgency a.urgency a.topological frozen_new s law.values t run p l guard is_guard
         was.time was.is)
-        (waited_ends g order topological urgency a.urgency a.topological after s law.values t run p l guard is_guard
+        (waited_ends g order topological urgency a.urgency a.topological frozen_new s law.values t run p l guard is_guard
         was.time was.is) (goes_on b.end b.ready)
         (ready_line g order topological rows s few_faults t run_is_small p guard leads_there way_decides chooser b.end
         made.wait (goes_on b.end b.ready)
@@ -487,7 +490,7 @@ module _ (g : Graph) (urgency : List ℕ) (guards : Guards) (a : IsAdmitted g ur
             readied (waits_before (node_of g p) waits) (b.readies waits)))
         | inr other ↦ subst (λ (tree : TreeState ℕ). IsReadyLine g order rows s t (place order p + 1) node tree)
             (sym (other_ready node h other))
-            (ready_elsewhere g order topological (place order p) p l refl rows s after t run node other
+            (ready_elsewhere g order topological (place order p) p l refl rows s frozen_new t run node other
             (ready_of g old node) (lines_before.ready node h (waits_before node w)))
       ];
       -- free slots: as before, since p has sent nothing yet
@@ -512,7 +515,7 @@ module _ (g : Graph) (urgency : List ℕ) (guards : Guards) (a : IsAdmitted g ur
       (sym (other_time x (λ e. absurd (omega (arith, big, e, l))))) (grown.unsent x big h is)
 
   -- so the trees are those of a process that has begun and has sent nothing yet
-  pub begun_sends : IsSending g order p 0 after new
+  pub begun_sends : IsSending g order p 0 frozen_new new
   begun_sends = record {
     trees = trees;
     unsent = new_unsent;

@@ -69,8 +69,8 @@ pub inputs_here : (h : Graph) (p : ℕ) (edges : List ℕ) → edges ≡ inputs 
 inputs_here h p edges is =
     all_below (edge_count h) (edge_count h) edges (inputs h p) refl is (λ e c. (inputs_parts h p e c).0)
 
--- if the graph, the order, the guards, the node and the inputs that the code reads are the given ones, its latest
--- start is that of these
+-- the latest start that is found by what the code reads (the graph k, `other`, `found`, `at` and `es`) is that by the
+-- graph h, the order, the guards, the node and the inputs `edges`, which are the same
 pub latest_as : (f : ForestState) (from p : ℕ) (active : TreeState Bool) (latest : Option ℕ) (h k : Graph) → k ≡ h →
     (order other : List ℕ) → other ≡ order →
     (guards found : Guards) →
@@ -96,7 +96,8 @@ ready_waits : (g : Graph) (p : ℕ) (r : Ready) → p < process_count g → IsRe
 ready_waits g p (After q) l e = subst (λ n. n < process_count g) (sym e) l
 ready_waits g p (At t) l is = is
 
--- if trees are put for the start, the end and the readiness of a process, there is still a tree for each
+-- if `times`, `ends` and `ready` are put for p's start, its end and its node, the forest `new` still has a tree for
+-- each item, process and node
 pub has_begun : (g : Graph) (f new : ForestState) (p node : ℕ) (times ends : TreeState (Option ℕ)) (ready : Ready) →
     p < process_count g → node ≡ node_of g p → HasTrees g f →
     IsTree g times →

@@ -39,8 +39,8 @@ valued_there rows s x c j m l i =
     Contains-flat_map (λ (d : Column). d.cube) (filter (λ (d : Column). matches d.cube s) (row_at rows x)) c l
     (Contains-filter (λ (d : Column). matches d.cube s) (row_at rows x) c m j) i
 
--- if the path of the scenario has a fact and is the cube of a column of the row, the tree agrees with what the row
--- carries
+-- if the path of t that s is on has a value with the fact, and its cube is that of a column of x's row, t agrees with
+-- what that row carries in s
 pub valued_by_tree : {T : Type 0} (k : ℕ) (rows : List (List Column)) (s : Scenario) (x : ℕ) (fact : T → Type 0)
     (t : TreeState T) → t.faults ≡ k →
     ((p : Path T) → IsOnPath t.paths s p → fact p.1 × ((c : Column) × Contains (row_at rows x) c × (c.cube ≡ p.0))) →
@@ -61,7 +61,7 @@ module _ (g : Graph) (order : List ℕ) (topological : IsTopological g order) (r
     (s : Scenario) where
   -- ---- of ends on the node
 
-  -- a process before one that stands before p on its node stands before p on it, too
+  -- if q stands before p on p's node, and r before q on q's node, then r stands before p on p's node
   before_grows : (p q r : ℕ) → Contains (before_on_node g order p) q → Contains (before_on_node g order q) r →
       Contains (before_on_node g order p) r
   -- both stand on the node of p, and the order between places goes on
@@ -77,26 +77,26 @@ module _ (g : Graph) (order : List ℕ) (topological : IsTopological g order) (r
       (Contains-before order r p of_r.0 (omega (arith, of_q.1, of_r.1)))
 
   -- what process q passes on beside what decides it and what it hears: what its execution adds, if it is active
-  abbrev more : ℕ → List Literal
-  more q = if active g s.values q then executed g rows s q else []
+  abbrev executed_if : ℕ → List Literal
+  executed_if q = if active g s.values q then executed g rows s q else []
 
   -- a process passes on what decides it
   passed_decided : (q : ℕ) (l : Literal) → Contains (decided g s q) l → Contains (passed g rows s q) l
-  passed_decided q l j = Contains-append_left (decided g s q ++ heard g rows s q) (more q) l
+  passed_decided q l j = Contains-append_left (decided g s q ++ heard g rows s q) (executed_if q) l
       (Contains-append_left (decided g s q) (heard g rows s q) l j)
 
-  -- it passes on what it hears
+  -- a process passes on what it hears
   passed_heard : (q : ℕ) (l : Literal) → Contains (heard g rows s q) l → Contains (passed g rows s q) l
-  passed_heard q l j = Contains-append_left (decided g s q ++ heard g rows s q) (more q) l
+  passed_heard q l j = Contains-append_left (decided g s q ++ heard g rows s q) (executed_if q) l
       (Contains-append_right (decided g s q) (heard g rows s q) l j)
 
-  -- it passes on what its execution says, if it is active
+  -- a process passes on what its execution says, if it is active
   passed_executed : (q : ℕ) (l : Literal) → active g s.values q ≡ true → Contains (executed g rows s q) l →
       Contains (passed g rows s q) l
-  passed_executed q l on j = Contains-append_right (decided g s q ++ heard g rows s q) (more q) l
+  passed_executed q l on j = Contains-append_right (decided g s q ++ heard g rows s q) (executed_if q) l
       (subst (λ (b : Bool). Contains (if b then executed g rows s q else []) l) (sym on) j)
 
-  -- what is carried beside the end of an active process is carried on by its node
+  -- if q stands before p on p's node and is active, the node carries on to p what is carried beside the end of q
   pub end_carried : (p q : ℕ) → Contains (before_on_node g order p) q → active g s.values q ≡ true → (l : Literal) →
       Contains (carried_at_end g order rows s q) l →
       Contains (flat_map (passed g rows s) (before_on_node g order p)) l
@@ -112,7 +112,7 @@ module _ (g : Graph) (order : List ℕ) (topological : IsTopological g order) (r
       count f e k = Contains-append_right (if (process_at g q).frozen then [] else received g rows s q)
           (number_known s q ∷ []) l k
 
-      -- what q carries at its start, with `ls` if it isn't frozen
+      -- what q carries at its start, if that is `ls` for an unfrozen q
       start : List Literal → List Literal
       start ls = if (process_at g q).frozen then decided g s q else ls
 
@@ -132,23 +132,25 @@ module _ (g : Graph) (order : List ℕ) (topological : IsTopological g order) (r
           here (passed_decided q l (subst (λ (f : Bool). Contains (if f then decided g s q else all) l) e k))
 
       -- a literal carried at the start of an unfrozen process is passed by it or by a process before it on the node
-      parts : Contains all l → (process_at g q).frozen ≡ false →
+      unfrozen_case : Contains all l → (process_at g q).frozen ≡ false →
           Contains (flat_map (passed g rows s) (before_on_node g order p)) l
-      parts k e = elim (Contains-append_cases (flat_map (passed g rows s) (before_on_node g order q) ++ decided g s q
-          ++ heard g rows s q) (received g rows s q) l k) [
-            -- it was received by q's row, or is one of before q, decided at q or heard by it
-            | inr o ↦ here (passed_executed q l on (Contains-append_left (if (process_at g q).frozen then []
+      unfrozen_case k e = elim (Contains-append_cases (flat_map (passed g rows s) (before_on_node g order q)
+          ++ decided g s q ++ heard g rows s q) (received g rows s q) l k) [
+            -- messages to q told it, or it was passed before q, decides q or was heard by it
+            | inr told ↦ here (passed_executed q l on (Contains-append_left (if (process_at g q).frozen then []
                 else received g rows s q) (number_known s q ∷ []) l
-                (subst (λ (f : Bool). Contains (if f then [] else received g rows s q) l) (sym e) o)))
-            | inl m ↦
+                (subst (λ (f : Bool). Contains (if f then [] else received g rows s q) l) (sym e) told)))
+            | inl of_wait ↦
                 elim (Contains-append_cases (flat_map (passed g rows s) (before_on_node g order q) ++ decided g s q)
-                (heard g rows s q) l m) [
-                  | inr n ↦ here (passed_heard q l n)
-                  | inl n ↦
+                (heard g rows s q) l of_wait) [
+                  | inr by_hearing ↦ here (passed_heard q l by_hearing)
+                  | inl unheard ↦
                       elim (Contains-append_cases (flat_map (passed g rows s) (before_on_node g order q))
-                      (decided g s q) l n) [
-                        | inr o ↦ here (passed_decided q l o)
-                        | inl o ↦ let r = Contains-flat_map_parts (passed g rows s) (before_on_node g order q) l o in
+                      (decided g s q) l unheard) [
+                        | inr deciding_it ↦ here (passed_decided q l deciding_it)
+                        | inl earlier ↦
+                            let r =
+                            Contains-flat_map_parts (passed g rows s) (before_on_node g order q) l earlier in
                             Contains-flat_map (passed g rows s) (before_on_node g order p) r.0 l
                             (before_grows p q r.0 j r.1) r.2
                       ]
@@ -166,7 +168,8 @@ module _ (g : Graph) (order : List ℕ) (topological : IsTopological g order) (r
           of_start : (f : Bool) → (process_at g q).frozen ≡ f → Contains (start all) l →
               Contains (flat_map (passed g rows s) (before_on_node g order p)) l
           of_start true e k = frozen_case e k
-          of_start false e k = parts (subst (λ (f : Bool). Contains (if f then decided g s q else all) l) e k) e
+          of_start false e k =
+              unfrozen_case (subst (λ (f : Bool). Contains (if f then decided g s q else all) l) e k) e
 
   -- ---- of conditions that a node hears
 
@@ -184,7 +187,7 @@ module _ (g : Graph) (order : List ℕ) (topological : IsTopological g order) (r
 
   -- given: an urgency order, by which conditions decide, and a process
   module _ (urgency : List ℕ) (is_urgency : IsUrgencyOrder g urgency) (urgent : IsTopological g urgency) (p : ℕ) where
-    -- if a condition decides p, the literals by which p's node hears it are carried
+    -- if condition c decides p, the literals by which p's node hears c are passed on before p or heard for p
     pub heard_carried : (c : ℕ) → Contains (deciding g s.values p) c → (l : Literal) →
         Contains (heard_support (node_of g p) c) l →
         Contains (flat_map (passed g rows s) (before_on_node g order p) ++ heard g rows s p) l
@@ -212,8 +215,8 @@ module _ (g : Graph) (order : List ℕ) (topological : IsTopological g order) (r
               (ne_eqb (node_of g (process_of g c)) (node_of g p) n) i)))
         ]
 
-    -- if each condition on a guard's way decides p, the literals by which the tests are heard, and their values, are
-    -- carried
+    -- if each of the conditions `ws` decides p, the literals by which p's node hears them, and those of their values,
+    -- are passed on before p, decide p or are heard for p
     pub tests_carried : (ws : List ℕ) → ((c : ℕ) → Contains ws c → Contains (deciding g s.values p) c) → (l : Literal) →
         Contains (support_of s (heard_support (node_of g p)) ws) l →
         Contains (flat_map (passed g rows s) (before_on_node g order p) ++ decided g s p ++ heard g rows s p) l
@@ -221,15 +224,15 @@ module _ (g : Graph) (order : List ℕ) (topological : IsTopological g order) (r
     tests_carried ws of l i =
         let r = Contains-flat_map_parts (λ c. heard_support (node_of g p) c ++ value_known s c ∷ []) ws l i in
         elim (Contains-append_cases (heard_support (node_of g p) r.0) (value_known s r.0 ∷ []) l r.2) [
-          | inl m ↦ elim (Contains-append_cases (flat_map (passed g rows s) (before_on_node g order p))
-              (heard g rows s p) l (heard_carried r.0 (of r.0 r.1) l m)) [
+          | inl of_hearing ↦ elim (Contains-append_cases (flat_map (passed g rows s) (before_on_node g order p))
+              (heard g rows s p) l (heard_carried r.0 (of r.0 r.1) l of_hearing)) [
                 | inl n ↦ Contains-append_left (flat_map (passed g rows s) (before_on_node g order p) ++ decided g s p)
                     (heard g rows s p) l
                     (Contains-append_left (flat_map (passed g rows s) (before_on_node g order p)) (decided g s p) l n)
                 | inr n ↦ Contains-append_right (flat_map (passed g rows s) (before_on_node g order p) ++ decided g s p)
                     (heard g rows s p) l n
               ]
-          | inr m ↦ elim (Contains-cases (value_known s r.0) [] l m) [
+          | inr of_value ↦ elim (Contains-cases (value_known s r.0) [] l of_value) [
             | inl e ↦ Contains-append_left (flat_map (passed g rows s) (before_on_node g order p) ++ decided g s p)
                 (heard g rows s p) l
                 (Contains-append_right (flat_map (passed g rows s) (before_on_node g order p)) (decided g s p) l
@@ -246,7 +249,8 @@ module _ (g : Graph) (order : List ℕ) (topological : IsTopological g order) (r
   input_support e = if is_message g e then carried_by_row rows s (message_item g e)
       else carried_at_end g order rows s (source g e)
 
-  -- if the source of an input is active, the literals by which the input is there are carried
+  -- if the source of an input e of p is active, the literals by which e is there are passed on before p or received by
+  -- p
   pub input_carried : (p e : ℕ) → Contains (inputs g p) e →
       node_of g (source g e) ≡ node_of g p ⊎ (is_message g e ≡ true) → source g e < process_count g →
       active g s.values (source g e) ≡ true →
@@ -278,8 +282,7 @@ module _ (g : Graph) (order : List ℕ) (topological : IsTopological g order) (r
 
   -- ---- the start
 
-  -- whatever a start that isn't frozen rests on is carried beside it: the literals of its wait, and those of its
-  -- inputs
+  -- if p isn't frozen, what its start rests on is carried beside it: the literals of its wait, and those of its inputs
   pub start_carried : (p : ℕ) → (process_at g p).frozen ≡ false → (l : Literal) →
       Contains (flat_map (passed g rows s) (before_on_node g order p) ++ decided g s p ++ heard g rows s p) l ⊎
       Contains (flat_map (passed g rows s) (before_on_node g order p) ++ received g rows s p) l →
@@ -305,7 +308,7 @@ module _ (g : Graph) (order : List ℕ) (topological : IsTopological g order) (r
             (Contains-append_left on (decided g s p) l n))
       ]
 
-  -- what decides p, and what its node carries and hears before it, the node carries on after it
+  -- what decides p, and what was passed on before p on its node or is heard for p, the node carries on after p
   pub ready_carried : (p : ℕ) (l : Literal) →
       Contains (decided g s p) l ⊎
       Contains (flat_map (passed g rows s) (before_on_node g order p) ++ decided g s p ++ heard g rows s p) l →
@@ -316,21 +319,21 @@ module _ (g : Graph) (order : List ℕ) (topological : IsTopological g order) (r
   ready_carried p l (inr m) =
       elim (Contains-append_cases (flat_map (passed g rows s) (before_on_node g order p) ++ decided g s p)
       (heard g rows s p) l m) [
-        | inr n ↦ Contains-append_right (flat_map (passed g rows s) (before_on_node g order p)) (passed g rows s p) l
-            (passed_heard p l n)
-        | inl n ↦
-            elim (Contains-append_cases (flat_map (passed g rows s) (before_on_node g order p)) (decided g s p) l n) [
-              | inl o ↦
-                  Contains-append_left (flat_map (passed g rows s) (before_on_node g order p)) (passed g rows s p) l o
-              | inr o ↦
+        | inr by_hearing ↦ Contains-append_right (flat_map (passed g rows s) (before_on_node g order p))
+            (passed g rows s p) l (passed_heard p l by_hearing)
+        | inl unheard ↦ elim (Contains-append_cases (flat_map (passed g rows s) (before_on_node g order p))
+            (decided g s p) l unheard) [
+              | inl earlier ↦ Contains-append_left (flat_map (passed g rows s) (before_on_node g order p))
+                  (passed g rows s p) l earlier
+              | inr deciding_it ↦
                   Contains-append_right (flat_map (passed g rows s) (before_on_node g order p)) (passed g rows s p) l
-                  (passed_decided p l o)
+                  (passed_decided p l deciding_it)
             ]
       ]
 
   -- ---- the end
 
-  -- what is carried beside the end of an active process is passed on by it, or by one before it on the node
+  -- what is carried beside the end of an active process q is passed on by a process before q on its node, or by q
   pub end_parts : (q : ℕ) → active g s.values q ≡ true → (l : Literal) → Contains (carried_at_end g order rows s q) l →
       Contains (flat_map (passed g rows s) (before_on_node g order q)) l ⊎
       Contains (passed g rows s q) l
@@ -354,18 +357,18 @@ module _ (g : Graph) (order : List ℕ) (topological : IsTopological g order) (r
       of_start true e k = inr (passed_decided q l k)
       of_start false e k = elim (Contains-append_cases (flat_map (passed g rows s) (before_on_node g order q)
           ++ decided g s q ++ heard g rows s q) (received g rows s q) l k) [
-            | inr o ↦ inr (passed_executed q l on (Contains-append_left (if (process_at g q).frozen then []
+            | inr told ↦ inr (passed_executed q l on (Contains-append_left (if (process_at g q).frozen then []
                 else received g rows s q) (number_known s q ∷ []) l
-                (subst (λ (f : Bool). Contains (if f then [] else received g rows s q) l) (sym e) o)))
-            | inl m ↦
+                (subst (λ (f : Bool). Contains (if f then [] else received g rows s q) l) (sym e) told)))
+            | inl of_wait ↦
                 elim (Contains-append_cases (flat_map (passed g rows s) (before_on_node g order q) ++ decided g s q)
-                (heard g rows s q) l m) [
-                  | inr n ↦ inr (passed_heard q l n)
-                  | inl n ↦
+                (heard g rows s q) l of_wait) [
+                  | inr by_hearing ↦ inr (passed_heard q l by_hearing)
+                  | inl unheard ↦
                       elim (Contains-append_cases (flat_map (passed g rows s) (before_on_node g order q))
-                      (decided g s q) l n) [
-                        | inr o ↦ inr (passed_decided q l o)
-                        | inl o ↦ inl o
+                      (decided g s q) l unheard) [
+                        | inr deciding_it ↦ inr (passed_decided q l deciding_it)
+                        | inl earlier ↦ inl earlier
                       ]
                 ]
           ]

@@ -52,12 +52,12 @@ module _ (g : Graph) (order : List ℕ) (node from to q : ℕ) where
 -- given: a node and a place
 module _ (g : Graph) (order : List ℕ) (guards : Guards) (node to : ℕ) where
   -- the place 0 is a cut: nothing stands before it
-  pub no_cut : IsCut g order guards node to 0
+  pub no_cut : IsCut g order guards node 0 to
   no_cut = inl refl
 
   -- the place of a process that is always active is a cut
   pub cut_there : (from z : ℕ) → IsBetween g order node from to z → is_always (tree_of guards z) ≡ true →
-      IsCut g order guards node to (place order z)
+      IsCut g order guards node (place order z) to
   cut_there from z b always =
       inr (z, record { within = b.within; there = b.there; after = omega arith; sooner = b.sooner }, always)
 

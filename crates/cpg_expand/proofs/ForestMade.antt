@@ -15,7 +15,7 @@ pub trees_pushed : {T : Type 0} (g : Graph) (xs pushed : List (TreeState T)) (t 
     pushed ≡ xs ++ t ∷ [] →
     (length pushed ≡ n + 1) × All (IsTree g) pushed
 trees_pushed g xs pushed t n has is e = (
-  (let long = length-append xs (t ∷ []) in let same = ap length e in let before = has.0 in omega arith),
+  (let long = length-append xs (t ∷ []) in let same = ap length e in let below = has.0 in omega arith),
   subst (All (IsTree g)) (sym e) (All-push (IsTree g) xs t has.1 is),
 )
 
@@ -26,14 +26,14 @@ pub constants_pushed : {T : Type 0} (x : T) (k : ℕ) (xs pushed : List (TreeSta
     All (IsConstant x k) pushed
 constants_pushed x k xs pushed t h is e = subst (All (IsConstant x k)) (sym e) (All-push (IsConstant x k) xs t h is)
 
--- a node that is ready from the beginning is added to such nodes
+-- n nodes that are ready from time 0 on, and one more that is, are n + 1 such nodes
 pub nodes_pushed : (g : Graph) (xs pushed : List Ready) (t : TreeState ℕ) (n : ℕ) →
     (length xs ≡ n) × All (IsWait g) xs × All (IsReadyFirst g.faults) xs → IsTree g t →
     IsConstant 0 g.faults t →
     pushed ≡ xs ++ At t ∷ [] →
     (length pushed ≡ n + 1) × All (IsWait g) pushed × All (IsReadyFirst g.faults) pushed
 nodes_pushed g xs pushed t n has is zero e = (
-  (let long = length-append xs (At t ∷ []) in let same = ap length e in let before = has.0 in omega arith),
+  (let long = length-append xs (At t ∷ []) in let same = ap length e in let below = has.0 in omega arith),
   subst (All (IsWait g)) (sym e) (All-push (IsWait g) xs (At t) has.1 is),
   subst (All (IsReadyFirst g.faults)) (sym e) (All-push (IsReadyFirst g.faults) xs (At t) has.2 zero),
 )

@@ -18,18 +18,18 @@ use Rattle.cpg_expand.specs.Freezing.{set_if}
 pub some_same : (a b : ℕ) → Some a ≡ Some b → a ≡ b
 some_same a b e = ap (λ o. unwrap_or o 0) e
 
--- a list has as many frozen times once the latest time is set, and those of other items stay
+-- setting the latest time of an item keeps the number of frozen times
 pub set_count : (old : List (Option ℕ)) (x : ℕ) (latest : Option ℕ) → length (set_if old x latest) ≡ length old
 set_count old x None = refl
 set_count old x (Some time) = length-set old x (Some time)
 
--- setting it changes no other item's frozen time
+-- setting the latest time of x changes the frozen time of no other item y
 pub set_other : (old : List (Option ℕ)) (x y : ℕ) (latest : Option ℕ) → y ≢ x →
     get_or (set_if old x latest) y None ≡ get_or old y None
 set_other old x y None other = refl
 set_other old x y (Some time) other = get_or-set_other old x y (Some time) None other
 
--- an item without a frozen time has the latest time then, or none if there is none
+-- if x has no frozen time, it has the latest time once that is set, or none if there is no latest time
 pub set_here : (old : List (Option ℕ)) (x : ℕ) (latest : Option ℕ) → x < length old → get_or old x None ≡ None →
     get_or (set_if old x latest) x None ≡ latest
 set_here old x None l unset = unset

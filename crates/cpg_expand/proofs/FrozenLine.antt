@@ -68,7 +68,8 @@ module _ (g : Graph) (order : List ℕ) (rows : List (List Column)) (s : Scenari
           (before_on_node g order p) ++ decided g s p ++ heard g rows s p ++ received g rows s p) l)
           (sym frozen) (in_decided l j)
 
--- a frozen time that no unfrozen time is above is the time of the run
+-- if p has the frozen time `time`, and its unfrozen time in the run isn't later, its time in the run is `time` if it is
+-- active, and none if it isn't
 pub frozen_value : (g : Graph) (order : List ℕ) (frozen : List (Option ℕ)) (s : Scenario) (t : Times) →
     IsRun g order frozen s t → (p : ℕ) → p < process_count g → (time : ℕ) →
     get_or frozen p None ≡ Some time →
@@ -85,8 +86,8 @@ frozen_value g order frozen s t run p l time is most =
         (if b then Some time else None)
         ≡ (if b then Some (greatest (unfrozen_time g order s t p ∷ option_to_list (get_or frozen p None))) else None)
     go true on = ap (λ n. Some n) (
-        let one = ap (λ o. greatest (unfrozen_time g order s t p ∷ option_to_list o)) is in
-        let both = greatest-cons (unfrozen_time g order s t p) (time ∷ []) in
-        let last = greatest-cons time [] in
-        omega (arith, one, both, last, most on))
+        let as_frozen = ap (λ o. greatest (unfrozen_time g order s t p ∷ option_to_list o)) is in
+        let of_two = greatest-cons (unfrozen_time g order s t p) (time ∷ []) in
+        let of_one = greatest-cons time [] in
+        omega (arith, as_frozen, of_two, of_one, most on))
     go false off = refl

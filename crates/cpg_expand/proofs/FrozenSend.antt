@@ -65,7 +65,8 @@ module _ (g : Graph) (order : List ℕ) (rows : List (List Column)) (s : Scenari
         | inr i ↦ frozen_says l (Contains-append_right (decided g s (producer g x)) (sent_by_value g s x) l i.1)
       ]
 
--- a frozen time that no unfrozen time is above is the time of the run
+-- if item x has the frozen time `time`, and its unfrozen time in the run isn't later, its time in the run is `time` if
+-- it is active, and none if it isn't
 pub frozen_send_value : (g : Graph) (order : List ℕ) (frozen : List (Option ℕ)) (s : Scenario) (t : Times) →
     IsRun g order frozen s t → (x : ℕ) → x < item_count g → (time : ℕ) →
     get_or frozen x None ≡ Some time →
@@ -78,8 +79,8 @@ frozen_send_value g order frozen s t run x l time is most =
     go : (b : Bool) → item_active g s.values (item_at g x) ≡ b → (if b then Some time else None) ≡
         (if b then Some (greatest (unfrozen_time g order s t x ∷ option_to_list (get_or frozen x None))) else None)
     go true on = ap (λ n. Some n) (
-        let one = ap (λ o. greatest (unfrozen_time g order s t x ∷ option_to_list o)) is in
-        let both = greatest-cons (unfrozen_time g order s t x) (time ∷ []) in
-        let last = greatest-cons time [] in
-        omega (arith, one, both, last, most on))
+        let as_frozen = ap (λ o. greatest (unfrozen_time g order s t x ∷ option_to_list o)) is in
+        let of_two = greatest-cons (unfrozen_time g order s t x) (time ∷ []) in
+        let of_one = greatest-cons time [] in
+        omega (arith, as_frozen, of_two, of_one, most on))
     go false off = refl

@@ -39,11 +39,12 @@ and_true false = refl
 pub same_valued : (g : Graph) (chooser t : TreeState Bool) → IsTree g chooser →
     IsMap (λ x z. z ≡ same_bool true x) chooser t → (s : Scenario) →
     HasAtMostFaults g.faults s →
-    (b : Bool) (first more : List Literal) → HasValueFrom s first b chooser → HasValueFrom s (first ++ more) b t
-same_valued g chooser t of_chooser made s few b first more valued =
-    agrees_weaker s t first (first ++ more) (λ z. z ≡ b) (λ z. z ≡ b)
-    (λ l j. Contains-append_left first more l j) (λ z e. e)
-    (agrees_map s (λ x z. z ≡ same_bool true x) chooser t first (λ x. x ≡ b) (λ z. z ≡ b)
+    (b : Bool) (by_chooser more : List Literal) → HasValueFrom s by_chooser b chooser →
+    HasValueFrom s (by_chooser ++ more) b t
+same_valued g chooser t of_chooser made s few b by_chooser more valued =
+    agrees_weaker s t by_chooser (by_chooser ++ more) (λ z. z ≡ b) (λ z. z ≡ b)
+    (λ l j. Contains-append_left by_chooser more l j) (λ z e. e)
+    (agrees_map s (λ x z. z ≡ same_bool true x) chooser t by_chooser (λ x. x ≡ b) (λ z. z ≡ b)
     (few_of g.faults chooser.faults s of_chooser.faults few)
     (each_of g chooser.faults chooser of_chooser.faults of_chooser) made
     (λ x z e f. f ∙ ap (same_bool true) e ∙ same_true b) valued)
@@ -97,30 +98,30 @@ module _ (g : Graph) (e : ℕ) where
         IsMap (λ x z. z ≡ same_bool true x) chooser t →
         IsLiveTree g e chooser t
     -- the tree is the chooser's copy, and an edge that asks for nothing is live just if its source is active
-    live_simple l h none of_chooser made s few first valued =
+    live_simple l h none of_chooser made s few by_chooser valued =
         let simple = asks_nothing l h none in
         let b : Bool = active g s.values (source g e) in
         let v : Bool = get_or s.values (unwrap_or (condition_of g (source g e)) 0) false in
-        subst (λ (z : Bool). HasValueFrom s (first ++ (if b then map (number_known s) (source_value g e) else [])) z t)
+        subst (λ (z : Bool). HasValueFrom s (by_chooser ++ (if b then map (number_known s) (source_value g e) else [])) z t)
         (sym (ap (λ o. b && takes o v) simple ∙ and_true b))
-        (same_valued g chooser t of_chooser made s few b first
+        (same_valued g chooser t of_chooser made s few b by_chooser
         (if b then map (number_known s) (source_value g e) else []) valued)
 
     -- an edge that asks for a value is live where its source is active and the condition has that value
     pub live_tested : (c : ℕ) (w : Bool) → asked g e ≡ Some (c, w) → IsTestedTree g.faults c w chooser t →
         IsLiveTree g e chooser t
     -- the edge's literals and its value, for an edge with that question, are those of the test
-    live_tested c w is tested s few first valued =
+    live_tested c w is tested s few by_chooser valued =
         let both = a_question (edge_at g e).when (condition_of g (source g e)) c w is in
         let b : Bool = active g s.values (source g e) in
-        let lits = ap₂ (λ (o : Option Bool) (d : Option ℕ). first ++ (if b then map (number_known s)
+        let lits = ap₂ (λ (o : Option Bool) (d : Option ℕ). by_chooser ++ (if b then map (number_known s)
         (if is_some o then map value_variable (option_to_list d) else []) else [])) (sym both.0)
         (sym both.1) in
         let value = ap₂ (λ (o : Option Bool) (d : Option ℕ). b && takes o (get_or s.values (unwrap_or d 0) false))
         (sym both.0) (sym both.1) in
         subst (λ (ls : List Literal). HasValueFrom s ls (live g s.values e) t) lits
-        (subst (λ (z : Bool). HasValueFrom s (first ++ (if b then value_known s c ∷ [] else [])) z t) value
-        (tested s few b first valued))
+        (subst (λ (z : Bool). HasValueFrom s (by_chooser ++ (if b then value_known s c ∷ [] else [])) z t) value
+        (tested s few b by_chooser valued))
 
 -- given: an item, the tree of where its producer is active, and the one that is made of it
 module _ (g : Graph) (x : ℕ) (chooser t : TreeState Bool) where
@@ -129,14 +130,14 @@ module _ (g : Graph) (x : ℕ) (chooser t : TreeState Bool) where
       IsLiveTree g e chooser t →
       IsGoesTree g x chooser t
   -- a message is sent just if its edge is live, and the literals of its send are those of the edge's value
-  goes_message e is sent lives s few first valued =
+  goes_message e is sent lives s few by_chooser valued =
       let message = sym (ap (is_sent_item g) is) ∙ sent in
-      subst (λ (i : Item). HasValueFrom s first (active g s.values (producer_of_item g i)) chooser →
-      HasValueFrom s (first ++ (if active g s.values (producer_of_item g i) then map (number_known s) (sent_value g i)
+      subst (λ (i : Item). HasValueFrom s by_chooser (active g s.values (producer_of_item g i)) chooser →
+      HasValueFrom s (by_chooser ++ (if active g s.values (producer_of_item g i) then map (number_known s) (sent_value g i)
       else [])) (item_active g s.values i) t) (sym is)
       (λ by_source. subst (λ (z : Bool). HasValueFrom s
-      (first ++ (if active g s.values (source g e) then map (number_known s) (source_value g e) else [])) z t)
-      (sym (ap (λ (b : Bool). b && live g s.values e) message)) (lives s few first by_source))
+      (by_chooser ++ (if active g s.values (source g e) then map (number_known s) (source_value g e) else [])) z t)
+      (sym (ap (λ (b : Bool). b && live g s.values e) message)) (lives s few by_chooser by_source))
       valued
 
   -- a broadcast goes just where its process is active
@@ -144,14 +145,14 @@ module _ (g : Graph) (x : ℕ) (chooser t : TreeState Bool) where
       IsMap (λ x z. z ≡ same_bool true x) chooser t →
       IsGoesTree g x chooser t
   -- the tree is the chooser's copy, and a broadcast that is sent at all is active just if its process is
-  goes_broadcast c is sent of_chooser made s few first valued =
+  goes_broadcast c is sent of_chooser made s few by_chooser valued =
       let many = sym (ap (is_sent_item g) is) ∙ sent in
       let value : item_active g s.values (item_at g x) ≡ active g s.values (producer g x) =
       ap (item_active g s.values) is ∙ ap (λ (b : Bool). b && active g s.values (process_of g c)) many
       ∙ ap (λ (i : Item). active g s.values (producer_of_item g i)) (sym is) in
       subst (λ (z : Bool). HasValueFrom s
-      (first ++ (if active g s.values (producer g x) then sent_by_value g s x else [])) z t) (sym value)
-      (same_valued g chooser t of_chooser made s few (active g s.values (producer g x)) first
+      (by_chooser ++ (if active g s.values (producer g x) then sent_by_value g s x else [])) z t) (sym value)
+      (same_valued g chooser t of_chooser made s few (active g s.values (producer g x)) by_chooser
       (if active g s.values (producer g x) then sent_by_value g s x else []) valued)
 
   -- a start is no item that is sent

@@ -26,7 +26,7 @@ use Rattle.cpg_tree.specs.GraphTrees.{no_tree}
 use Rattle.cpg_expand.specs.declared.forest.Ready.{Ready}
 use Rattle.cpg_expand.specs.declared.forest.Ready.TheVariants.{After, At}
 use Rattle.cpg_expand.specs.Grown.{RowsHold, IsReadyLine, IsFreeLine, Lines, IsEarlier, AreSettledOf, IsGrown}
-use Rattle.cpg_expand.specs.Grown.{IsReadyFirst, IsBare}
+use Rattle.cpg_expand.specs.Grown.{IsReadyFirst, IsBareForest}
 use Rattle.cpg_expand.specs.TreeValues.{HasTreeValues}
 use Rattle.cpg_expand.specs.Waiting.{ready_of, free_of}
 use Rattle.cpg_expand.proofs.AgreeingTrees.{agrees_constant, agrees_weaker}
@@ -94,7 +94,7 @@ module _ (g : Graph) (order : List ℕ) (topological : IsTopological g order) (r
 -- given: bare trees, in one scenario with its run
 -- `f`, `bare`, `has`: trees of the graph in which nothing is found yet; `rows`, `s`, `t`: rows, a scenario and its
 -- times
-module _ (g : Graph) (order : List ℕ) (f : ForestState) (bare : IsBare g f) (has : HasTrees g f)
+module _ (g : Graph) (order : List ℕ) (f : ForestState) (bare : IsBareForest g f) (has : HasTrees g f)
     (rows : List (List Column)) (s : Scenario) (t : Times) where
   -- at the first place each node is ready from 0 on, and nothing is said of it
   ready_first : (node : ℕ) → node < length g.nodes → IsReadyLine g order rows s t 0 node (ready_of g f node)
@@ -109,27 +109,27 @@ module _ (g : Graph) (order : List ℕ) (f : ForestState) (bare : IsBare g f) (h
     has_value =
         agrees_weaker s (ready_of g f node) [] _ (λ z. z ≡ 0) (λ z. z ≡ 0) (λ l j. absurd (Contains-nil l j)) (λ z e. e)
         (agrees_constant s 0 g.faults (ready_of g f node) (λ z. z ≡ 0) refl
-        (first (ready_at g f node) (All-get_or (IsReadyFirst g.faults) f.ready node (At (no_tree g.faults))
+        (constant_0 (ready_at g f node) (All-get_or (IsReadyFirst g.faults) f.ready node (At (no_tree g.faults))
         (omega (arith, l, has.ready)) bare.ready)));
   }
     where
-      -- a node that is ready by nothing yet is ready from 0 on
-      first : (r : Ready) → IsReadyFirst g.faults r → IsConstant 0 g.faults (ready_by g f r)
-      first (After q) none = absurd none
-      first (At t) is = is
+      -- what says at the beginning when a node is ready has the time 0 in each scenario
+      constant_0 : (r : Ready) → IsReadyFirst g.faults r → IsConstant 0 g.faults (ready_by g f r)
+      constant_0 (After q) none = absurd none
+      constant_0 (At t) is = is
 
   -- the slots of each node are free from 0 on, and nothing is said of them
   free_first : (node : ℕ) → node < length g.nodes → IsFreeLine g order rows s t 0 node (free_of g f node)
   free_first node l = record {
     time = 0;
-    is = record { above = λ y h. absurd (let before = h.1 in omega (arith, before)); least = λ b h. omega arith };
+    is = record { above = λ y h. absurd (let sooner = h.1 in omega (arith, sooner)); least = λ b h. omega arith };
     has_value =
         agrees_weaker s (free_of g f node) [] _ (λ z. z ≡ 0) (λ z. z ≡ 0) (λ l j. absurd (Contains-nil l j)) (λ z e. e)
         (agrees_constant s 0 g.faults (free_of g f node) (λ z. z ≡ 0) refl
         (All-get_or (IsConstant 0 g.faults) f.free node (no_tree g.faults) (omega (arith, l, has.free)) bare.free));
   }
 
-  -- before any process is gone over, the lines hold of bare trees
+  -- bare trees give the lines of the run up to the place 0, before any process
   pub lines_first : Lines g order rows s t 0 f
   lines_first = record {
     times = λ x l before. absurd (omega (arith, before));
@@ -148,7 +148,7 @@ settled_first g order = record {
 }
 
 -- bare trees are grown up to the place 0
-pub grown_first : (g : Graph) (order : List ℕ) (f : ForestState) → HasTrees g f → IsBare g f →
+pub grown_first : (g : Graph) (order : List ℕ) (f : ForestState) → HasTrees g f → IsBareForest g f →
     IsGrown g order 0 (nothing_frozen g) f
 grown_first g order f has bare = record {
   trees = has;

@@ -42,7 +42,7 @@ frozen_kind g x (inr (inl c)) f = inr (ap (is_sent_item g) c.3
     ∙ (and_parts (is_message g c.0) (edge_at g c.0).frozen (sym (ap (is_frozen_item g) c.3) ∙ f)).0)
 frozen_kind g x (inr (inr c)) f = absurd (apart (sym (ap (is_frozen_item g) c.3) ∙ f))
   where
-    -- what is excluded: a broadcast or message that is frozen and isn't sent
+    -- false isn't true: no broadcast is frozen
     apart : false ≡ true → ⊥
     apart e = cc
 
@@ -148,15 +148,15 @@ module _ (g : Graph) (order : List ℕ) (topological : IsTopological g order) (p
           (λ y j. let r =
           Contains-flat_map_parts (queued g order rows s) (sent_so_far g order p (length (queue_of g p))) y j in
           Contains-flat_map (queued g order rows s) (sent_before g order (place order p + 1) (node_of g p)) r.0 y
-          (more r.0 r.1) r.2)
+          (sent_still r.0 r.1) r.2)
           (λ z e. e) once.has_value;
     }
       where
-        -- what the node has sent, with all items of p, is what it has sent before the next place
-        more : (y : ℕ) → Contains (sent_so_far g order p (length (queue_of g p))) y →
+        -- what the node has sent up to the last item of p, it has sent before the next place
+        sent_still : (y : ℕ) → Contains (sent_so_far g order p (length (queue_of g p))) y →
             Contains (sent_before g order (place order p + 1) (node_of g p)) y
         -- an item sent before p's place stays among those sent, and one of p's queue is p's
-        more y j = elim (Contains-append_cases (sent_before g order (place order p) (node_of g p))
+        sent_still y j = elim (Contains-append_cases (sent_before g order (place order p) (node_of g p))
             (take (length (queue_of g p)) (queue_of g p)) y j) [
               | inl i ↦ let r =
                   Contains-flat_map_parts (queue_of g) (on_node g order (place order p) (node_of g p)) y i in

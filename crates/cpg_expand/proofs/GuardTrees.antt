@@ -1,4 +1,4 @@
--- The values of the trees down guards, and of those that the code makes of them.
+-- The values of the trees down guards, and of the starts that follow.
 use Rattle.std.proofs.Common.{ℕ, ◌+◌, ◌-◌, ◌<◌, ◌≡◌, ◌==◌, ◌&&◌, ◌||◌, nat_lt, max, length, Bool, true, false, if◌then◌else◌, List, [], ◌∷◌, ◌++◌}
 use Rattle.std.proofs.Common.{map, flat_map, get_or, Option, Some, None, All}
 use Rattle.std.proofs.Common.{Contains, ◌⊎◌, arith, le-ltb, lt-ltb, eq-eqb, refl, sym, ap, ap₂, ◌∙◌, subst, inl, inr}
@@ -27,30 +27,23 @@ use Rattle.cpg_tree.proofs.Spaces.{number_le_top}
 use Rattle.cpg_expand.specs.Agreeing.{Agrees, HasValueFrom}
 use Rattle.cpg_tree.specs.GraphTrees.{IsTree}
 use Rattle.cpg_tree.proofs.GraphTrees.{few_of, same_tree}
-use Rattle.cpg_run.specs.Carried.{number_known}
 use Rattle.cpg_run.specs.Carrying.{ContainsKept}
-use Rattle.cpg_tree_times.specs.Values.{ended, slot_from}
 use Rattle.cpg_tree.specs.Later.{time_later}
-use Rattle.cpg_bus.specs.Share.{ShareState}
-use Rattle.cpg_base.specs.Numbers.{same_bool}
-use Rattle.cpg_expand.specs.Sending.{IsTestedTree, IsSentTree, IsFreeTree}
-use Rattle.cpg_expand.specs.Ending.{durations_of, IsEndTree, IsReadyTree}
-use Rattle.cpg_expand.specs.Waiting.{ready_of, IsWaitTree}
 use Rattle.cpg_expand.specs.Later.{IsLaterTree, IsNoMore, IsLatest, IsReleased}
-use Rattle.cpg_expand.specs.Forest.{ForestState, HasTrees, IsWait, times_of, ends_of, later_tree, ready_at, heard_tree, heard_delay}
+use Rattle.cpg_expand.specs.Forest.{ForestState, HasTrees, times_of, ends_of, later_tree, heard_tree, heard_delay}
 use Rattle.cpg_tree.specs.GraphTrees.{no_tree}
 use Rattle.cpg_expand.specs.Forest.{input_tree, input_delay}
-use Rattle.cpg_expand.specs.declared.forest.Ready.{Ready}
-use Rattle.cpg_expand.specs.declared.forest.Ready.TheVariants.{At}
-use Rattle.cpg_expand.specs.Guarded.{value_known, values_known, PicksByValue, IsActiveTree, support_of, latest_of, AreThere, IsHeardTree, StartsAfter}
-use Rattle.cpg_expand.specs.Guarded.{IsStartAfter, awaited, start_says, start_at}
+use Rattle.cpg_expand.specs.Guarded.{value_known, values_known, PicksByValue, IsActiveTree, support_of, latest_of}
+use Rattle.cpg_expand.specs.Guarded.{AreOwnInputsThere, IsHeardTree, StartsAfter}
+use Rattle.cpg_expand.specs.Guarded.{IsStartAfter, awaited, start_literals, start_at}
 use Rattle.cpg_expand.specs.Guarded.{IsStartBy, IsStartTree}
 use Rattle.cpg_expand.proofs.AgreeingTrees.{agrees_weaker, agrees_constant, agrees_number, agrees_map, agrees_join, agrees_pick}
 
 -- ---- trees of at most k faults
 
--- a tree of one path is one of the graph
-pub constant_tree : {T : Type 0} (g : Graph) (x : T) (k : ℕ) (t : TreeState T) → k ≡ g.faults → HasOnePathEach t.faults t.paths → IsConstant x k t →
+-- a tree t that has x in all scenarios of at most k faults, the most of the graph, is one of the graph
+pub constant_tree : {T : Type 0} (g : Graph) (x : T) (k : ℕ) (t : TreeState T) → k ≡ g.faults →
+    HasOnePathEach t.faults t.paths → IsConstant x k t →
     DoPathsPass (is_variable g) t.paths → IsTree g t
 constant_tree g x k t e each is known =
     let same = ap (λ (u : TreeState _). u.faults) is ∙ e in
@@ -62,36 +55,40 @@ each_of g m t e is = subst (λ n. HasOnePathEach n t.paths) (sym e) is.each
 
 -- ---- variables of a graph
 
--- the counts of processes and the values of conditions are variables of the graph
+-- the fault count of process p is a variable of the graph
 pub count_passes : (g : Graph) (p : ℕ) → p < process_count g → is_variable g p ≡ true
 count_passes g p l = ap (λ b. b || (nat_le 128 p && nat_lt p (value_variable (condition_count g)))) (lt-ltb p (process_count g) l)
 
--- the value of a condition is a variable of the graph
+-- the value of condition c is a variable of the graph
 pub value_passes : (g : Graph) (c : ℕ) → c < condition_count g → is_variable g (128 + c) ≡ true
-value_passes g c l = or_right (nat_lt (128 + c) (process_count g)) (nat_le 128 (128 + c) && nat_lt (128 + c) (value_variable (condition_count g)))
+value_passes g c l = or_right (nat_lt (128 + c) (process_count g))
+    (nat_le 128 (128 + c) && nat_lt (128 + c) (value_variable (condition_count g)))
     (and_from (nat_le 128 (128 + c)) (nat_lt (128 + c) (value_variable (condition_count g))) (le-leb 128 (128 + c) (omega arith))
     (lt-ltb (128 + c) (value_variable (condition_count g)) (omega (arith, l))))
 
 -- ---- times that are later by a delay
 
--- a tree made by moving each time a delay later has the later times
+-- t, which is made of `tree` by moving each time `delay` later, has the later times
 pub later_has_value : (g : Graph) (delay : ℕ) (tree : TreeState (Option ℕ)) (t : TreeState ℕ) → IsTree g tree →
     IsMap (λ x z. z ≡ time_later delay x) tree t →
     IsLaterTree g.faults delay tree t
 later_has_value g delay tree t is made s few ls x has_value =
-    agrees_map s (λ y z. z ≡ time_later delay y) tree t ls (λ y. y ≡ x) (λ y. y ≡ time_later delay x) (few_of g.faults tree.faults s is.faults few)
+    agrees_map s (λ y z. z ≡ time_later delay y) tree t ls (λ y. y ≡ x) (λ y. y ≡ time_later delay x)
+    (few_of g.faults tree.faults s is.faults few)
     (each_of g tree.faults tree is.faults is) made
     (λ y z e f. f ∙ ap (time_later delay) e) has_value
 
 -- ---- times that are later tell when a node is ready
 
+-- given: a tree t of times, a delay, a scenario s, and literals `ls` that may say t's value there
 module _ (delay : ℕ) (s : Scenario) (t : TreeState (Option ℕ)) (ls : List Literal) where
   -- a path of the tree is one of the later tree, with its time moved
   on_times : (z : Path (Option ℕ)) → IsOnPath t.paths s z → IsOnPath (later_by delay t).paths s (later_path delay z)
   on_times z on = record { stands = Contains-map (later_path delay) t.paths z on.stands; matched = on.matched }
 
   -- each path of the later tree comes from one of the tree
-  of_times : (z : Path ℕ) → IsOnPath (later_by delay t).paths s z → (x : Path (Option ℕ)) × IsOnPath t.paths s x × (later_path delay x ≡ z)
+  of_times : (z : Path ℕ) → IsOnPath (later_by delay t).paths s z →
+      (x : Path (Option ℕ)) × IsOnPath t.paths s x × (later_path delay x ≡ z)
   of_times z on =
       let r = Contains-map_parts (later_path delay) t.paths z on.stands in
       (r.0, record { stands = r.1; matched = subst (λ (w : Path ℕ). IsTrue (is_on s w)) (sym r.2) on.matched }, r.2)
@@ -110,12 +107,14 @@ module _ (delay : ℕ) (s : Scenario) (t : TreeState (Option ℕ)) (ls : List Li
     says = λ z on. let r = of_times z on in subst (λ (w : Path ℕ). ContainsKept t.faults w.0 ls) r.2 (has_value.says r.0 r.1);
   }
 
--- the tree that is read a delay later has the later times
-pub later_is : (g : Graph) (delay : ℕ) (tree : TreeState (Option ℕ)) → IsLaterTree g.faults delay tree (later_by delay tree)
+-- the tree `tree`, read with each time `delay` later, has the later times
+pub later_is : (g : Graph) (delay : ℕ) (tree : TreeState (Option ℕ)) →
+    IsLaterTree g.faults delay tree (later_by delay tree)
 later_is g delay tree s few ls x has_value = to_times delay s tree ls x has_value
 
 -- ---- ends that tell when a node is ready
 
+-- given: a tree t of ends, a scenario s, and literals `ls` that may say t's value there
 module _ (s : Scenario) (t : TreeState (Option ℕ)) (ls : List Literal) where
   -- the value of the tree read from ends is an end, or 0 if there is none
   pub from_ends : (x : ℕ) → HasValueFrom s ls x (later_tree t) → Agrees s ls (λ y. time_later 0 y ≡ x) t
@@ -125,129 +124,153 @@ module _ (s : Scenario) (t : TreeState (Option ℕ)) (ls : List Literal) where
   pub to_ends : (y : Option ℕ) → HasValueFrom s ls y t → HasValueFrom s ls (time_later 0 y) (later_tree t)
   to_ends y has_value = to_times 0 s t ls y has_value
 
--- a tree that is made by reading ends as times has the values of the tree read from ends
-pub no_more : (g : Graph) (tree : TreeState (Option ℕ)) (t : TreeState ℕ) → IsTree g tree → IsMap (λ x z. z ≡ time_later 0 x) tree t →
+-- t, which is made of `tree` by reading its ends as times, has the values of `later_tree tree` and says no more
+pub no_more : (g : Graph) (tree : TreeState (Option ℕ)) (t : TreeState ℕ) → IsTree g tree →
+    IsMap (λ x z. z ≡ time_later 0 x) tree t →
     IsNoMore g.faults (later_tree tree) t
 no_more g tree t is made s few ls x has_value =
-    agrees_map s (λ y z. z ≡ time_later 0 y) tree t ls (λ y. time_later 0 y ≡ x) (λ z. z ≡ x) (few_of g.faults tree.faults s is.faults few)
+    agrees_map s (λ y z. z ≡ time_later 0 y) tree t ls (λ y. time_later 0 y ≡ x) (λ z. z ≡ x)
+    (few_of g.faults tree.faults s is.faults few)
     (each_of g tree.faults tree is.faults is) made
     (λ y z e f. f ∙ e) (from_ends s tree ls x has_value)
 
 -- ---- the later of two
 
--- given: t is made of the greater of two numbers, one read from each of two trees; and what these say in s
-module _ {T U V : Type 0} (g : Graph) (number : T → ℕ) (other_number : U → ℕ) (makes : ℕ → V) (a : TreeState T) (b : TreeState U) (t : TreeState V)
+-- given: a tree t that is made (`makes`) of the greater of two numbers, those that the values of a and b are read as
+-- `by_a`, `by_b`, `x`, `y`: the literals by which a's number in scenario s is x, and b's is y
+module _ {T U V : Type 0} (g : Graph) (number : T → ℕ) (other_number : U → ℕ) (makes : ℕ → V) (a : TreeState T)
+    (b : TreeState U) (t : TreeState V)
     (of_a : IsTree g a) (of_b : IsTree g b)
-    (made : IsJoin (λ x y z. z ≡ makes (max (number x) (other_number y))) a b t) (s : Scenario) (few : HasAtMostFaults g.faults s)
-    (first second : List Literal) (x y : ℕ) where
-  -- a tree made of the greater number of two trees has what is made of the greater number of their values
-  pub made_valued : Agrees s first (λ v. number v ≡ x) a → Agrees s second (λ w. other_number w ≡ y) b →
-      HasValueFrom s (first ++ second) (makes (max x y)) t
+    (made : IsJoin (λ x y z. z ≡ makes (max (number x) (other_number y))) a b t) (s : Scenario)
+    (few : HasAtMostFaults g.faults s)
+    (by_a by_b : List Literal) (x y : ℕ) where
+  -- in s, t has what is made of the greater of x and y, by the literals of both
+  pub made_valued : Agrees s by_a (λ v. number v ≡ x) a → Agrees s by_b (λ w. other_number w ≡ y) b →
+      HasValueFrom s (by_a ++ by_b) (makes (max x y)) t
   made_valued has_value other =
-      agrees_join s (λ v w z. z ≡ makes (max (number v) (other_number w))) a b t first second (λ v. number v ≡ x) (λ w. other_number w ≡ y)
+      agrees_join s (λ v w z. z ≡ makes (max (number v) (other_number w))) a b t by_a by_b (λ v. number v ≡ x)
+      (λ w. other_number w ≡ y)
       (λ z. z ≡ makes (max x y))
       (few_of g.faults a.faults s of_a.faults few) (of_b.faults ∙ sym of_a.faults)
       (each_of g a.faults a of_a.faults of_a) (each_of g a.faults b of_a.faults of_b) made
       (λ v w z d e i. i ∙ ap₂ (λ m n. makes (max m n)) d e) has_value other
 
-  -- the same, with the literals of the second tree first
-  pub made_turned : Agrees s first (λ v. number v ≡ x) a → Agrees s second (λ w. other_number w ≡ y) b →
-      HasValueFrom s (second ++ first) (makes (max y x)) t
+  -- the same, with the literals of b first
+  pub made_turned : Agrees s by_a (λ v. number v ≡ x) a → Agrees s by_b (λ w. other_number w ≡ y) b →
+      HasValueFrom s (by_b ++ by_a) (makes (max y x)) t
   made_turned has_value other =
-      agrees_weaker s t (first ++ second) (second ++ first) (λ z. z ≡ makes (max x y)) (λ z. z ≡ makes (max y x))
-      (λ l j. elim (Contains-append_cases first second l j) [
-        | inl i ↦ Contains-append_right second first l i
-        | inr i ↦ Contains-append_left second first l i
+      agrees_weaker s t (by_a ++ by_b) (by_b ++ by_a) (λ z. z ≡ makes (max x y)) (λ z. z ≡ makes (max y x))
+      (λ l j. elim (Contains-append_cases by_a by_b l j) [
+        | inl i ↦ Contains-append_right by_b by_a l i
+        | inr i ↦ Contains-append_left by_b by_a l i
       ])
       (λ z e. e ∙ ap makes (let same : max x y ≡ max y x = omega arith in same)) (made_valued has_value other)
 
--- a tree of the greater of two times is the later of the two trees
-pub latest_valued : (g : Graph) (one two t : TreeState ℕ) → IsTree g one → IsTree g two → IsJoin (λ x y z. z ≡ max x y) one two t →
+-- t, a tree of the greater time of the trees `one` and `two`, is the later of the two
+pub latest_valued : (g : Graph) (one two t : TreeState ℕ) → IsTree g one → IsTree g two →
+    IsJoin (λ x y z. z ≡ max x y) one two t →
     IsLatest g.faults one two t
-latest_valued g one two t of_one of_two made s few first second x y has_value other =
-    made_valued g (λ n. n) (λ n. n) (λ n. n) one two t of_one of_two made s few first second x y has_value other
+latest_valued g one two t of_one of_two made s few by_a by_b x y has_value other =
+    made_valued g (λ n. n) (λ n. n) (λ n. n) one two t of_one of_two made s few by_a by_b x y has_value other
 
--- a tree of the greater of two times is the later of the two trees, also where one has ends
+-- t, a tree of the greater of the time of `there` and the end of `end`, is the later of the two; no end counts as 0
 pub latest_ends : (g : Graph) (end : TreeState (Option ℕ)) (there t : TreeState ℕ) → IsTree g end → IsTree g there →
     IsJoin (λ x y z. z ≡ max x (time_later 0 y)) there end t →
     IsLatest g.faults (later_tree end) there t
-latest_ends g end there t of_end of_there made s few first second x y has_value other =
-    made_turned g (λ n. n) (time_later 0) (λ n. n) there end t of_there of_end made s few second first y x other (from_ends s end first x has_value)
+latest_ends g end there t of_end of_there made s few by_a by_b x y has_value other =
+    made_turned g (λ n. n) (time_later 0)
+    (λ n. n) there end t of_there of_end made s few by_b by_a y x other (from_ends s end by_a x has_value)
 
 -- given: a tree and a delay, each also by the name by which the code has it (`times`, `delay`)
-module _ {V : Type 0} (g : Graph) (makes : ℕ → V) (delay d : ℕ) (same_delay : delay ≡ d) (times read : TreeState (Option ℕ)) (is : times ≡ read)
+module _ {V : Type 0} (g : Graph) (makes : ℕ → V) (delay d : ℕ) (same_delay : delay ≡ d)
+    (times read : TreeState (Option ℕ)) (is : times ≡ read)
     (of_times : IsTree g times) where
   -- if the later tree has a value, the tree that is read agrees with it
-  pub as_read : (s : Scenario) (ls : List Literal) (n : ℕ) → HasValueFrom s ls n (later_by d read) → Agrees s ls (λ v. time_later delay v ≡ n) times
+  pub as_read : (s : Scenario) (ls : List Literal) (n : ℕ) → HasValueFrom s ls n (later_by d read) →
+      Agrees s ls (λ v. time_later delay v ≡ n) times
   as_read s ls n h = from_times delay s times ls n (subst (λ (m : ℕ). HasValueFrom s ls n (later_by m times)) (sym same_delay)
       (subst (λ (u : TreeState (Option ℕ)). HasValueFrom s ls n (later_by d u)) (sym is) h))
 
   -- what is made of the later of the read tree and another has what is made of the later of their values
   pub valued_and_read : (other : TreeState ℕ) (t : TreeState V) → IsTree g other →
       IsJoin (λ x y z. z ≡ makes (max x (time_later delay y))) other times t →
-      (s : Scenario) → HasAtMostFaults g.faults s → (first second : List Literal) (x y : ℕ) → HasValueFrom s first x other →
-      HasValueFrom s second y (later_by d read)
-      → HasValueFrom s (first ++ second) (makes (max x y)) t
-  valued_and_read other t of_other made s few first second x y has_value there =
-      made_valued g (λ n. n) (time_later delay) makes other times t of_other of_times made s few first second x y has_value (as_read s second y there)
+      (s : Scenario) → HasAtMostFaults g.faults s → (by_a by_b : List Literal) (x y : ℕ) → HasValueFrom s by_a x other →
+      HasValueFrom s by_b y (later_by d read)
+      → HasValueFrom s (by_a ++ by_b) (makes (max x y)) t
+  valued_and_read other t of_other made s few by_a by_b x y has_value there =
+      made_valued g (λ n. n)
+      (time_later delay) makes other times t of_other of_times made s few by_a by_b x y has_value (as_read s by_b y there)
 
   -- the same with the read tree first
   pub read_and_valued : (other : TreeState ℕ) (t : TreeState V) → IsTree g other →
       IsJoin (λ x y z. z ≡ makes (max (time_later delay x) y)) times other t →
-      (s : Scenario) → HasAtMostFaults g.faults s → (first second : List Literal) (x y : ℕ) → HasValueFrom s first x (later_by d read) →
-      HasValueFrom s second y other
-      → HasValueFrom s (first ++ second) (makes (max x y)) t
-  read_and_valued other t of_other made s few first second x y there has_value =
-      made_valued g (time_later delay) (λ n. n) makes times other t of_times of_other made s few first second x y (as_read s first x there) has_value
+      (s : Scenario) → HasAtMostFaults g.faults s → (by_a by_b : List Literal) (x y : ℕ) →
+      HasValueFrom s by_a x (later_by d read) →
+      HasValueFrom s by_b y other
+      → HasValueFrom s (by_a ++ by_b) (makes (max x y)) t
+  read_and_valued other t of_other made s few by_a by_b x y there has_value =
+      made_valued g (time_later delay)
+      (λ n. n) makes times other t of_times of_other made s few by_a by_b x y (as_read s by_a x there) has_value
 
   -- the same with ends in place of the other tree
   pub ends_and_read : (end read_end : TreeState (Option ℕ)) (t : TreeState V) → end ≡ read_end → IsTree g end →
       IsJoin (λ x y z. z ≡ makes (max (time_later delay x) (time_later 0 y))) times end t →
-      (s : Scenario) → HasAtMostFaults g.faults s → (first second : List Literal) (x y : ℕ) → HasValueFrom s first x (later_tree read_end) →
-      HasValueFrom s second y (later_by d read) →
-      HasValueFrom s (first ++ second) (makes (max x y)) t
-  ends_and_read end read_end t is_end of_end made s few first second x y has_value there =
-      made_turned g (time_later delay) (time_later 0) makes times end t of_times of_end made s few second first y x (as_read s second y there)
-      (from_ends s end first x (subst (λ (u : TreeState (Option ℕ)). HasValueFrom s first x (later_tree u)) (sym is_end) has_value))
+      (s : Scenario) → HasAtMostFaults g.faults s → (by_a by_b : List Literal) (x y : ℕ) →
+      HasValueFrom s by_a x (later_tree read_end) →
+      HasValueFrom s by_b y (later_by d read) →
+      HasValueFrom s (by_a ++ by_b) (makes (max x y)) t
+  ends_and_read end read_end t is_end of_end made s few by_a by_b x y has_value there =
+      made_turned g (time_later delay)
+      (time_later 0) makes times end t of_times of_end made s few by_b by_a y x (as_read s by_b y there)
+      (from_ends s end by_a x (subst (λ (u : TreeState (Option ℕ)). HasValueFrom s by_a x (later_tree u)) (sym is_end) has_value))
 
 -- ---- the tree that a condition's value picks
 
 -- the number of a condition's variable is that of its value
-number_at : (s : Scenario) (c : ℕ) → number_of s (128 + c) ≡ number_of_value (get_or s.values c false)
-number_at s c = cond-false _ (fault_of s (128 + c)) (number_of_value (get_or s.values (128 + c - 128) false)) (le-ltb (128 + c) 128 (omega arith))
+pub number_at : (s : Scenario) (c : ℕ) → number_of s (128 + c) ≡ number_of_value (get_or s.values c false)
+number_at s c = cond-false _ (fault_of s (128 + c)) (number_of_value (get_or s.values (128 + c - 128) false))
+    (le-ltb (128 + c) 128 (omega arith))
     ∙ ap (λ d. number_of_value (get_or s.values d false)) (let e : 128 + c - 128 ≡ c = omega arith in e)
 
--- a tree that a condition's value picks has the value of the side that is picked
+-- t, which picks by the value of condition c (`value`), has the value of `yes_tree` if c is true and of `off_tree` if
+-- it is false
 pub value_picks : {T : Type 0} (g : Graph) (c : ℕ) (value : TreeState Bool) (yes_tree off_tree t : TreeState T) →
     IsNumber (128 + c) g.faults number_of_value value →
     HasOnePathEach value.faults value.paths →
-    IsTree g yes_tree → IsTree g off_tree → IsPick value yes_tree off_tree t → PicksByValue g.faults c yes_tree off_tree t
+    IsTree g yes_tree → IsTree g off_tree → IsPick value yes_tree off_tree t →
+    PicksByValue g.faults c yes_tree off_tree t
 value_picks g c value y f t is each of_y of_f made s few ls x has_value =
     let b : Bool = get_or s.values c false in
     let valued : Agrees s (exactly (128 + c) (number_of s (128 + c)) ∷ []) (λ (d : Bool). number_of_value d ≡ number_of s (128 + c)) value =
     agrees_number s (128 + c) g.faults number_of_value value few (number_le_top g.faults s few (128 + c)) is in
     let chosen : Agrees s (exactly (128 + c) (number_of s (128 + c)) ∷ []) (λ (d : Bool). d ≡ b) value =
-    agrees_weaker s value (exactly (128 + c) (number_of s (128 + c)) ∷ []) (exactly (128 + c) (number_of s (128 + c)) ∷ [])
+    agrees_weaker s value (exactly (128 + c) (number_of s (128 + c)) ∷ [])
+    (exactly (128 + c) (number_of s (128 + c)) ∷ [])
     (λ (d : Bool). number_of_value d ≡ number_of s (128 + c))
     (λ (d : Bool). d ≡ b)
     (λ l j. j) (λ d e. one_value d b (e ∙ number_at s c)) valued in
-    agrees_pick s value y f t b (exactly (128 + c) (number_of s (128 + c)) ∷ []) ls (λ z. z ≡ x) (few_of g.faults value.faults s is.faults few)
+    agrees_pick s value y f t b (exactly (128 + c) (number_of s (128 + c)) ∷ []) ls (λ z. z ≡ x)
+    (few_of g.faults value.faults s is.faults few)
     (of_y.faults ∙ sym is.faults) (of_f.faults ∙ sym is.faults) each (each_of g value.faults y is.faults of_y)
     (each_of g value.faults f is.faults of_f) made chosen has_value
 
 -- ---- where a guard comes to an activation
 
 -- a leaf is active everywhere or nowhere
-pub active_leaf : (k : ℕ) (a : Activation) (t : TreeState Bool) → IsConstant (is_active a) k t → IsActiveTree k (Leaf a) t
+pub active_leaf : (k : ℕ) (a : Activation) (t : TreeState Bool) → IsConstant (is_active a) k t →
+    IsActiveTree k (Leaf a) t
 active_leaf k a t is s few = agrees_constant s (is_active a) k t (λ y. y ≡ is_active a) refl is
 
--- a guard that tests a condition is active where the side that the value picks is active
-pub active_test : (k c : ℕ) (off on : Guard) (f y t : TreeState Bool) → IsActiveTree k off f → IsActiveTree k on y → PicksByValue k c y f t →
+-- a guard that tests c is active where the side that c's value picks is: t picks y, the tree of `on`, or f, that of
+-- `off`
+pub active_test : (k c : ℕ) (off on : Guard) (f y t : TreeState Bool) → IsActiveTree k off f → IsActiveTree k on y →
+    PicksByValue k c y f t →
     IsActiveTree k (Test c off on) t
 active_test k c off on f y t of_off of_on picks s few = go (get_or s.values c false) refl
   where
     -- by the value of the first condition: the side that it picks says whether the guard is active
-    go : (d : Bool) → get_or s.values c false ≡ d → HasValueFrom s (values_known s (c ∷ (if d then way on s.values else way off s.values)))
+    go : (d : Bool) → get_or s.values c false ≡ d →
+        HasValueFrom s (values_known s (c ∷ (if d then way on s.values else way off s.values)))
         (is_active (if d then outcome_at on s.values else outcome_at off s.values)) t
     go true e = picks s few (values_known s (way on s.values)) (is_active (outcome_at on s.values))
         (subst (λ (d : Bool). HasValueFrom s (values_known s (way on s.values)) (is_active (outcome_at on s.values)) (if d then y else f))
@@ -263,7 +286,7 @@ pub heard_leaf : (g : Graph) (f : ForestState) (node : ℕ) (a : Activation) (t 
     IsHeardTree g f node (Leaf a) t
 heard_leaf g f node a t is s few support time valued = agrees_constant s 0 g.faults t (λ y. y ≡ 0) refl is
 
--- the literals of the first condition and of the others are those of all
+-- each literal of c or of the conditions `ws` is one of c and `ws` together
 support_first : (s : Scenario) (support : ℕ → List Literal) (c : ℕ) (ws : List ℕ) (l : Literal) →
     Contains (support c ++ value_known s c ∷ support_of s support ws) l
     → Contains (support_of s support (c ∷ ws)) l
@@ -277,16 +300,20 @@ support_first s support c ws l j = elim (Contains-append_cases (support c) (valu
   ]
 ]
 
--- the latest of a list of times is the later of the first and the latest of the rest
+-- the latest of the times of x and `xs` is the later of that of x and the latest of those of `xs`
 pub latest-cons : (delay : ℕ → ℕ) (time : ℕ → Option ℕ) (x : ℕ) (xs : List ℕ) →
     latest_of delay time (x ∷ xs) ≡ max (time_later (delay x) (time x)) (latest_of delay time xs)
-latest-cons delay time x xs = greatest-cons (time_later (delay x) (time x)) (map (λ y. time_later (delay y) (time y)) xs)
+latest-cons delay time x xs = greatest-cons (time_later (delay x) (time x))
+    (map (λ y. time_later (delay y) (time y)) xs)
 
--- a guard that tests a condition is heard once the condition is, and what the side that its value picks tests
-pub heard_test : (g : Graph) (f : ForestState) (node c : ℕ) (off on : Guard) (a b further t : TreeState ℕ) → IsHeardTree g f node off a →
+-- a guard that tests c is heard once c is, and what the side that c's value picks tests: `further` picks b, the tree of
+-- `on`, or a, that of `off`, and t is the later of it and of when c is heard
+pub heard_test : (g : Graph) (f : ForestState) (node c : ℕ) (off on : Guard) (a b further t : TreeState ℕ) →
+    IsHeardTree g f node off a →
     IsHeardTree g f node on b →
     PicksByValue g.faults c b a further →
-    IsLatest g.faults (later_by (heard_delay g node c) (heard_tree g f node c)) further t → IsHeardTree g f node (Test c off on) t
+    IsLatest g.faults (later_by (heard_delay g node c) (heard_tree g f node c)) further t →
+    IsHeardTree g f node (Test c off on) t
 heard_test g f node c off on a b further t of_off of_on picks latest s few support time valued = go (get_or s.values c false) refl
   where
     -- how long after its frame is sent, or its process ends, the node has heard a condition
@@ -298,23 +325,29 @@ heard_test g f node c off on a b further t of_off of_on picks latest s few suppo
     first = to_times (delay c) s (heard_tree g f node c) (support c) (time c) (valued c (Contains-first c _))
 
     -- the later of that and of when the conditions behind c are heard: when all of them are, by the literals of all
-    joined : (ws : List ℕ) → HasValueFrom s (value_known s c ∷ support_of s support ws) (latest_of delay time ws) further
+    joined : (ws : List ℕ) →
+        HasValueFrom s (value_known s c ∷ support_of s support ws) (latest_of delay time ws) further
         → HasValueFrom s (support_of s support (c ∷ ws)) (latest_of delay time (c ∷ ws)) t
-    joined ws second = agrees_weaker s t (support c ++ value_known s c ∷ support_of s support ws) (support_of s support (c ∷ ws))
-        (λ z. z ≡ max (time_later (delay c) (time c)) (latest_of delay time ws)) (λ z. z ≡ latest_of delay time (c ∷ ws))
+    joined ws second = agrees_weaker s t (support c ++ value_known s c ∷ support_of s support ws)
+        (support_of s support (c ∷ ws))
+        (λ z. z ≡ max (time_later (delay c) (time c)) (latest_of delay time ws))
+        (λ z. z ≡ latest_of delay time (c ∷ ws))
         (λ l j. support_first s support c ws l j)
         (λ z e. e ∙ sym (latest-cons delay time c ws))
         (latest s few (support c) (value_known s c ∷ support_of s support ws) (time_later (delay c) (time c)) (latest_of delay time ws) first second)
 
     -- by the value of c: the conditions that are tested behind it are those of the side that it picks
-    go : (d : Bool) → get_or s.values c false ≡ d → HasValueFrom s (support_of s support (c ∷ (if d then way on s.values else way off s.values)))
+    go : (d : Bool) → get_or s.values c false ≡ d →
+        HasValueFrom s (support_of s support (c ∷ (if d then way on s.values else way off s.values)))
         (latest_of delay time (c ∷ (if d then way on s.values else way off s.values))) t
-    go true e = joined (way on s.values) (picks s few (support_of s support (way on s.values)) (latest_of delay time (way on s.values))
+    go true e = joined (way on s.values)
+        (picks s few (support_of s support (way on s.values)) (latest_of delay time (way on s.values))
         (subst (λ (d : Bool). HasValueFrom s (support_of s support (way on s.values)) (latest_of delay time (way on s.values)) (if d then b else a))
         (sym e)
         (of_on s few support time
         (λ x j. valued x (Contains-rest c _ x (subst (λ (d : Bool). Contains (if d then way on s.values else way off s.values) x) (sym e) j))))))
-    go false e = joined (way off s.values) (picks s few (support_of s support (way off s.values)) (latest_of delay time (way off s.values))
+    go false e = joined (way off s.values)
+        (picks s few (support_of s support (way off s.values)) (latest_of delay time (way off s.values))
         (subst (λ (d : Bool). HasValueFrom s (support_of s support (way off s.values)) (latest_of delay time (way off s.values)) (if d then b else a))
         (sym e)
         (of_off s few support time
@@ -322,8 +355,9 @@ heard_test g f node c off on a b further t of_off of_on picks latest s few suppo
 
 -- ---- what holds of all of a list holds of its parts
 
--- a fact of all of a list is one of its first and of the rest
-pub all_parts : {X : Type 0} (P : X → Type 0) (whole : List X) (x : X) (xs : List X) → whole ≡ x ∷ xs → All P whole → P x × All P xs
+-- if the list `whole` is x and then xs, a fact of all its elements is one of x and of all of xs
+pub all_parts : {X : Type 0} (P : X → Type 0) (whole : List X) (x : X) (xs : List X) → whole ≡ x ∷ xs → All P whole →
+    P x × All P xs
 all_parts P whole x xs is h =
     let all = subst (All P) is h in (
       All-contains P (x ∷ xs) x all (Contains-first x xs),
@@ -332,28 +366,31 @@ all_parts P whole x xs is h =
 
 -- ---- inputs
 
--- an input from the node itself is there once the node is ready
-own_early : (g : Graph) (time : ℕ → Option ℕ) (x e : ℕ) (es : List ℕ) → is_message g e ≡ false → AreThere g time x (e ∷ es) →
+-- input e, which is from the node itself, is there once the node is ready, at x
+own_early : (g : Graph) (time : ℕ → Option ℕ) (x e : ℕ) (es : List ℕ) → is_message g e ≡ false →
+    AreOwnInputsThere g time x (e ∷ es) →
     time_later (input_delay g e) (time e) ≤ x
 own_early g time x e es own there = subst (λ (b : Bool). time_later (if b then slot_length g (home g (message_item g e)) else 0) (time e) ≤ x)
     (sym own) (there e (Contains-first e es) own)
 
--- if all inputs are from the node itself, the latest is there once the node is ready
-own_latest : (g : Graph) (time : ℕ → Option ℕ) (x : ℕ) (es : List ℕ) → All (λ e. is_message g e ≡ false) es → AreThere g time x es →
+-- if all inputs `es` are from the node itself, the latest of them is there once the node is ready, at x
+own_latest : (g : Graph) (time : ℕ → Option ℕ) (x : ℕ) (es : List ℕ) → All (λ e. is_message g e ≡ false) es →
+    AreOwnInputsThere g time x es →
     latest_of (input_delay g) time es ≤ x
 -- by induction on the list
 own_latest g time x [] own there = omega arith
 own_latest g time x (e ∷ es) own there =
-    let parts = all_parts (λ d. is_message g d ≡ false) (e ∷ es) e es refl own in
+    let own_each = all_parts (λ d. is_message g d ≡ false) (e ∷ es) e es refl own in
     omega (
       arith,
-      own_early g time x e es parts.0 there,
-      own_latest g time x es parts.1 (λ d j. there d (Contains-rest e es d j)),
+      own_early g time x e es own_each.0 there,
+      own_latest g time x es own_each.1 (λ d j. there d (Contains-rest e es d j)),
       latest-cons (input_delay g) time e es,
     )
 
--- literals that stand first are kept if those behind them are among more
-pub support_as_first : (first some more : List Literal) → ((l : Literal) → Contains some l → Contains more l) → (l : Literal) →
+-- if the literals `some` are among `more`, those of `first` and `some` are among those of `first` and `more`
+pub support_as_first : (first some more : List Literal) → ((l : Literal) → Contains some l → Contains more l) →
+    (l : Literal) →
     Contains (first ++ some) l →
     Contains (first ++ more) l
 support_as_first first some more within l j = elim (Contains-append_cases first some l j) [
@@ -361,36 +398,41 @@ support_as_first first some more within l j = elim (Contains-append_cases first 
   | inr i ↦ Contains-append_right first more l (within l i)
 ]
 
-module _ (g : Graph) (f : ForestState) (s : Scenario) (first : List Literal) where
+-- given: a forest f, a scenario s, and literals `chosen_by` that stand first
+module _ (g : Graph) (f : ForestState) (s : Scenario) (chosen_by : List Literal) where
   -- an input of the node itself is there once the node is ready, so the starts without it are those with it
-  pub own_input : (wait : TreeState ℕ) (t : TreeState (Option ℕ)) (release e : ℕ) (es : List ℕ) → is_message g e ≡ false →
-      StartsAfter g f s first wait release es t →
-      StartsAfter g f s first wait release (e ∷ es) t
+  pub own_input : (wait : TreeState ℕ) (t : TreeState (Option ℕ)) (release e : ℕ) (es : List ℕ) →
+      is_message g e ≡ false →
+      StartsAfter g f s chosen_by wait release es t →
+      StartsAfter g f s chosen_by wait release (e ∷ es) t
   own_input wait t release e es own starts base x has_value support time there valued =
       let latest = latest_of (input_delay g) time es in
-      agrees_weaker s t (first ++ (base ++ flat_map support es)) (first ++ (base ++ flat_map support (e ∷ es)))
+      agrees_weaker s t (chosen_by ++ (base ++ flat_map support es)) (chosen_by ++ (base ++ flat_map support (e ∷ es)))
       (λ y. y ≡ Some (max (max x release) latest))
       (λ y. y ≡ Some (max (max x release) (latest_of (input_delay g) time (e ∷ es))))
-      (support_as_first first (base ++ flat_map support es) (base ++ flat_map support (e ∷ es))
+      (support_as_first chosen_by (base ++ flat_map support es) (base ++ flat_map support (e ∷ es))
       (support_as_first base (flat_map support es) (flat_map support (e ∷ es)) (λ l j. Contains-append_right (support e) (flat_map support es) l j)))
       (λ y d. d ∙ ap Some (let same : max (max x release) latest ≡ max (max x release) (latest_of (input_delay g) time (e ∷ es)) =
       omega (arith, own_early g time x e es own there, latest-cons (input_delay g) time e es) in same))
       (starts base x has_value support time (λ d j. there d (Contains-rest e es d j)) (λ d j. valued d (Contains-rest e es d j)))
 
   -- for an input from another node, the starts after the later of it and the wait are those with it
-  pub one_input : HasAtMostFaults g.faults s → (wait there both : TreeState ℕ) (t : TreeState (Option ℕ)) (release e : ℕ) (es : List ℕ)
+  pub one_input : HasAtMostFaults g.faults s →
+      (wait there both : TreeState ℕ) (t : TreeState (Option ℕ)) (release e : ℕ) (es : List ℕ)
       → IsLaterTree g.faults (input_delay g e) (input_tree g f e) there →
-      IsLatest g.faults wait there both → StartsAfter g f s first both release es t → StartsAfter g f s first wait release (e ∷ es) t
+      IsLatest g.faults wait there both → StartsAfter g f s chosen_by both release es t →
+      StartsAfter g f s chosen_by wait release (e ∷ es) t
   one_input few wait there both t release e es later latest starts base x has_value support time ready valued =
       let at = time_later (input_delay g e) (time e) in
       let others = latest_of (input_delay g) time es in
       -- the later of the wait and the input, by the literals of both
       let joined : HasValueFrom s (base ++ support e) (max x at) both =
       latest s few base (support e) x at has_value (later s few (support e) (time e) (valued e (Contains-first e es))) in
-      agrees_weaker s t (first ++ ((base ++ support e) ++ flat_map support es)) (first ++ (base ++ flat_map support (e ∷ es)))
+      agrees_weaker s t (chosen_by ++ ((base ++ support e) ++ flat_map support es))
+      (chosen_by ++ (base ++ flat_map support (e ∷ es)))
       (λ y. y ≡ Some (max (max (max x at) release) others))
       (λ y. y ≡ Some (max (max x release) (latest_of (input_delay g) time (e ∷ es))))
-      (support_as_first first ((base ++ support e) ++ flat_map support es) (base ++ flat_map support (e ∷ es))
+      (support_as_first chosen_by ((base ++ support e) ++ flat_map support es) (base ++ flat_map support (e ∷ es))
       (λ l j. within l (Contains-append_cases (base ++ support e) (flat_map support es) l j)))
       (λ y d. d ∙ ap Some (let same : max (max (max x at) release) others ≡ max (max x release) (latest_of (input_delay g) time (e ∷ es)) =
       omega (arith, latest-cons (input_delay g) time e es) in
@@ -400,22 +442,26 @@ module _ (g : Graph) (f : ForestState) (s : Scenario) (first : List Literal) whe
       (λ d j. valued d (Contains-rest e es d j)))
     where
       -- the literals of the wait, of e and of the other inputs are those of the wait and of all inputs
-      within : (l : Literal) → Contains (base ++ support e) l ⊎ Contains (flat_map support es) l → Contains (base ++ flat_map support (e ∷ es)) l
+      within : (l : Literal) → Contains (base ++ support e) l ⊎ Contains (flat_map support es) l →
+          Contains (base ++ flat_map support (e ∷ es)) l
       within l (inr j) = Contains-append_right base (support e ++ flat_map support es) l (Contains-append_right (support e) (flat_map support es) l j)
       within l (inl j) =
-          support_as_first base (support e) (support e ++ flat_map support es) (λ m i. Contains-append_left (support e) (flat_map support es) m i) l j
+          support_as_first base (support e) (support e ++ flat_map support es)
+          (λ m i. Contains-append_left (support e) (flat_map support es) m i) l j
 
-  -- if only inputs of the node itself follow, the starts by the wait and this message are those with all
-  pub last_input : (wait : TreeState ℕ) (t : TreeState (Option ℕ)) (release e : ℕ) (es : List ℕ) → All (λ d. is_message g d ≡ false) es →
-      ((base second : List Literal) (x y : ℕ) → HasValueFrom s base x wait → HasValueFrom s second y (later_by (input_delay g e) (input_tree g f e)) →
-      HasValueFrom s (first ++ (base ++ second)) (Some (max (max x y) release)) t) →
-      StartsAfter g f s first wait release (e ∷ es) t
+  -- if the inputs `es` behind the message e are all of the node itself, the starts by the wait and e are those with all
+  pub last_input : (wait : TreeState ℕ) (t : TreeState (Option ℕ)) (release e : ℕ) (es : List ℕ) →
+      All (λ d. is_message g d ≡ false) es →
+      ((base by_input : List Literal) (x y : ℕ) → HasValueFrom s base x wait → HasValueFrom s by_input y (later_by (input_delay g e) (input_tree g f e)) →
+      HasValueFrom s (chosen_by ++ (base ++ by_input)) (Some (max (max x y) release)) t) →
+      StartsAfter g f s chosen_by wait release (e ∷ es) t
   last_input wait t release e es own starts base x has_value support time there valued =
       let at = time_later (input_delay g e) (time e) in
       let late : latest_of (input_delay g) time es ≤ x = own_latest g time x es own (λ d j. there d (Contains-rest e es d j)) in
-      agrees_weaker s t (first ++ (base ++ support e)) (first ++ (base ++ flat_map support (e ∷ es))) (λ y. y ≡ Some (max (max x at) release))
+      agrees_weaker s t (chosen_by ++ (base ++ support e)) (chosen_by ++ (base ++ flat_map support (e ∷ es)))
+      (λ y. y ≡ Some (max (max x at) release))
       (λ y. y ≡ Some (max (max x release) (latest_of (input_delay g) time (e ∷ es))))
-      (support_as_first first (base ++ support e) (base ++ flat_map support (e ∷ es))
+      (support_as_first chosen_by (base ++ support e) (base ++ flat_map support (e ∷ es))
       (support_as_first base (support e) (flat_map support (e ∷ es)) (λ l j. Contains-append_left (support e) (flat_map support es) l j)))
       (λ y d. d ∙ ap Some (let same : max (max x at) release ≡ max (max x release) (latest_of (input_delay g) time (e ∷ es)) =
       omega (arith, late, latest-cons (input_delay g) time e es) in same))
@@ -423,13 +469,13 @@ module _ (g : Graph) (f : ForestState) (s : Scenario) (first : List Literal) whe
 
 -- ---- starts
 
--- an inactive process has no start
+-- a tree without a time in any scenario has the starts of an inactive process
 pub no_start : (g : Graph) (f : ForestState) (wait : TreeState ℕ) (release : ℕ) (inputs : List ℕ) (t : TreeState (Option ℕ)) →
     IsConstant None g.faults t →
     IsStartBy g f wait release inputs Inactive t
 no_start g f wait release inputs t is s few base x has_value support time there valued = agrees_constant s None g.faults t (λ y. y ≡ None) refl is
 
--- without inputs a start is the later of the wait and the release
+-- if t has the later of the wait's end x and the release, it has the start that awaits no inputs
 started_none : (g : Graph) (s : Scenario) (t : TreeState (Option ℕ)) (base : List Literal) (x release : ℕ) →
     HasValueFrom s base (Some (max x release)) t →
     HasValueFrom s (base ++ []) (Some (max (max x release) 0)) t
@@ -437,8 +483,9 @@ started_none g s t base x release has_value = agrees_weaker s t base (base ++ []
     (λ y. y ≡ Some (max (max x release) 0)) (λ l j. Contains-append_left base [] l j)
     (λ y e. e ∙ ap Some (let same : max x release ≡ max (max x release) 0 = omega arith in same)) has_value
 
--- if no inputs are awaited, the start is the later of the wait and the release
-pub start_valued : (g : Graph) (f : ForestState) (wait : TreeState ℕ) (t : TreeState (Option ℕ)) (release : ℕ) → IsTree g wait →
+-- if no inputs are awaited, a tree t of the later of the wait and the release has the starts
+pub start_valued : (g : Graph) (f : ForestState) (wait : TreeState ℕ) (t : TreeState (Option ℕ)) (release : ℕ) →
+    IsTree g wait →
     IsMap (λ x z. z ≡ Some (max x release)) wait t →
     IsStartAfter g f wait release [] t
 start_valued g f wait t release of_wait made s few base x has_value support time there valued = started_none g s t base x release
@@ -447,7 +494,8 @@ start_valued g f wait t release of_wait made s few base x has_value support time
     (each_of g wait.faults wait of_wait.faults of_wait) made
     (λ y z e i. i ∙ ap (λ n. Some (max n release)) e) has_value)
 
--- if the wait is for an end, a tree of the end or the release, whichever is later, has the starts without inputs
+-- if the wait is for the ends `end` and no inputs are awaited, a tree t of the later of the end and the release has the
+-- starts
 pub start_after_ends : (g : Graph) (f : ForestState) (end t : TreeState (Option ℕ)) (release : ℕ) → IsTree g end →
     IsMap (λ x z. z ≡ Some (max (time_later 0 x) release)) end t →
     IsStartAfter g f (later_tree end) release [] t
@@ -457,7 +505,7 @@ start_after_ends g f end t release of_end made s few base x has_value support ti
     (each_of g end.faults end of_end.faults of_end) made
     (λ y z e i. i ∙ ap (λ n. Some (max n release)) e) (from_ends s end base x has_value))
 
--- the starts after the awaited inputs are those by an active activation
+-- if activation a is active, the starts after the inputs that a awaits are the starts by a
 pub start_active : (g : Graph) (f : ForestState) (wait : TreeState ℕ) (t : TreeState (Option ℕ)) (release : ℕ) (inputs : List ℕ) (a : Activation) →
     is_active a ≡ true →
     IsStartAfter g f wait release (awaited inputs a) t → IsStartBy g f wait release inputs a t
@@ -467,23 +515,25 @@ start_active g f wait t release inputs a active is s few base x has_value suppor
     (sym active)
     (is s few base x has_value support time there valued)
 
--- the starts by an activation are those of a guard that is this leaf
+-- if t has the starts by activation a, it has those of the guard that is the leaf a
 pub start_leaf : (g : Graph) (f : ForestState) (wait : TreeState ℕ) (release : ℕ) (inputs : List ℕ) (a : Activation) (t : TreeState (Option ℕ)) →
     IsStartBy g f wait release inputs a t →
     IsStartTree g f wait release inputs (Leaf a) t
 start_leaf g f wait release inputs a t is s few base x has_value support time there valued = is s few base x has_value support time there valued
 
--- the starts of a guard that tests a condition are those of the side that the value picks
+-- the starts of a guard that tests c are those of the side that c's value picks: t picks b, the tree of `on`, or a,
+-- that of `off`
 pub start_test : (g : Graph) (f : ForestState) (wait : TreeState ℕ) (release : ℕ) (inputs : List ℕ) (c : ℕ) (off on : Guard)
     (a b t : TreeState (Option ℕ)) →
-    IsStartTree g f wait release inputs off a → IsStartTree g f wait release inputs on b → PicksByValue g.faults c b a t →
+    IsStartTree g f wait release inputs off a → IsStartTree g f wait release inputs on b →
+    PicksByValue g.faults c b a t →
     IsStartTree g f wait release inputs (Test c off on) t
 start_test g f wait release inputs c off on a b t of_off of_on picks s few base x has_value support time there valued =
     go (get_or s.values c false) refl
   where
     -- the literals by which a guard leads to a start in this scenario
     says : Guard → List Literal
-    says guard = values_known s (way guard s.values) ++ start_says base support inputs (outcome_at guard s.values)
+    says guard = values_known s (way guard s.values) ++ start_literals base support inputs (outcome_at guard s.values)
 
     -- the start to which it leads
     at : Guard → Option ℕ
@@ -492,14 +542,16 @@ start_test g f wait release inputs c off on a b t of_off of_on picks s few base 
     -- by the value of c: the start is that of the side that it picks
     go : (d : Bool) → get_or s.values c false ≡ d →
         HasValueFrom s (values_known s (c ∷ (if d then way on s.values else way off s.values))
-        ++ start_says base support inputs (if d then outcome_at on s.values else outcome_at off s.values))
+        ++ start_literals base support inputs (if d then outcome_at on s.values else outcome_at off s.values))
         (start_at x release (input_delay g) time inputs (if d then outcome_at on s.values else outcome_at off s.values)) t
-    go true e = picks s few (says on) (at on) (subst (λ (d : Bool). HasValueFrom s (says on) (at on) (if d then b else a)) (sym e)
+    go true e = picks s few (says on) (at on)
+        (subst (λ (d : Bool). HasValueFrom s (says on) (at on) (if d then b else a)) (sym e)
         (of_on s few base x has_value support time (λ y j.
         there y (subst (λ (d : Bool). Contains (awaited inputs (if d then outcome_at on s.values else outcome_at off s.values)) y) (sym e) j))
         (λ y j.
         valued y (subst (λ (d : Bool). Contains (awaited inputs (if d then outcome_at on s.values else outcome_at off s.values)) y) (sym e) j))))
-    go false e = picks s few (says off) (at off) (subst (λ (d : Bool). HasValueFrom s (says off) (at off) (if d then b else a)) (sym e)
+    go false e = picks s few (says off) (at off)
+        (subst (λ (d : Bool). HasValueFrom s (says off) (at off) (if d then b else a)) (sym e)
         (of_off s few base x has_value support time (λ y j.
         there y (subst (λ (d : Bool). Contains (awaited inputs (if d then outcome_at on s.values else outcome_at off s.values)) y) (sym e) j))
         (λ y j.
@@ -507,8 +559,9 @@ start_test g f wait release inputs c off on a b t of_off of_on picks s few base 
 
 -- ---- trees of a forest
 
--- the code's look into the forest finds the tree of an item's times
-pub times_read : (g : Graph) (f : ForestState) → HasTrees g f → (i : ForestState) → i ≡ f → (v : TreeState (Option ℕ)) (at x : ℕ) →
+-- v, which the code finds at the place `at` in the forest's times, is the tree of the times of item x
+pub times_read : (g : Graph) (f : ForestState) → HasTrees g f → (i : ForestState) → i ≡ f →
+    (v : TreeState (Option ℕ)) (at x : ℕ) →
     v ≡ get_or i.times at v → at ≡ x →
     x < item_count g →
     v ≡ times_of g f x
@@ -517,8 +570,9 @@ times_read g f has i same v at x is e l =
     get_or_read_under i.times at (length i.times) v (no_tree g.faults) is (omega (arith, e, l, has.times, long)) refl
     ∙ ap (λ (h : ForestState). times_of g h at) same ∙ ap (times_of g f) e
 
--- the code's look into the forest finds the tree of a process's ends
-pub ends_read : (g : Graph) (f : ForestState) → HasTrees g f → (i : ForestState) → i ≡ f → (v : TreeState (Option ℕ)) (at p : ℕ) →
+-- v, which the code finds at the place `at` in the forest's ends, is the tree of the ends of process p
+pub ends_read : (g : Graph) (f : ForestState) → HasTrees g f → (i : ForestState) → i ≡ f →
+    (v : TreeState (Option ℕ)) (at p : ℕ) →
     v ≡ get_or i.ends at v → at ≡ p →
     p < process_count g →
     v ≡ ends_of g f p
@@ -535,10 +589,13 @@ times_tree g f has x l = All-get_or (IsTree g) f.times x (no_tree g.faults) (ome
 pub ends_tree : (g : Graph) (f : ForestState) → HasTrees g f → (p : ℕ) → p < process_count g → IsTree g (ends_of g f p)
 ends_tree g f has p l = All-get_or (IsTree g) f.ends p (no_tree g.faults) (omega (arith, l, has.ends)) has.all_ends
 
--- a tree of ends that is read as times has the values of the ends' tree
-pub read_end : (g : Graph) (v tree : TreeState (Option ℕ)) (t : TreeState ℕ) → v ≡ tree → IsTree g tree → IsMap (λ x z. z ≡ time_later 0 x) v t →
+-- t, which is made of the tree of ends by reading them as times, is one of the graph, and has its values; v is that
+-- tree by the name under which the code reads it
+pub read_end : (g : Graph) (v tree : TreeState (Option ℕ)) (t : TreeState ℕ) → v ≡ tree → IsTree g tree →
+    IsMap (λ x z. z ≡ time_later 0 x) v t →
     HasOnePathEach t.faults t.paths →
-    ((test : ℕ → Bool) → DoPathsPass test v.paths → DoPathsPass test t.paths) → IsTree g t × IsNoMore g.faults (later_tree tree) t
+    ((test : ℕ → Bool) → DoPathsPass test v.paths → DoPathsPass test t.paths) →
+    IsTree g t × IsNoMore g.faults (later_tree tree) t
 read_end g v tree t is of made each known =
     let made_of = subst (λ (u : TreeState (Option ℕ)). IsMap (λ x z. z ≡ time_later 0 x) u t) is made in (
       same_tree g tree t of.faults made_of.faults each
@@ -546,8 +603,10 @@ read_end g v tree t is of made each known =
       no_more g tree t of made_of,
     )
 
+-- given: a forest f, a node, a condition c, and trees `further` and t
 module _ (g : Graph) (f : ForestState) (node c : ℕ) (further t : TreeState ℕ) where
-  -- by whether the node has the condition's process: its end is heard at once, a frame at its end
+  -- by whether the condition's process is on the node (d): then c is heard at its end, and otherwise at the end of a
+  -- frame
   heard_if : (d : Bool) → (node_of g (process_of g c) == node) ≡ d →
       IsLatest g.faults (later_by (if d then 0 else slot_length g (home g (broadcast_item g c)))
       (if d then ends_of g f (process_of g c) else times_of g f (broadcast_item g c))) further t →
@@ -557,7 +616,8 @@ module _ (g : Graph) (f : ForestState) (node c : ℕ) (further t : TreeState ℕ
       (if b then ends_of g f (process_of g c) else times_of g f (broadcast_item g c))) further t) (sym e) is
 
   -- if the condition's process is on the node, the node hears it by that process's end
-  pub heard_own : node_of g (process_of g c) ≡ node → IsLatest g.faults (later_tree (ends_of g f (process_of g c))) further t →
+  pub heard_own : node_of g (process_of g c) ≡ node →
+      IsLatest g.faults (later_tree (ends_of g f (process_of g c))) further t →
       IsLatest g.faults (later_by (heard_delay g node c) (heard_tree g f node c)) further t
   heard_own e is = heard_if true (eq-eqb (node_of g (process_of g c)) node e) is
 
@@ -567,7 +627,8 @@ module _ (g : Graph) (f : ForestState) (node c : ℕ) (further t : TreeState ℕ
       IsLatest g.faults (later_by (heard_delay g node c) (heard_tree g f node c)) further t
   heard_other e is = heard_if false (ne_eqb (node_of g (process_of g c)) node e) is
 
--- an input from another node is there by the end of its frame, so the later of that and the wait is found
+-- if e is an input from another node, and t has the later of the wait and the end of e's frame, then t has the later of
+-- the wait and when e is there
 pub latest_input : (g : Graph) (f : ForestState) (e : ℕ) (wait t : TreeState ℕ) → is_message g e ≡ true →
     IsLatest g.faults wait (later_by (slot_length g (home g (message_item g e))) (times_of g f (message_item g e))) t →
     IsLatest g.faults wait (later_by (input_delay g e) (input_tree g f e)) t
@@ -576,218 +637,13 @@ latest_input g f e wait t message latest =
     (if d then times_of g f (message_item g e) else ends_of g f (source g e))) t)
     (sym message) latest
 
--- an input from another node is there by the end of its frame
-pub released_input : (g : Graph) (f : ForestState) (e release : ℕ) (wait : TreeState ℕ) (t : TreeState (Option ℕ)) → is_message g e ≡ true →
+-- the same for starts: if t has the latest of the wait, the end of e's frame and the release, then it has the latest of
+-- the wait, when e is there and the release
+pub released_input : (g : Graph) (f : ForestState) (e release : ℕ) (wait : TreeState ℕ) (t : TreeState (Option ℕ)) →
+    is_message g e ≡ true →
     IsReleased g.faults wait (later_by (slot_length g (home g (message_item g e))) (times_of g f (message_item g e))) release t →
     IsReleased g.faults wait (later_by (input_delay g e) (input_tree g f e)) release t
 released_input g f e release wait t message starts =
     subst (λ (d : Bool). IsReleased g.faults wait (later_by (if d then slot_length g (home g (message_item g e)) else 0)
     (if d then times_of g f (message_item g e) else ends_of g f (source g e)))
     release t) (sym message) starts
-
--- ---- ends, and what a node waits for
-
--- a tree of ends by the starts and the process's count is one of the process's ends
-pub end_valued : (g : Graph) (p : ℕ) (start t : TreeState (Option ℕ)) (faults : TreeState ℕ) → IsTree g start → IsNumber p g.faults (λ n. n) faults →
-    HasOnePathEach faults.faults faults.paths →
-    IsJoin (λ x n z. z ≡ ended (durations_of g p) n x) start faults t → IsEndTree g p start t
-end_valued g p start t faults of_start number each made s few ls x has_value =
-    agrees_join s (λ x n z. z ≡ ended (durations_of g p) n x) start faults t ls (number_known s p ∷ []) (λ y. y ≡ x) (λ n. n ≡ number_of s p)
-    (λ z. z ≡ ended (durations_of g p) (number_of s p) x)
-    (few_of g.faults start.faults s of_start.faults few) (number.faults ∙ sym of_start.faults) (each_of g start.faults start of_start.faults of_start)
-    (subst (λ n. HasOnePathEach n faults.paths) (number.faults ∙ sym of_start.faults) each) made
-    (λ y n z e i h. h ∙ ap₂ (λ m o. ended (durations_of g p) m o) i e) has_value
-    (agrees_number s p g.faults (λ n. n) faults few (number_le_top g.faults s few p) number)
-
--- the node is ready at the end if the process is active, and else when the wait is over
-pub ready_valued : (g : Graph) (active : TreeState Bool) (end : TreeState (Option ℕ)) (wait after t : TreeState ℕ) → IsTree g active → IsTree g end →
-    IsTree g wait →
-    IsMap (λ x z. z ≡ time_later 0 x) end after → HasOnePathEach after.faults after.paths → DoPathsPass (is_variable g) after.paths →
-    IsPick active after wait t → IsReadyTree g.faults active end wait t
-ready_valued g active end wait after t of_active of_end of_wait later each known made s few b first second x w v of_b ends waits =
-    let of_after = same_tree g end after of_end.faults later.faults each known in
-    agrees_pick s active after wait t b first second (λ z. z ≡ v) (few_of g.faults active.faults s of_active.faults few)
-    (of_after.faults ∙ sym of_active.faults)
-    (of_wait.faults ∙ sym of_active.faults)
-    (each_of g active.faults active of_active.faults of_active) (each_of g active.faults after of_active.faults of_after)
-    (each_of g active.faults wait of_active.faults of_wait) made of_b
-    (picked b refl)
-  where
-    -- the process is active: its end; or it isn't: when the wait is over
-    picked : (d : Bool) → b ≡ d → Agrees s second (λ z. z ≡ v) (if d then after else wait)
-    picked true e = let both = ends e in
-        subst (λ n. Agrees s second (λ z. z ≡ n) after) (sym both.1) (later_has_value g 0 end after of_end later s few second x both.0)
-    picked false e = let both = waits e in subst (λ n. Agrees s second (λ z. z ≡ n) wait) (sym both.1) both.0
-
--- a chooser that is true everywhere is true in this scenario
-always_true : (active : TreeState Bool) → IsConstant true active.faults active → (s : Scenario) (b : Bool) (first : List Literal) →
-    HasValueFrom s first b active → b ≡ true
-always_true active always s b first of_b =
-    let there : Contains active.paths ([], true) =
-    subst (λ (t : TreeState Bool). Contains t.paths ([], true)) (sym always) (Contains-first ([], true) []) in
-    sym (of_b.value ([], true) (record { stands = there; matched = refl }))
-
--- after a process that is always active, a node is ready at the end
-pub ready_always : (g : Graph) (active : TreeState Bool) (end : TreeState (Option ℕ)) (wait : TreeState ℕ) → IsConstant true active.faults active →
-    IsReadyTree g.faults active end wait (later_tree end)
-ready_always g active end wait always s few b first second x w v of_b ends waits =
-    let both = ends (always_true active always s b first of_b) in
-    agrees_weaker s (later_tree end) second (first ++ second) (λ z. z ≡ time_later 0 x) (λ z. z ≡ v) (λ l j. Contains-append_right first second l j)
-    (λ z e. e ∙ sym both.1)
-    (to_ends s end second x both.0)
-
--- a tree of when a node goes on is found by ends that are read as times, too
-pub ready_after : (k : ℕ) (active : TreeState Bool) (end : TreeState (Option ℕ)) (tree before t : TreeState ℕ) → IsNoMore k tree before →
-    IsReadyTree k active end before t →
-    IsReadyTree k active end tree t
-ready_after k active end tree before t none readies s few b first second x w v of_b ends waits =
-    readies s few b first second x w v of_b ends (λ e. let r = waits e in (none s few second w r.0, r.1))
-
--- a wait is over when the node is ready and has heard what the guard tests
-pub wait_valued : (g : Graph) (f : ForestState) (node : ℕ) (guard : Guard) (heard t : TreeState ℕ) → IsHeardTree g f node guard heard →
-    IsLatest g.faults (ready_of g f node) heard t →
-    IsWaitTree g f node guard t
-wait_valued g f node guard heard t hears latest s few base x has_value support time valued =
-    latest s few base (support_of s support (way guard s.values)) x (latest_of (heard_delay g node) time (way guard s.values)) has_value
-    (hears s few support time valued)
-
--- if a guard tests nothing, a process waits only until its node is ready
-pub wait_leaf : (g : Graph) (f : ForestState) (node : ℕ) (a : Activation) → IsWaitTree g f node (Leaf a) (ready_of g f node)
-wait_leaf g f node a s few base x has_value support time valued =
-    agrees_weaker s (ready_of g f node) base (base ++ []) (λ y. y ≡ x) (λ y. y ≡ max x 0) (λ l j. Contains-append_left base [] l j)
-    (λ y e. omega (arith, e)) has_value
-
--- the code's look into the forest finds when the node is ready
-pub ready_read : (g : Graph) (f : ForestState) → HasTrees g f → (i : ForestState) → i ≡ f → (v : Ready) (at node : ℕ) → v ≡ get_or i.ready at v →
-    at ≡ node →
-    node < length g.nodes →
-    v ≡ ready_at g f node
-ready_read g f has i same v at node is e l =
-    let long = ap (λ (h : ForestState). length h.ready) same in
-    get_or_read_under i.ready at (length i.ready) v (At (no_tree g.faults)) is (omega (arith, e, l, has.ready, long)) refl
-    ∙ ap (λ (h : ForestState). ready_at g h at) same ∙ ap (ready_at g f) e
-
--- each node has such a tree, or a process after whose ends it is ready
-pub ready_waits : (g : Graph) (f : ForestState) → HasTrees g f → (node : ℕ) → node < length g.nodes → IsWait g (ready_at g f node)
-ready_waits g f has node l = All-get_or (IsWait g) f.ready node (At (no_tree g.faults)) (omega (arith, l, has.ready)) has.all_ready
-
--- ---- what is sent
-
--- given: whether something is active, as a tree, and its value b in scenario s by `first`
-module _ (g : Graph) (active : TreeState Bool) (of_active : IsTree g active) (s : Scenario) (few : HasAtMostFaults g.faults s) (b : Bool)
-    (first : List Literal)
-    (of_b : HasValueFrom s first b active) where
-  -- the value of the tree that is picked has the chooser's literals, and its own where the chooser is true
-  picked_has_value : {T : Type 0} (yes_tree off_tree t : TreeState T) (second : List Literal) (x y : T) → IsTree g yes_tree → IsTree g off_tree →
-      IsPick active yes_tree off_tree t →
-      (b ≡ true → HasValueFrom s second x yes_tree) → HasValueFrom s [] y off_tree →
-      HasValueFrom s (first ++ (if b then second else [])) (if b then x else y) t
-  picked_has_value {T} y_tree f t second x y of_y of_f made valued other =
-      agrees_pick s active y_tree f t b first (if b then second else []) (λ z. z ≡ (if b then x else y))
-      (few_of g.faults active.faults s of_active.faults few) (of_y.faults ∙ sym of_active.faults)
-      (of_f.faults ∙ sym of_active.faults)
-      (each_of g active.faults active of_active.faults of_active) (each_of g active.faults y_tree of_active.faults of_y)
-      (each_of g active.faults f of_active.faults of_f) made of_b (by b refl)
-    where
-      -- by whether the chooser is true: the first tree's value, or the other's without further literals
-      by : (d : Bool) → b ≡ d → Agrees s (if d then second else []) (λ z. z ≡ (if d then x else y)) (if d then y_tree else f)
-      by true e = valued e
-      by false e = other
-
--- a value if a test passes, and otherwise false, is the conjunction
-and_if : (b v : Bool) → (if b then v else false) ≡ (b && v)
-and_if true v = refl
-and_if false v = refl
-
--- the tree that is made of `active` and of a condition's value is true where both are as wanted
-pub tested_valued : (g : Graph) (c : ℕ) (wanted : Bool) (active value is never t : TreeState Bool) → IsTree g active →
-    IsNumber (128 + c) g.faults number_of_value value →
-    HasOnePathEach value.faults value.paths →
-    IsMap (λ x z. z ≡ same_bool wanted x) value is → HasOnePathEach is.faults is.paths → DoPathsPass (is_variable g) is.paths →
-    IsConstant false g.faults never →
-    HasOnePathEach never.faults never.paths → DoPathsPass (is_variable g) never.paths → IsPick active is never t →
-    IsTestedTree g.faults c wanted active t
-tested_valued g c wanted active value is never t of_active number each same each_is known_is none each_never known_never made s few b first of_b =
-    -- the condition's value in the scenario, which the tree of its number gives by the value's literal
-    let v : Bool = get_or s.values c false in
-    let valued : Agrees s (exactly (128 + c) (number_of s (128 + c)) ∷ []) (λ (d : Bool). number_of_value d ≡ number_of s (128 + c)) value =
-    agrees_number s (128 + c) g.faults number_of_value value few (number_le_top g.faults s few (128 + c)) number in
-    let here : HasValueFrom s (value_known s c ∷ []) (same_bool wanted v) is =
-    agrees_map s (λ x z. z ≡ same_bool wanted x) value is (value_known s c ∷ []) (λ (d : Bool). number_of_value d ≡ number_of s (128 + c))
-    (λ (d : Bool). d ≡ same_bool wanted v)
-    (few_of g.faults value.faults s number.faults few) each same
-    (λ x z e f. f ∙ ap (same_bool wanted) (one_value x v (e ∙ number_at s c))) valued in
-    -- where the other tree is true the value is compared with the wanted one; elsewhere the tree is false
-    subst (λ (d : Bool). HasValueFrom s (first ++ (if b then value_known s c ∷ [] else [])) d t) (and_if b (same_bool wanted v))
-    (picked_has_value g active of_active s few b first of_b is never t (value_known s c ∷ []) (same_bool wanted v) false
-    (same_tree g value is number.faults same.faults each_is known_is)
-    (constant_tree g false g.faults never refl each_never none known_never) made
-    (λ e. here) (agrees_constant s false g.faults never (λ y. y ≡ false) refl none))
-
--- a tree of free slots where an item goes, and of no time elsewhere, says when the item is sent
-pub sent_valued : (g : Graph) (share : ShareState) (goes : TreeState Bool) (end : TreeState (Option ℕ)) (free : TreeState ℕ)
-    (slots never t : TreeState (Option ℕ)) → IsTree g goes → IsTree g end →
-    IsTree g free →
-    IsJoin (λ x y z. z ≡ slot_from share y x) end free slots → HasOnePathEach slots.faults slots.paths → DoPathsPass (is_variable g) slots.paths →
-    IsConstant None g.faults never →
-    HasOnePathEach never.faults never.paths → DoPathsPass (is_variable g) never.paths → IsPick goes slots never t →
-    IsSentTree g.faults share goes end free t
-sent_valued g share goes end free slots never t of_goes of_end of_free joined each_slots known_slots none each_never known_never made s few b first
-    second third x y of_b valued =
-    picked_has_value g goes of_goes s few b first of_b slots never t (second ++ third) (slot_from share y x) None
-    (same_tree g end slots of_end.faults joined.faults each_slots known_slots)
-    (constant_tree g None g.faults never refl each_never none known_never) made
-    -- where the item goes: the first slot behind the end and what is free, by the literals of both
-    (λ e. let both = valued e in
-    agrees_join s (λ x y z. z ≡ slot_from share y x) end free slots second third (λ z. z ≡ x) (λ z. z ≡ y) (λ z. z ≡ slot_from share y x)
-    (few_of g.faults end.faults s of_end.faults few)
-    (of_free.faults ∙ sym of_end.faults) (each_of g end.faults end of_end.faults of_end) (each_of g end.faults free of_end.faults of_free) joined
-    (λ m n z d f i. i ∙ ap₂ (λ p q. slot_from share q p) d f) both.0 both.1)
-    -- elsewhere: no time
-    (agrees_constant s None g.faults never (λ z. z ≡ None) refl none)
-
--- if the item always goes, the tree of the first free slots from its end on says when it is sent
-pub sent_always : (g : Graph) (share : ShareState) (goes : TreeState Bool) (end : TreeState (Option ℕ)) (free : TreeState ℕ)
-    (t : TreeState (Option ℕ)) →
-    IsConstant true goes.faults goes →
-    IsTree g end → IsTree g free →
-    IsJoin (λ x y z. z ≡ slot_from share y x) end free t → IsSentTree g.faults share goes end free t
-sent_always g share goes end free t always of_end of_free joined s few b first second third x y of_b valued =
-    let on = always_true goes always s b first of_b in
-    let both = valued on in
-    subst (λ (d : Bool). HasValueFrom s (first ++ (if d then second ++ third else [])) (if d then slot_from share y x else None) t) (sym on)
-    (agrees_weaker s t (second ++ third) (first ++ (second ++ third)) (λ z. z ≡ slot_from share y x) (λ z. z ≡ slot_from share y x)
-    (λ l j. Contains-append_right first (second ++ third) l j)
-    (λ z e. e)
-    (agrees_join s (λ x y z. z ≡ slot_from share y x) end free t second third (λ z. z ≡ x) (λ z. z ≡ y) (λ z. z ≡ slot_from share y x)
-    (few_of g.faults end.faults s of_end.faults few)
-    (of_free.faults ∙ sym of_end.faults) (each_of g end.faults end of_end.faults of_end) (each_of g end.faults free of_end.faults of_free) joined
-    (λ m n z d f i. i ∙ ap₂ (λ p q. slot_from share q p) d f) both.0 both.1))
-
--- if the item always goes, the slots are free a round after it
-pub free_always : (g : Graph) (turn : ℕ) (goes : TreeState Bool) (sent : TreeState (Option ℕ)) (free t : TreeState ℕ) →
-    IsConstant true goes.faults goes → IsTree g sent →
-    IsMap (λ x z. z ≡ time_later turn x) sent t → IsFreeTree g.faults turn goes sent free t
-free_always g turn goes sent free t always of_sent later s few b first second x w v of_b sends stays =
-    let both = sends (always_true goes always s b first of_b) in
-    agrees_weaker s t second (first ++ second) (λ z. z ≡ time_later turn x) (λ z. z ≡ v) (λ l j. Contains-append_right first second l j)
-    (λ z e. e ∙ sym both.1)
-    (later_has_value g turn sent t of_sent later s few second x both.0)
-
--- the slots are free a round after an item that goes, and else as before
-pub free_valued : (g : Graph) (turn : ℕ) (goes : TreeState Bool) (sent : TreeState (Option ℕ)) (free after t : TreeState ℕ) → IsTree g goes →
-    IsTree g sent → IsTree g free →
-    IsMap (λ x z. z ≡ time_later turn x) sent after → HasOnePathEach after.faults after.paths → DoPathsPass (is_variable g) after.paths →
-    IsPick goes after free t → IsFreeTree g.faults turn goes sent free t
-free_valued g turn goes sent free after t of_goes of_sent of_free later each known made s few b first second x w v of_b sends stays =
-    let of_after = same_tree g sent after of_sent.faults later.faults each known in
-    agrees_pick s goes after free t b first second (λ z. z ≡ v) (few_of g.faults goes.faults s of_goes.faults few)
-    (of_after.faults ∙ sym of_goes.faults) (of_free.faults ∙ sym of_goes.faults)
-    (each_of g goes.faults goes of_goes.faults of_goes) (each_of g goes.faults after of_goes.faults of_after)
-    (each_of g goes.faults free of_goes.faults of_free) made of_b (picked b refl)
-  where
-    -- by whether the item goes: the slots are free a round after it, or as before
-    picked : (d : Bool) → b ≡ d → Agrees s second (λ z. z ≡ v) (if d then after else free)
-    picked true e = let both = sends e in
-        subst (λ n. Agrees s second (λ z. z ≡ n) after) (sym both.1) (later_has_value g turn sent after of_sent later s few second x both.0)
-    picked false e = let both = stays e in subst (λ n. Agrees s second (λ z. z ≡ n) free) (sym both.1) both.0

@@ -10,11 +10,12 @@ use Rattle.cpg_expand.specs.Sent.{IsItemAdded}
 use Rattle.cpg_expand.specs.Waiting.{ready_of, free_of}
 
 -- given: an item that is added to the trees
--- `x`, `chooser`: the item, and where its producer is active; `old`, `before`: trees and frozen times before it is
+-- `x`, `chooser`: the item, and where its producer is active; `old`, `frozen_old`: trees and frozen times before it is
 -- added
--- `new`, `after`, `added`: those with it
+-- `new`, `frozen_new`, `added`: those with it
 module _ (g : Graph) (order : List ℕ) (chooser : TreeState Bool) (x : ℕ) (old new : ForestState)
-    (before after : List (Option ℕ)) (added : IsItemAdded g order chooser x old new before after) where
+    (frozen_old frozen_new : List (Option ℕ))
+    (added : IsItemAdded g order chooser x old new frozen_old frozen_new) where
   -- another item keeps its tree of times
   pub other_times : (y : ℕ) → y ≢ x → times_of g new y ≡ times_of g old y
   other_times y other = ap (λ (f : ForestState). times_of g f y) added.is
@@ -30,10 +31,13 @@ module _ (g : Graph) (order : List ℕ) (chooser : TreeState Bool) (x : ℕ) (ol
     where
       -- whether a node is ready after a process's ends or by a tree of its own
       kept : (r : Ready) →
-          ready_by g
-          (record { times = set old.times x added.sent; ends = old.ends; ready = old.ready; free = set old.free (home g x) added.freed; wide = old.wide }) r
-          ≡ ready_by g
-          old r
+          ready_by g (record {
+            times = set old.times x added.sent;
+            ends = old.ends;
+            ready = old.ready;
+            free = set old.free (home g x) added.freed;
+            wide = old.wide;
+          }) r ≡ ready_by g old r
       kept (After q) = refl
       kept (At t) = refl
 

@@ -53,14 +53,15 @@ module _ (g : Graph) (f : ForestState) (wait : TreeState ℕ) (wide : Option ℕ
   large_own own h = subst IsShownWith (sym is)
       (shown_as (IsLargeWith g f wait es) (IsLargeWith g f wait (e ∷ es)) wide fault (λ x. inl (own, x)) h)
 
+  -- given: the tree `both` of when the wait is over and input e is there too
   module _ (both : TreeState ℕ)
       (made : IsLatest g.faults wait (later_by (input_delay g e) (input_tree g f e)) both) where
-    -- a fault for the tree with one more input, or for those behind it, is one for all
+    -- a fault for the tree `both` is one for all inputs
     pub large_both : ShowsLarge wide (IsLarge both) fault → IsShownWith whole
     large_both h = subst IsShownWith (sym is)
         (shown_as (IsLarge both) (IsLargeWith g f wait (e ∷ es)) wide fault (λ x. inr (both, made, inl x)) h)
 
-    -- a fault for the inputs behind e, once e is joined to the wait, is one for all
+    -- a fault for the inputs behind e, with `both` as the wait, is one for all inputs
     pub large_later : ShowsLarge wide (IsLargeWith g f both es) fault → IsShownWith whole
     large_later h = subst IsShownWith (sym is)
         (shown_as (IsLargeWith g f both es) (IsLargeWith g f wait (e ∷ es)) wide fault (λ x. inr (both, made, inr x)) h)

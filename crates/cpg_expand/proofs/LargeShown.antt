@@ -54,7 +54,7 @@ pub none_named : (A : Type 0) (is_shown : ℕ → Type 0) (fault : BuildFault) �
     ShowsBuildFault is_shown fault
 none_named A is_shown (TooWide x) h = absurd (no_name x h.0)
   where
-    -- what is excluded: a name where there is none
+    -- `None` has no item
     no_name : (x : ℕ) → None ≡ Some x → ⊥
     no_name x e = cc
 none_named A is_shown OutOfMemory h = tt
@@ -66,20 +66,20 @@ pub thawed_as : (g h : Graph) → h ≡ g → (p : ℕ) (f : ForestState) (guard
 thawed_as g h same p f guard found is large =
     subst (λ (k : Graph). IsLargeThawed k p f guard) same (subst (IsLargeThawed h p f) is large)
 
--- adding items leaves the item to name as it is
+-- the forest `new`, to which the items `xs` are added, has the same item to name as `old`
 pub added_wide : (g : Graph) (order : List ℕ) (chooser : TreeState Bool) (xs : List ℕ) (old new : ForestState)
-    (before after : List (Option ℕ)) →
-    AreItemsAdded g order chooser xs old new before after → new.wide ≡ old.wide
+    (frozen_old frozen_new : List (Option ℕ)) →
+    AreItemsAdded g order chooser xs old new frozen_old frozen_new → new.wide ≡ old.wide
 -- by induction on the list
-added_wide g order chooser [] old new before after h = ap (λ (f : ForestState). f.wide) h.0
-added_wide g order chooser (x ∷ xs) old new before after h =
-    added_wide g order chooser xs h.0 new h.1 after h.3 ∙ ap (λ (f : ForestState). f.wide) h.2.is
+added_wide g order chooser [] old new frozen_old frozen_new h = ap (λ (f : ForestState). f.wide) h.0
+added_wide g order chooser (x ∷ xs) old new frozen_old frozen_new h =
+    added_wide g order chooser xs h.0 new h.1 frozen_new h.3 ∙ ap (λ (f : ForestState). f.wide) h.2.is
 
--- beginning a process leaves the item to name as it is
+-- the forest `new`, in which p has begun, has the same item to name as `old`
 pub begun_wide : (g : Graph) (order : List ℕ) (guards : Guards) (p : ℕ) (old new : ForestState)
-    (before after : List (Option ℕ)) (chooser : TreeState Bool) →
-    IsBegun g order guards p old new before after chooser → new.wide ≡ old.wide
-begun_wide g order guards p old new before after chooser begun = ap (λ (f : ForestState). f.wide) begun.is
+    (frozen_old frozen_new : List (Option ℕ)) (chooser : TreeState Bool) →
+    IsBegun g order guards p old new frozen_old frozen_new chooser → new.wide ≡ old.wide
+begun_wide g order guards p old new frozen_old frozen_new chooser begun = ap (λ (f : ForestState). f.wide) begun.is
 
 -- given: an order, the process at one of its places, and the trees so far
 -- `are`: the guards are those of the graph; `order`, `lawful`: an order

@@ -28,7 +28,8 @@ use Rattle.cpg_expand.specs.Waited.{stands_before}
 
 -- ---- the greatest time of a tree where another one is true
 
--- the greatest number that a tree has where another one is true is the greatest time that a scenario of the graph has
+-- the greatest number that the tree t has where u is true is the greatest time of t in a scenario of the graph in which
+-- u is true
 pub top_where : (g : Graph) → process_count g ≤ 128 → (t : TreeState (Option ℕ)) (u : TreeState Bool) → IsTree g t →
     IsTree g u → (o : Option ℕ) →
     IfNone o (IsNowhere t u) →
@@ -50,7 +51,7 @@ top_where g few t u of of_u (Some most) none some =
 
 -- `A n s` and `B n s` say that scenario s has the number n, by one cause and by another
 module _ (g : Graph) (A B : ℕ → Scenario → Type 0) where
-  -- two causes that ask for the same raise a time alike
+  -- if scenarios ask for a time by A just where they do by B, A and B raise a time alike
   pub raised_as : ((n : ℕ) (s : Scenario) → IsScenario g s → B n s → A n s) →
       ((n : ℕ) (s : Scenario) → IsScenario g s → A n s → B n s) → (old new : ℕ) → IsRaised g A old new →
       IsRaised g B old new
@@ -60,16 +61,17 @@ module _ (g : Graph) (A B : ℕ → Scenario → Type 0) where
     found = elim r.found [ inl e ↦ inl e | inr h ↦ inr (h.0, h.1, forth new h.0 h.1 h.2) ];
   }
 
-  -- a cause that no scenario has raises nothing
+  -- if no scenario asks for a time by A, A raises nothing
   pub raised_by_none : ((n : ℕ) (s : Scenario) → A n s → ⊥) → (old : ℕ) → IsRaised g A old old
   raised_by_none none old = record { from = omega arith; above = λ n s law h. absurd (none n s h); found = inl refl }
 
-  -- a cause that is A or B raises a time as A does, and then B
+  -- if scenarios ask by C just where they ask by A or by B, C raises a time as A does and then B: from `floor` over
+  -- `mid` to `last`
   pub raised_on : (C : ℕ → Scenario → Type 0) → ((n : ℕ) (s : Scenario) → C n s → A n s ⊎ B n s) →
       ((n : ℕ) (s : Scenario) → A n s → C n s) →
       ((n : ℕ) (s : Scenario) → B n s → C n s) →
-      (first mid last : ℕ) → IsRaised g A first mid → IsRaised g B mid last → IsRaised g C first last
-  raised_on C split left right first mid last before one = record {
+      (floor mid last : ℕ) → IsRaised g A floor mid → IsRaised g B mid last → IsRaised g C floor last
+  raised_on C split left right floor mid last before one = record {
     from = omega (arith, before.from, one.from);
     above = λ n s law h. by n s law (split n s h);
     found = elim one.found [
@@ -88,7 +90,7 @@ module _ (g : Graph) (A B : ℕ → Scenario → Type 0) where
 
 -- ---- what is there a delay after the time of a tree
 
--- a latest time is raised to the greatest time of a tree, a delay later
+-- `latest` is raised to the greatest time that `tree` has where `wanted` is true, with the delay
 pub later_raised : (g : Graph) (tree : TreeState (Option ℕ)) (wanted : TreeState Bool) (latest delay : ℕ)
     (o : Option ℕ) →
     IsTop g (HasWhere tree wanted) o →
@@ -128,7 +130,7 @@ later_raised g tree wanted latest delay (Some time) top = record {
 
 -- ---- conditions
 
--- given: a node, a condition, the tree of where it counts, and two times
+-- given: a node, a condition c, the tree of where it counts (`wanted`), and the latest times `old` and `new`
 module _ (g : Graph) (f : ForestState) (node c : ℕ) (wanted : TreeState Bool) (old new : ℕ) where
   -- by whether the condition's process is on the node: its ends without delay, or the frame's times and its length
   heard_if : (d : Bool) → (node_of g (process_of g c) == node) ≡ d →
@@ -139,13 +141,13 @@ module _ (g : Graph) (f : ForestState) (node c : ℕ) (wanted : TreeState Bool) 
       (HasLater (if b then ends_of g f (process_of g c) else times_of g f (broadcast_item g c)) wanted
       (if b then 0 else slot_length g (home g (broadcast_item g c)))) old new) (sym e) is
 
-  -- a condition of the node itself raises the time by the end of its process
+  -- if c's process is on the node, and its end raises `old` to `new`, hearing c does
   pub heard_by_end : node_of g (process_of g c) ≡ node →
       IsRaised g (HasLater (ends_of g f (process_of g c)) wanted 0) old new →
       IsRaised g (HasLater (heard_tree g f node c) wanted (heard_delay g node c)) old new
   heard_by_end e is = heard_if true (eq-eqb (node_of g (process_of g c)) node e) is
 
-  -- a condition of another node raises the time by the end of its frame
+  -- if c's process is on another node, and the end of c's frame raises `old` to `new`, hearing c does
   pub heard_by_frame : (node_of g (process_of g c) ≡ node → ⊥) →
       IsRaised g
       (HasLater (times_of g f (broadcast_item g c)) wanted (slot_length g (home g (broadcast_item g c)))) old new →
@@ -159,8 +161,8 @@ module _ (g : Graph) (f : ForestState) (node c : ℕ) (wanted : TreeState Bool) 
 -- it
 module _ (g : Graph) (order : List ℕ) (guards : Guards) (f : ForestState) (active : TreeState Bool)
     (of_active : IsTree g active) (node from to : ℕ) where
-  -- Condition c raises the time to when it is heard where the process is active and a process of the span tests it;
-  -- `asked` says where that is.
+  -- If hearing condition c raises `old` to `new` where `wanted` is true, it does so where the process is active and a
+  -- process of the span tests c: `asked` says where that one tests c, and `wanted` where the process is active, too.
   pub heard_raised : (c : ℕ) (asked wanted : TreeState Bool) → IsTree g asked → IsTree g wanted →
       IsAskedTree g order guards node from to c (process_count g) asked →
       IsBothTree g.faults asked active wanted →
@@ -170,7 +172,8 @@ module _ (g : Graph) (order : List ℕ) (guards : Guards) (f : ForestState) (act
       raised_as g (HasLater (heard_tree g f node c) wanted (heard_delay g node c))
       (HasHeard g order guards f active node from to c) back forth old new r
     where
-      -- when a condition is heard by a tested process is a time of its tree where the test and the activity are true
+      -- where the process is active and a process of the span tests c, `wanted` is true, and c is heard a delay after
+      -- the time of its tree
       back : (n : ℕ) (s : Scenario) → IsScenario g s → HasHeard g order guards f active node from to c n s →
           HasLater (heard_tree g f node c) wanted (heard_delay g node c) n s
       back n s law h =
@@ -192,11 +195,11 @@ module _ (g : Graph) (order : List ℕ) (guards : Guards) (f : ForestState) (act
             is = h.is;
           }
 
-      -- the other way: such a time is one at which a tested condition is heard
+      -- the other way: where `wanted` is true, the process is active and a process of the span tests c
       forth : (n : ℕ) (s : Scenario) → IsScenario g s →
           HasLater (heard_tree g f node c) wanted (heard_delay g node c) n s →
           HasHeard g order guards f active node from to c n s
-      -- where both trees are true, the guard of such a process tests c and the process in question is active
+      -- `wanted` is true only where `asked` and `active` both are
       forth n s law h =
           let few = scenario_few g s law in
           let x = the_path g.faults asked.paths of_asked.each s few in
@@ -211,7 +214,7 @@ module _ (g : Graph) (order : List ℕ) (guards : Guards) (f : ForestState) (act
             is = h.is;
           }
 
-  -- nothing is raised if the condition is heard no later wherever the process is active
+  -- if condition c is heard no later than `latest` wherever the process is active, hearing it raises nothing
   pub heard_no_later : (c latest : ℕ) →
       IsRaised g (HasLater (heard_tree g f node c) active (heard_delay g node c)) latest latest →
       IsRaised g (HasHeard g order guards f active node from to c) latest latest
@@ -223,23 +226,24 @@ module _ (g : Graph) (order : List ℕ) (guards : Guards) (f : ForestState) (act
   }
 
   -- before any condition is gone over, nothing is raised
-  pub none_heard : (first : ℕ) → IsRaised g (HasHeardOf g order guards f active node from to 0) first first
-  none_heard first = raised_by_none g (HasHeardOf g order guards f active node from to 0)
-      (HasHeardOf g order guards f active node from to 0) (λ n s h. below n s h) first
+  pub none_heard : (floor : ℕ) → IsRaised g (HasHeardOf g order guards f active node from to 0) floor floor
+  none_heard floor = raised_by_none g (HasHeardOf g order guards f active node from to 0)
+      (HasHeardOf g order guards f active node from to 0) (λ n s h. below n s h) floor
     where
       -- no condition is below 0
       below : (n : ℕ) (s : Scenario) → HasHeardOf g order guards f active node from to 0 n s → ⊥
       below n s h = omega (arith, h.below)
 
-  -- one condition more raises the latest time to when that one is heard
-  pub next_heard : (c first mid last : ℕ) → IsRaised g (HasHeardOf g order guards f active node from to c) first mid →
+  -- if the conditions below c raise `floor` to `mid`, and c raises that to `last`, those below c + 1 raise `floor` to
+  -- `last`
+  pub next_heard : (c floor mid last : ℕ) → IsRaised g (HasHeardOf g order guards f active node from to c) floor mid →
       IsRaised g (HasHeard g order guards f active node from to c) mid last →
-      IsRaised g (HasHeardOf g order guards f active node from to (c + 1)) first last
-  next_heard c first mid last =
+      IsRaised g (HasHeardOf g order guards f active node from to (c + 1)) floor last
+  next_heard c floor mid last =
       raised_on g (HasHeardOf g order guards f active node from to c) (HasHeard g order guards f active node from to c)
       (HasHeardOf g order guards f active node from to (c + 1)) split
       (λ n s h. record { condition = h.condition; below = omega (arith, h.below); there = h.there })
-      (λ n s h. record { condition = c; below = omega arith; there = h }) first mid last
+      (λ n s h. record { condition = c; below = omega arith; there = h }) floor mid last
     where
       -- a condition below c + 1 is below c, or is c
       split : (n : ℕ) (s : Scenario) → HasHeardOf g order guards f active node from to (c + 1) n s →
@@ -255,13 +259,13 @@ module _ (g : Graph) (order : List ℕ) (guards : Guards) (f : ForestState) (act
 
 -- given: a tree of where a process is active, and the span of processes before it
 module _ (g : Graph) (order : List ℕ) (f : ForestState) (active : TreeState Bool) (node from to : ℕ) where
-  -- a process that is not between the two places raises nothing
+  -- a process q that is not between the two places raises nothing
   pub not_ended : (q latest : ℕ) → (IsBetween g order node from to q → ⊥) →
       IsRaised g (HasEnded g order f active node from to q) latest latest
   not_ended q latest off = raised_by_none g (HasEnded g order f active node from to q)
       (HasEnded g order f active node from to q) (λ n s h. off h.between) latest
 
-  -- a process between the places raises the latest time to its end
+  -- a process q between the places raises `old` to `new` by its end
   pub one_ended : (q old new : ℕ) → IsBetween g order node from to q →
       IsRaised g (HasLater (ends_of g f q) active 0) old new →
       IsRaised g (HasEnded g order f active node from to q) old new
@@ -269,22 +273,23 @@ module _ (g : Graph) (order : List ℕ) (f : ForestState) (active : TreeState Bo
       (λ n s law h. h.there) (λ n s law h. record { between = on; there = h }) old new
 
   -- before any process is gone over, nothing is raised
-  pub none_ended : (first : ℕ) → IsRaised g (HasEndedOf g order f active node from to 0) first first
-  none_ended first = raised_by_none g (HasEndedOf g order f active node from to 0)
-      (HasEndedOf g order f active node from to 0) (λ n s h. below n s h) first
+  pub none_ended : (floor : ℕ) → IsRaised g (HasEndedOf g order f active node from to 0) floor floor
+  none_ended floor = raised_by_none g (HasEndedOf g order f active node from to 0)
+      (HasEndedOf g order f active node from to 0) (λ n s h. below n s h) floor
     where
       -- no process is below 0
       below : (n : ℕ) (s : Scenario) → HasEndedOf g order f active node from to 0 n s → ⊥
       below n s h = omega (arith, h.below)
 
-  -- one process more raises the latest time to its end
-  pub next_ended : (q first mid last : ℕ) → IsRaised g (HasEndedOf g order f active node from to q) first mid →
+  -- if the processes below q raise `floor` to `mid`, and q raises that to `last`, those below q + 1 raise `floor` to
+  -- `last`
+  pub next_ended : (q floor mid last : ℕ) → IsRaised g (HasEndedOf g order f active node from to q) floor mid →
       IsRaised g (HasEnded g order f active node from to q) mid last →
-      IsRaised g (HasEndedOf g order f active node from to (q + 1)) first last
-  next_ended q first mid last = raised_on g (HasEndedOf g order f active node from to q)
+      IsRaised g (HasEndedOf g order f active node from to (q + 1)) floor last
+  next_ended q floor mid last = raised_on g (HasEndedOf g order f active node from to q)
       (HasEnded g order f active node from to q) (HasEndedOf g order f active node from to (q + 1)) split
       (λ n s h. record { process = h.process; below = omega (arith, h.below); there = h.there })
-      (λ n s h. record { process = q; below = omega arith; there = h }) first mid last
+      (λ n s h. record { process = q; below = omega arith; there = h }) floor mid last
     where
       -- a process below q + 1 is below q, or is q
       split : (n : ℕ) (s : Scenario) → HasEndedOf g order f active node from to (q + 1) n s →
@@ -299,7 +304,7 @@ module _ (g : Graph) (order : List ℕ) (f : ForestState) (active : TreeState Bo
 
 -- given: an item that is sent, and the tree of where it goes
 module _ (g : Graph) (order : List ℕ) (f : ForestState) (goes : TreeState Bool) (x : ℕ) where
-  -- an item that does not stand before this one raises nothing
+  -- an item y that doesn't stand before x raises nothing
   pub not_queued : (y latest : ℕ) → stands_before g order y x ≡ false →
       IsRaised g (HasQueued g order f goes x y) latest latest
   not_queued y latest off = raised_by_none g (HasQueued g order f goes x y) (HasQueued g order f goes x y)
@@ -309,7 +314,7 @@ module _ (g : Graph) (order : List ℕ) (f : ForestState) (goes : TreeState Bool
       apart : true ≡ false → ⊥
       apart e = cc
 
-  -- an item that stands before it raises the latest time to a round after its own time
+  -- an item y that stands before x raises `old` to `new` by a round after its own time
   pub one_queued : (y old new : ℕ) → stands_before g order y x ≡ true →
       IsRaised g (HasLater (times_of g f y) goes (round g)) old new →
       IsRaised g (HasQueued g order f goes x y) old new
@@ -317,22 +322,22 @@ module _ (g : Graph) (order : List ℕ) (f : ForestState) (goes : TreeState Bool
       (λ n s law h. h.there) (λ n s law h. record { before = on; there = h }) old new
 
   -- before any item is gone over, nothing is raised
-  pub none_queued : (first : ℕ) → IsRaised g (HasQueuedOf g order f goes x 0) first first
-  none_queued first =
-      raised_by_none g (HasQueuedOf g order f goes x 0) (HasQueuedOf g order f goes x 0) (λ n s h. below n s h) first
+  pub none_queued : (floor : ℕ) → IsRaised g (HasQueuedOf g order f goes x 0) floor floor
+  none_queued floor =
+      raised_by_none g (HasQueuedOf g order f goes x 0) (HasQueuedOf g order f goes x 0) (λ n s h. below n s h) floor
     where
       -- no item is below 0
       below : (n : ℕ) (s : Scenario) → HasQueuedOf g order f goes x 0 n s → ⊥
       below n s h = omega (arith, h.below)
 
-  -- one item more raises the latest time to a round after its own time
-  pub next_queued : (y first mid last : ℕ) → IsRaised g (HasQueuedOf g order f goes x y) first mid →
+  -- if the items below y raise `floor` to `mid`, and y raises that to `last`, those below y + 1 raise `floor` to `last`
+  pub next_queued : (y floor mid last : ℕ) → IsRaised g (HasQueuedOf g order f goes x y) floor mid →
       IsRaised g (HasQueued g order f goes x y) mid last →
-      IsRaised g (HasQueuedOf g order f goes x (y + 1)) first last
-  next_queued y first mid last = raised_on g (HasQueuedOf g order f goes x y) (HasQueued g order f goes x y)
+      IsRaised g (HasQueuedOf g order f goes x (y + 1)) floor last
+  next_queued y floor mid last = raised_on g (HasQueuedOf g order f goes x y) (HasQueued g order f goes x y)
       (HasQueuedOf g order f goes x (y + 1)) split
       (λ n s h. record { item = h.item; below = omega (arith, h.below); there = h.there })
-      (λ n s h. record { item = y; below = omega arith; there = h }) first mid last
+      (λ n s h. record { item = y; below = omega arith; there = h }) floor mid last
     where
       -- an item below y + 1 is below y, or is y
       split : (n : ℕ) (s : Scenario) → HasQueuedOf g order f goes x (y + 1) n s →
@@ -347,7 +352,7 @@ module _ (g : Graph) (order : List ℕ) (f : ForestState) (goes : TreeState Bool
 
 -- given: a tree of where a process is active
 module _ (g : Graph) (f : ForestState) (active : TreeState Bool) where
-  -- an input of the node itself raises nothing
+  -- an input e of the node itself raises nothing
   pub not_raised : (e latest : ℕ) → is_message g e ≡ false → IsRaised g (HasInput g f active e) latest latest
   not_raised e latest off =
       raised_by_none g (HasInput g f active e) (HasInput g f active e) (λ n s h. apart (sym h.message ∙ off)) latest
@@ -356,7 +361,7 @@ module _ (g : Graph) (f : ForestState) (active : TreeState Bool) where
       apart : true ≡ false → ⊥
       apart i = cc
 
-  -- an input from another node raises the time by the end of its frame
+  -- an input e from another node raises `latest` to `last` by the end of its frame
   pub input_raised : (e latest last : ℕ) → is_message g e ≡ true →
       IsRaised g
       (HasLater (times_of g f (message_item g e)) active (slot_length g (home g (message_item g e)))) latest last →
@@ -376,21 +381,22 @@ module _ (g : Graph) (f : ForestState) (active : TreeState Bool) where
   -- ---- one input after another
 
   -- before any input is gone over, nothing is raised
-  pub none_raised : (first : ℕ) (edges : List ℕ) → IsRaised g (HasInputOf g f active (take 0 edges)) first first
-  none_raised first edges = record {
+  pub none_raised : (floor : ℕ) (edges : List ℕ) → IsRaised g (HasInputOf g f active (take 0 edges)) floor floor
+  none_raised floor edges = record {
     from = omega arith;
     above = λ n s law h. absurd (Contains-nil h.edge h.of);
     found = inl refl;
   }
 
-  -- one input more raises the latest time to when that one is there
-  pub next_raised : (edges : List ℕ) (k e : ℕ) → k < length edges → e ≡ get_or edges k 0 → (first mid last : ℕ) →
-      IsRaised g (HasInputOf g f active (take k edges)) first mid →
+  -- if the first k inputs raise `floor` to `mid`, and e, the next one, raises that to `last`, the first k + 1 raise
+  -- `floor` to `last`
+  pub next_raised : (edges : List ℕ) (k e : ℕ) → k < length edges → e ≡ get_or edges k 0 → (floor mid last : ℕ) →
+      IsRaised g (HasInputOf g f active (take k edges)) floor mid →
       IsRaised g (HasInput g f active e) mid last →
-      IsRaised g (HasInputOf g f active (take (k + 1) edges)) first last
+      IsRaised g (HasInputOf g f active (take (k + 1) edges)) floor last
   -- a time of one of the first k + 1 inputs is one of the first k, or that of e; the latest time is found where the
   -- last raise that changed it found it
-  next_raised edges k e inside at first mid last before one = record {
+  next_raised edges k e inside at floor mid last before one = record {
     from = omega (arith, before.from, one.from);
     above = λ n s law h. by n s law h.edge h.there (last_of h.edge h.of);
     found = elim one.found [

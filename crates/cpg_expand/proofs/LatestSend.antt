@@ -40,12 +40,12 @@ more_turns : (j k turn off : ℕ) → j ≤ k → j * turn + off ≤ k * turn + 
 more_turns j k turn off l = omega (arith, mul-le-mul_right turn l)
 
 -- the first slot from a later time on is no earlier
-next_slot_later : (g : Graph) (node first second : ℕ) → first ≤ second →
-    next_slot g node first ≤ next_slot g node second
-next_slot_later g node first second l = elim (cases_lt 0 (round g)) [
-  | inl h ↦ more_turns (first_from g node first) (first_from g node second) (round g) (offset g node)
-      (first_from_least g node first h (first_from g node second) (omega (arith, l, next_slot_above g node second h)))
-  | inr z ↦ no_turn (first_from g node first) (first_from g node second) (round g) (offset g node)
+next_slot_later : (g : Graph) (node earlier later : ℕ) → earlier ≤ later →
+    next_slot g node earlier ≤ next_slot g node later
+next_slot_later g node earlier later l = elim (cases_lt 0 (round g)) [
+  | inl h ↦ more_turns (first_from g node earlier) (first_from g node later) (round g) (offset g node)
+      (first_from_least g node earlier h (first_from g node later) (omega (arith, l, next_slot_above g node later h)))
+  | inr z ↦ no_turn (first_from g node earlier) (first_from g node later) (round g) (offset g node)
       (let e : round g ≡ 0 = omega (arith, z) in e)
 ]
 
@@ -85,6 +85,7 @@ module _ (g : Graph) (order : List ℕ) (frozen : List (Option ℕ)) (topologica
     (top : IsLatestSend g order f (share_of g (home g x)) goes end x latest) where
   -- ---- in one scenario
 
+  -- given: the run t of a scenario s
   module _ (s : Scenario) (law : IsScenario g s) (t : Times) (run : IsRun g order frozen s t) where
     -- what the trees say of the send in this run
     here : IsSendByTrees g order f goes end x s t
@@ -133,6 +134,7 @@ module _ (g : Graph) (order : List ℕ) (frozen : List (Option ℕ)) (topologica
 
   -- ---- in all
 
+  -- given: the latest time m that is found for the send of x (`r`)
   module _ (m : ℕ) (r : IsSlotAt g order f (share_of g (home g x)) goes end x m) where
     -- the latest end is one of a run, and so less than 2^59
     last_early : r.last < 2 ^ 59
@@ -167,8 +169,18 @@ module _ (g : Graph) (order : List ℕ) (frozen : List (Option ℕ)) (topologica
         omega (
           arith,
           k.2,
-          r.raised.above (time_later (round g) (Some k.0)) s law
-              (record { item = y; below = k.3; there = record { before = k.4; there = record { time = k.0; has = record { has = k.1; there = goes_there s law t run on }; is = refl } } }),
+          r.raised.above (time_later (round g) (Some k.0)) s law (record {
+            item = y;
+            below = k.3;
+            there = record {
+              before = k.4;
+              there = record {
+                time = k.0;
+                has = record { has = k.1; there = goes_there s law t run on };
+                is = refl;
+              };
+            };
+          }),
         ))
 
     -- some scenario in which the item is active sends it no earlier than m

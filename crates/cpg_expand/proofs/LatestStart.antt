@@ -112,6 +112,7 @@ module _ (g : Graph) (order : List ℕ) (guards : Guards) (frozen : List (Option
     (inputs g p) chooser latest) where
   -- ---- in one scenario
 
+  -- given: the run t of a scenario s
   module _ (s : Scenario) (law : IsScenario g s) (t : Times) (run : IsRun g order frozen s t) where
     -- what the trees say of the start in this run
     here : IsStartByTrees g order guards f chooser from p s t
@@ -141,15 +142,15 @@ module _ (g : Graph) (order : List ℕ) (guards : Guards) (frozen : List (Option
     acts : HasValueAt chooser.paths true s → active g s.values p ≡ true
     acts h = sym (here.acts h.0 h.1) ∙ h.2
 
-    -- nothing ends, is heard or comes later than the latest of all
+    -- given: m, the latest of all that is found (`r`), and that p is active in s
     module _ (m : ℕ) (r : IsLatestAt g order guards f (node_of g p) from (place order p) top.ready
         (inputs g p) chooser m) (on : active g s.values p ≡ true) where
-      -- the release is no later than the latest of all
+      -- the release is no later than m
       release_under : (process_at g p).release ≤ m
       release_under = omega
-          (arith, r.top.above (process_at g p).release s law (ready_there on), r.ends.from, r.hears.from, r.raised.from)
+          (arith, r.releases.above (process_at g p).release s law (ready_there on), r.ends.from, r.hears.from, r.raised.from)
 
-      -- an end before the start is no later than the latest end found
+      -- if some process before p on its node ends at n or later, by its tree, n is no later than m
       end_under : (n : ℕ) → HasEndAt g order f from p s n → n ≤ m
       -- such an end is one of those that the latest end is the greatest of, and the later steps only raise it
       end_under n h = omega (
@@ -169,7 +170,7 @@ module _ (g : Graph) (order : List ℕ) (guards : Guards) (frozen : List (Option
         r.raised.from,
       )
 
-      -- a condition is heard no later, whether by an end before p or by its own tree
+      -- a condition is heard no later than m, whether by an end before p or by its own tree
       heard_under : (c : ℕ) →
           HasEndAt g order f from p s (heard_there g t (node_of g p) c) ⊎ IsHeardAt g order guards f from p s t c →
           heard_there g t (node_of g p) c ≤ m
@@ -179,11 +180,15 @@ module _ (g : Graph) (order : List ℕ) (guards : Guards) (frozen : List (Option
         arith,
         h.is,
         r.hears.above (time_later (heard_delay g (node_of g p) c) (Some h.time)) s law
-            (record { condition = c; below = h.below; there = record { asked = h.asked; acts = acts_there on; time = h.time; has = h.has; is = refl } }),
+            (record {
+              condition = c;
+              below = h.below;
+              there = record { asked = h.asked; acts = acts_there on; time = h.time; has = h.has; is = refl };
+            }),
         r.raised.from,
       )
 
-      -- a live input is there no later, whether it is a message or of the node itself
+      -- a live input is there no later than m, whether it is a message or comes from the node itself
       input_under : (e : ℕ) → Contains (inputs g p) e → live g s.values e ≡ true → (b : Bool) → is_message g e ≡ b →
           input_there g t e ≤ m
       -- a message's time is one of those that the latest input is the greatest of; any other input is there by an end
@@ -194,28 +199,37 @@ module _ (g : Graph) (order : List ℕ) (guards : Guards) (frozen : List (Option
             arith,
             k.2,
             r.raised.above (time_later (input_delay g e) (Some k.0)) s law
-                (record { edge = e; of = c; there = record { message = is; time = k.0; has = record { has = (x.0, x.1, x.2 ∙ k.1); there = acts_there on }; is = refl } }),
+                (record {
+                  edge = e;
+                  of = c;
+                  there = record {
+                    message = is;
+                    time = k.0;
+                    has = record { has = (x.0, x.1, x.2 ∙ k.1); there = acts_there on };
+                    is = refl;
+                  };
+                }),
           )
       input_under e c lives false is = end_under (input_there g t e) (here.own e c is lives)
 
-      -- so all that the start waits for is no later
+      -- so nothing that the start waits for is later than m
       all_under : bounds ≤ m
       all_under = start_bounds_le g order s t p m release_under
           (λ e c lives. input_under e c lives (is_message g e) refl) (λ q c a. end_under (end_in t q) (here.ends q c a))
           (λ c k. heard_under c (here.hears c k))
 
-    -- an end of a process before it is no later than the bounds of the start there
+    -- an end of a process before p on its node is no later than the latest time that the start waits for
     ended_below : (m : ℕ) → HasEndedOf g order f chooser (node_of g p) from (place order p) (process_count g) m s →
         m ≤ bounds
     ended_below m h =
         omega (arith, h.there.there.is, here.ended h.process h.there.there.time h.there.between h.there.there.has.has)
 
-    -- the time at which a tested condition is heard is one of the bounds
+    -- nor is the time at which the node hears a condition that such a process or p tests
     hearing_below : (m : ℕ) →
         HasHeardOf g order guards f chooser (node_of g p) from (place order p + 1) (condition_count g) m s → m ≤ bounds
     hearing_below m h = omega (arith, h.there.is, here.heard h.condition h.there.time h.there.asked h.there.has)
 
-    -- the time at which an input is there is one of the bounds of the start
+    -- nor is the time at which an input from another node is there
     input_below : (m : ℕ) → HasInputOf g f chooser (inputs g p) m s → m ≤ bounds
     input_below m h =
         let e = h.edge in
@@ -267,7 +281,7 @@ module _ (g : Graph) (order : List ℕ) (guards : Guards) (frozen : List (Option
       active_there : (s : Scenario) → IsScenario g s → HasValueAt chooser.paths true s → active g s.values p ≡ true
       active_there s law h = let r = a_run g order frozen s topological in acts s law r.0 r.1 h
 
-      -- a time that a scenario has, and that the start there is no earlier than, is reached by the start
+      -- if p is active in scenario s, and its start there waits until n or later, m, which is n, is reached there
       found : (m n : ℕ) (s : Scenario) → IsScenario g s → HasValueAt chooser.paths true s → m ≡ n →
           ((t : Times) → IsRun g order frozen s t → n ≤ greatest (start_bounds g order s t p)) →
           (s : Scenario) × IsScenario g s × (active g s.values p ≡ true) ×
@@ -291,11 +305,11 @@ module _ (g : Graph) (order : List ℕ) (guards : Guards) (frozen : List (Option
                 (λ t run. ended_below h.0 h.1 t run r.ended h.2)
             -- when the node is ready, or the release
             | inl as_first ↦
-                found m r.first r.top.scenario r.top.lawful r.top.there.there (as_heard ∙ as_ended ∙ as_first)
+                found m r.released r.releases.scenario r.releases.lawful r.releases.there.there (as_heard ∙ as_ended ∙ as_first)
                 (λ t run.
-                let is = some_same r.first (process_at g p).release (sym r.top.there.has.2
-                ∙ ready_value r.top.scenario r.top.lawful t run r.top.there.has.0 r.top.there.has.1) in
-                omega (arith, is, release_in g order topological r.top.scenario t p))
+                let is = some_same r.released (process_at g p).release (sym r.releases.there.has.2
+                ∙ ready_value r.releases.scenario r.releases.lawful t run r.releases.there.has.0 r.releases.there.has.1) in
+                omega (arith, is, release_in g order topological r.releases.scenario t p))
           ]
         ]
       ]

@@ -16,19 +16,19 @@ use Rattle.cpg_base.specs.Order.{place}
 use Rattle.cpg_order.proofs.Acyclic.{activation_is}
 use Rattle.cpg_expand.specs.Guarded.{IsByBelow, LeadsBelow}
 
--- ---- an activation by an input is by one of the graph
+-- ---- an activation that names an input names one of the graph
 
--- the first of some edges below n is below n
+-- if all the edges are below n, so is the first one, which the activation names
 first_below : (n : ℕ) (es : List ℕ) → ((e : ℕ) → Contains es e → e < n) → IsByBelow n (by_first es)
 first_below n [] h = tt
 first_below n (e ∷ es) h = h e (Contains-first e es)
 
--- an activation that waits for all inputs, or is inactive, is by no edge, so by none that isn't below n
+-- an activation that waits for all inputs, or is inactive, names no edge, so none that isn't below n
 all_below : (n : ℕ) (b : Bool) → IsByBelow n (if b then Plain else Inactive)
 all_below n true = tt
 all_below n false = tt
 
--- an activation of inputs below n, of a join or not, is by an edge below n, if by one
+-- if all the inputs are below n, so is the edge that the activation names, if it names one
 by_below : (n : ℕ) (join : Bool) (es : List ℕ) (live : ℕ → Bool) → ((e : ℕ) → Contains es e → e < n) →
     IsByBelow n (activation_by join es live)
 by_below n join [] live h = tt
@@ -36,7 +36,7 @@ by_below n true (e ∷ es) live h =
     first_below n (filter live (e ∷ es)) (λ d c. h d (Contains-filter_parts live (e ∷ es) d c).0)
 by_below n false (e ∷ es) live h = all_below n (list_all live (e ∷ es))
 
--- what a process does in an outcome is by an edge of the graph, if by one
+-- if the activation of a process in an outcome names an edge, that is one of the graph
 activation_below : (g : Graph) (order : List ℕ) → IsTopological g order → (o : List Bool) (p : ℕ) →
     p < process_count g →
     IsByBelow (edge_count g) (activation g o p)
@@ -57,7 +57,7 @@ module _ (g : Graph) (order : List ℕ) (n : ℕ) where
   LeadsFrom k guard o = (other : List Bool) → length other ≡ condition_count g → SameBefore k o other →
       IsByBelow n (outcome_at guard other)
 
-  -- if that is so for an outcome, each leaf of the guard is by an edge below n, if by one
+  -- if that is so for an outcome, each edge that a leaf of the guard names is below n
   leads_from : (k : ℕ) (guard : Guard) → IsOrderedFrom g order k guard → (o : List Bool) →
       length o ≡ condition_count g → LeadsFrom k guard o →
       LeadsBelow n guard
@@ -84,7 +84,7 @@ module _ (g : Graph) (order : List ℕ) (n : ℕ) where
       earlier b other same d l = same d (omega (arith, l, ordered.1)) ∙ get_or-set_other o c d b false
           (λ e. absurd (let at = ap (λ q. place order (process_of g q)) e in omega (arith, l, ordered.1, at)))
 
--- each leaf of a process's guard is an activation by an edge of the graph, if by one at all
+-- each edge that a leaf of a process's guard names is one of the graph
 pub leads_below : (g : Graph) (order : List ℕ) → IsTopological g order → (p : ℕ) → p < process_count g →
     (guard : Guard) → IsGuardOf g order p guard →
     LeadsBelow (edge_count g) guard

@@ -1,6 +1,6 @@
 pub mod AgreeingTrees
-pub mod RowsCarry
 pub mod GuardTrees
+pub mod EndTrees
 pub mod StartsWhere
 pub mod PartsKnown
 pub mod CarriedOn
@@ -22,7 +22,6 @@ pub mod StartByTrees
 pub mod UnfrozenStart
 pub mod Begun
 pub mod GrownNext
-pub mod PeaksMeasured
 pub mod SendValue
 pub mod FrozenSend
 pub mod Goes
@@ -34,8 +33,6 @@ pub mod ItemKept
 pub mod SendingOver
 pub mod SendingNext
 pub mod BegunMade
-pub mod RowsMade
-pub mod GrownRows
 pub mod Stepped
 pub mod ActiveItems
 pub mod ReadyMade
@@ -43,5 +40,3 @@ pub mod TestedTrees
 pub mod EarlierFound
 pub mod LargeShown
 pub mod LargeParts
-pub mod WideRowsMade
-pub mod RowsBuilt

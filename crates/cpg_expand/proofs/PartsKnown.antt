@@ -6,13 +6,13 @@ use Rattle.std.proofs.lemmas.List.Elements.{All-append, All-get_or}
 use Rattle.std.proofs.Math.Seq.{get_or-append_seam}
 use Rattle.cpg_order.specs.Guard.{Guard, Leaf, Test}
 use Rattle.cpg_tree.specs.Tree.{TreeState}
-use Rattle.cpg_expand.specs.Descent.{AreKept, AreKnown, AreLeaves, IsAdded, IsAt, IsFound, IsThere, IsTreeOf}
+use Rattle.cpg_expand.specs.Descent.{ArePlacesKept, AreKnown, AreLeaves, IsGuardAdded, IsAt, IsFound, IsThere, IsTreeOf}
 use Rattle.cpg_expand.specs.Guarded.{IsByBelow, LeadsBelow}
 use Rattle.cpg_expand.specs.declared.descent.Source.{Source}
 use Rattle.cpg_expand.specs.declared.descent.Source.TheVariants.{At, Alone}
 use Rattle.cpg_expand.specs.declared.descent.KnownGuard.{KnownGuard}
 
--- a fact that holds of anything holds of all leaves
+-- the fact that holds of every activation holds of all leaves of a guard
 pub any_leaves : (guard : Guard) → AreLeaves (λ a. Unit {0}) guard
 -- by induction on the guard
 any_leaves (Leaf a) = tt
@@ -26,12 +26,13 @@ leads_leaves n (Test c off on) h = (leads_leaves n off h.0, leads_leaves n on h.
 
 -- `T` is the type of the trees' values
 module _ {T : Type 0} where
-  -- what a list keeps of the one before it, and a third list of that, the third keeps of the first
-  pub kept_still : (old next new : List (KnownGuard T)) → AreKept old next → AreKept next new → AreKept old new
-  kept_still old next new first second i g at = second i g (first i g at)
+  -- if `next` has the guards of `old` at their places, and `new` those of `next`, then `new` has those of `old`
+  pub kept_still : (old next new : List (KnownGuard T)) → ArePlacesKept old next → ArePlacesKept next new →
+      ArePlacesKept old new
+  kept_still old next new kept kept_too i g at = kept_too i g (kept i g at)
 
-  -- one more tree at the end keeps all trees before it
-  pub kept_by : (old new : List (KnownGuard T)) (k : KnownGuard T) → new ≡ old ++ (k ∷ []) → AreKept old new
+  -- if `new` is `old` with one more guard at its end, it has the guards of `old` at their places
+  pub kept_by : (old new : List (KnownGuard T)) (k : KnownGuard T) → new ≡ old ++ (k ∷ []) → ArePlacesKept old new
   kept_by old new k e i g at = subst (λ (xs : List (KnownGuard T)). IsAt xs i g) (sym e) (
     omega (arith, at.0, length-append old (k ∷ [])),
     λ d. ap (λ (x : KnownGuard T). x.guard.now) (get_or_append_left old (k ∷ []) d i at.0) ∙ at.1 d,
@@ -46,7 +47,7 @@ module _ {T : Type 0} where
     found_there known g (Alone t) h = tt
 
     -- a source stays right if the list keeps its guards at their places
-    pub found_still : (old new : List (KnownGuard T)) (g : Guard) (found : Source T) → AreKept old new →
+    pub found_still : (old new : List (KnownGuard T)) (g : Guard) (found : Source T) → ArePlacesKept old new →
         IsFound made fits old g found →
         IsFound made fits new g found
     found_still old new g (At i) kept h = kept i g h
@@ -80,7 +81,7 @@ module _ {T : Type 0} where
     -- if the tree that is added fits its guard, all trees that are kept still do
     pub added_known : (old new : List (KnownGuard T)) (g : Guard) (tree : TreeState T) (found : Source T) →
         AreKnown made fits old → made tree → fits g tree →
-        IsAdded old new g tree found →
+        IsGuardAdded old new g tree found →
         AreKnown made fits new
     -- by where it is put: a new place holds the tree, with a guard equal to the given one; kept alone, it changes no
     -- place
@@ -91,16 +92,16 @@ module _ {T : Type 0} where
         (subst (fits h.1.guard.now) (sym h.4) (subst (λ (x : Guard). fits x tree) (sym h.3) t))))
     added_known old new g tree (Alone t) all m is h = subst (AreKnown made fits) (sym h.0) all
 
-    -- adding a tree keeps all trees before it
+    -- adding a guard with its tree keeps all guards before it at their places
     pub added_kept : (old new : List (KnownGuard T)) (g : Guard) (tree : TreeState T) (found : Source T) →
-        IsAdded old new g tree found → AreKept old new
+        IsGuardAdded old new g tree found → ArePlacesKept old new
     added_kept old new g tree (At i) h = kept_by old new h.1 h.2
     added_kept old new g tree (Alone t) h =
-        subst (λ (xs : List (KnownGuard T)). AreKept old xs) (sym h.0) (λ i g at. at)
+        subst (λ (xs : List (KnownGuard T)). ArePlacesKept old xs) (sym h.0) (λ i g at. at)
 
     -- the source that a tree is added at is right for its guard
     pub added_found : (old new : List (KnownGuard T)) (g : Guard) (tree : TreeState T) (found : Source T) → made tree →
-        fits g tree → IsAdded old new g tree found →
+        fits g tree → IsGuardAdded old new g tree found →
         IsFound made fits new g found
     -- at a place, that is the new one behind the old ones; alone, it is the tree itself, which is made and fits
     added_found old new g tree (At i) m t h =
@@ -112,17 +113,17 @@ module _ {T : Type 0} where
     added_found old new g tree (Alone t) m is h = (subst made (sym h.1) m, subst (fits g) (sym h.1) is)
 
     -- given: a tree that was found before more trees were added
-    module _ (first second slice : List (KnownGuard T)) (kept : AreKept first second) (is : slice ≡ second) (g : Guard)
-        (found : Source T) (h : IsFound made fits first g found) where
+    module _ (known later slice : List (KnownGuard T)) (kept : ArePlacesKept known later) (is : slice ≡ later)
+        (g : Guard) (found : Source T) (h : IsFound made fits known g found) where
       -- the tree is still found in the list with more trees
       still : IsFound made fits slice g found
       still = subst (λ (xs : List (KnownGuard T)). IsFound made fits xs g found) (sym is)
-          (found_still first second g found kept h)
+          (found_still known later g found kept h)
 
       -- the source is within the longer list
       pub still_there : IsThere slice found
       still_there = found_there slice g found still
 
       -- the tree that it names there is made and fits the guard
-      pub still_has_value : AreKnown made fits second → (r : TreeState T) → IsTreeOf slice found r → made r × fits g r
+      pub still_has_value : AreKnown made fits later → (r : TreeState T) → IsTreeOf slice found r → made r × fits g r
       still_has_value all r of = found_has_value slice g found r (subst (AreKnown made fits) (sym is) all) still of

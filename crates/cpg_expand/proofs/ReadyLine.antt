@@ -43,20 +43,21 @@ module _ (g : Graph) (order : List ℕ) (topological : IsTopological g order) (r
   abbrev then_says : List Literal
   then_says = flat_map (passed g rows s) (before_on_node g order p) ++ passed g rows s p
 
-  -- the tree gives the time from which on the node goes on, by what it carries on
+  -- `tree` says from when on p's node goes on, by what the node carries on: from p's end, or if p is inactive from when
+  -- the wait is over (`waited`)
   pub ready_line : (chooser : TreeState Bool) (end : TreeState (Option ℕ)) (wait tree : TreeState ℕ) (waited : ℕ) →
       IsActiveTree g.faults guard chooser →
       IsReadyTree g.faults chooser end wait tree →
       HasValueFrom s (carried_at_end g order rows s p) (get_or t.ends p None) end → HasValueFrom s wait_says waited wait
       → HasValueFrom s then_says (if active g s.values p then end_in t p else waited) tree
   ready_line chooser end wait tree waited actives readies ends waits = agrees_weaker s tree
-      (values_known s (way guard s.values) ++ second) then_says (λ z. z ≡ v) (λ z. z ≡ v) within (λ z e. e)
-      (readies s few (active g s.values p) (values_known s (way guard s.values)) second
+      (values_known s (way guard s.values) ++ time_says) then_says (λ z. z ≡ v) (λ z. z ≡ v) within (λ z e. e)
+      (readies s few (active g s.values p) (values_known s (way guard s.values)) time_says
       (get_or t.ends p None) waited v chosen by_end by_wait)
     where
       -- what says when the node goes on: p's end if it is active, and else the wait
-      second : List Literal
-      second = if active g s.values p then carried_at_end g order rows s p else wait_says
+      time_says : List Literal
+      time_says = if active g s.values p then carried_at_end g order rows s p else wait_says
 
       -- when it goes on: at p's end if it is active, and else when the wait is over
       v : ℕ
@@ -69,7 +70,7 @@ module _ (g : Graph) (order : List ℕ) (topological : IsTopological g order) (r
 
       -- if p is active, its end decides; ends are small, so `time_later` gives them exactly
       by_end : active g s.values p ≡ true →
-          HasValueFrom s second (get_or t.ends p None) end × (v ≡ time_later 0 (get_or t.ends p None))
+          HasValueFrom s time_says (get_or t.ends p None) end × (v ≡ time_later 0 (get_or t.ends p None))
       by_end e = (
         subst (λ (b : Bool). HasValueFrom s (if b then carried_at_end g order rows s p else wait_says)
             (get_or t.ends p None) end) (sym e) ends,
@@ -77,8 +78,8 @@ module _ (g : Graph) (order : List ℕ) (topological : IsTopological g order) (r
             ∙ (let exact = later_exact (get_or t.ends p None) 0 (small.ends p) (omega arith) in omega (arith, exact)),
       )
 
-      -- if it isn't, the wait does
-      by_wait : active g s.values p ≡ false → HasValueFrom s second waited wait × (v ≡ waited)
+      -- if p is inactive, the wait decides
+      by_wait : active g s.values p ≡ false → HasValueFrom s time_says waited wait × (v ≡ waited)
       by_wait e = (
         subst (λ (b : Bool). HasValueFrom s (if b then carried_at_end g order rows s p else wait_says) waited wait)
             (sym e) waits,
@@ -86,20 +87,20 @@ module _ (g : Graph) (order : List ℕ) (topological : IsTopological g order) (r
       )
 
       -- the literals of the end and those of the wait are carried on by the node
-      of_second : (b : Bool) → active g s.values p ≡ b → (x : Literal) →
+      of_time_says : (b : Bool) → active g s.values p ≡ b → (x : Literal) →
           Contains (if b then carried_at_end g order rows s p else wait_says) x →
           Contains then_says x
-      of_second true e x j = elim (end_parts g order topological rows s p e x j) [
+      of_time_says true e x j = elim (end_parts g order topological rows s p e x j) [
         | inl i ↦ Contains-append_left (flat_map (passed g rows s) (before_on_node g order p)) (passed g rows s p) x i
         | inr i ↦ Contains-append_right (flat_map (passed g rows s) (before_on_node g order p)) (passed g rows s p) x i
       ]
-      of_second false e x j = ready_carried g order topological rows s p x (inr j)
+      of_time_says false e x j = ready_carried g order topological rows s p x (inr j)
 
-      -- so is all that the tree says
-      within : (x : Literal) → Contains (values_known s (way guard s.values) ++ second) x → Contains then_says x
-      within x j = elim (Contains-append_cases (values_known s (way guard s.values)) second x j) [
+      -- all that the tree says is carried on by the node
+      within : (x : Literal) → Contains (values_known s (way guard s.values) ++ time_says) x → Contains then_says x
+      within x j = elim (Contains-append_cases (values_known s (way guard s.values)) time_says x j) [
         | inl i ↦ let r = Contains-map_parts (value_known s) (way guard s.values) x i in
             ready_carried g order topological rows s p x (inl (subst (Contains (decided g s p)) r.2
             (Contains-map (value_known s) (deciding g s.values p) r.0 (on_way r.0 r.1))))
-        | inr i ↦ of_second (active g s.values p) refl x i
+        | inr i ↦ of_time_says (active g s.values p) refl x i
       ]

@@ -14,7 +14,7 @@ use Rattle.cpg_expand.specs.Agreeing.{Agrees}
 use Rattle.cpg_expand.specs.Forest.{ForestState, later_tree}
 use Rattle.cpg_tree.specs.GraphTrees.{no_tree}
 use Rattle.cpg_expand.specs.Waited.{IsQueuedFor, IsReadyOnce}
-use Rattle.cpg_expand.proofs.GuardTrees.{ready_always}
+use Rattle.cpg_expand.proofs.EndTrees.{ready_always}
 
 -- a tree without paths agrees with anything
 none_has_value : {T : Type 0} (k : ℕ) (s : Scenario) (literals : List Literal) (fact : T → Type 0) →
@@ -35,13 +35,14 @@ ready_everywhere g f node guard active end always = record {
 
 -- ---- what waits
 
--- if none of the first processes waits and the next one does not either, none up to it does
+-- if none of the first k processes waits for the node behind the place `at`, and by the test b process k doesn't
+-- either, none of the first k + 1 does
 pub none_waits : (g : Graph) (order : List ℕ) (node at k : ℕ) (b : Bool) →
     ((q : ℕ) → q < k → node_of g q ≡ node → at < place order q → is_frozen g q ≡ false → ⊥) →
     b ≡ (node_of g k == node && (nat_lt at (place order k) && not (is_frozen g k))) → b ≡ false → (q : ℕ) → q < k + 1 →
     node_of g q ≡ node → at < place order q → is_frozen g q ≡ false → ⊥
-none_waits g order node at k b before is off q below there behind thawed = elim (cases_lt q k) [
-  | inl less ↦ before q less there behind thawed
+none_waits g order node at k b so_far is off q below there behind thawed = elim (cases_lt q k) [
+  | inl less ↦ so_far q less there behind thawed
   | inr more ↦ by (let e : q ≡ k = omega (arith, below, more) in e)
 ]
   where
@@ -57,15 +58,16 @@ none_waits g order node at k b before is off q below there behind thawed = elim 
         (subst (λ n. at < place order n) e behind)) (ap not (ap (is_frozen g) (sym e) ∙ thawed)))) ∙ sym is ∙
         off)
 
--- if none of the first items waits for free slots and the next one does not either, none up to it does
+-- if none of the first k items waits for free slots of the node from the place `at` on, and by the test b item k
+-- doesn't either, none of the first k + 1 does
 pub none_goes_by : (g : Graph) (order : List ℕ) (node at k : ℕ) (b : Bool) →
     ((y : ℕ) → y < k → is_sent g y ≡ true → home g y ≡ node → at ≤ place order (producer g y) →
     is_frozen g y ≡ false → ⊥) →
     b ≡ ((is_sent g k && not (is_frozen g k)) && ((home g k == node) && nat_le at (place order (producer g k)))) →
     b ≡ false → (y : ℕ) → y < k + 1 → is_sent g y ≡ true → home g y ≡ node →
     at ≤ place order (producer g y) → is_frozen g y ≡ false → ⊥
-none_goes_by g order node at k b before is off y below sent there behind thawed = elim (cases_lt y k) [
-  | inl less ↦ before y less sent there behind thawed
+none_goes_by g order node at k b so_far is off y below sent there behind thawed = elim (cases_lt y k) [
+  | inl less ↦ so_far y less sent there behind thawed
   | inr more ↦ by (let e : y ≡ k = omega (arith, below, more) in e)
 ]
   where

@@ -67,7 +67,8 @@ module _ (g : Graph) (order : List ℕ) (rows : List (List Column)) (s : Scenari
     thawed_says e l j = subst (λ (f : Bool).
         Contains ((if f then decided g s (producer g x) else unfrozen_says) ++ sent_by_value g s x) l) (sym e) j
 
-    -- the tree of a send that is not frozen agrees with what is carried at the send
+    -- if x isn't frozen, `tree` says when x is sent in s, by what is carried at the send: in the first slot from the
+    -- end of its producer (`ended`) and from when slots are free (y), or never if x isn't active
     pub send_line : is_frozen g x ≡ false →
         (share : ShareState) (end : TreeState (Option ℕ)) (free : TreeState ℕ) (tree : TreeState (Option ℕ))
         (ended : Option ℕ) (y : ℕ) →
@@ -121,20 +122,21 @@ module _ (g : Graph) (order : List ℕ) (rows : List (List Column)) (s : Scenari
               | inr i ↦ of_time (item_active g s.values (item_at g x)) l i
             ]
 
-    -- the tree of when the slots are free after it agrees with what it leaves to the items behind it
+    -- `tree` says from when on slots are free after x, by what x and the items before it leave: `turn` after x's time,
+    -- or if x isn't active from when on they were before (y)
     pub free_line : (turn : ℕ) (sent : TreeState (Option ℕ)) (free tree : TreeState ℕ) (time : Option ℕ) (y : ℕ) →
         IsFreeTree g.faults turn goes sent free tree →
         HasValueFrom s (carried_at_send g order rows s x) time sent → HasValueFrom s before_it y free →
         HasValueFrom s (before_it ++ queued g order rows s x)
         (if item_active g s.values (item_at g x) then time_later turn time else y) tree
     free_line turn sent free tree time y frees sends waits =
-        agrees_weaker s tree (says ++ second) (before_it ++ queued g order rows s x) (λ z. z ≡ v)
+        agrees_weaker s tree (says ++ time_says) (before_it ++ queued g order rows s x) (λ z. z ≡ v)
         (λ z. z ≡ v) within (λ z e. e)
-        (frees s few (item_active g s.values (item_at g x)) says second time y v of_goes by_send by_wait)
+        (frees s few (item_active g s.values (item_at g x)) says time_says time y v of_goes by_send by_wait)
       where
         -- what says when the slots are free: the send's literals if x goes, and else those of what is queued before it
-        second : List Literal
-        second = if item_active g s.values (item_at g x) then carried_at_send g order rows s x else before_it
+        time_says : List Literal
+        time_says = if item_active g s.values (item_at g x) then carried_at_send g order rows s x else before_it
 
         -- when they are free: `turn` after the send if x goes, and else as before
         v : ℕ
@@ -142,16 +144,15 @@ module _ (g : Graph) (order : List ℕ) (rows : List (List Column)) (s : Scenari
 
         -- if x goes, its time in the run decides
         by_send : item_active g s.values (item_at g x) ≡ true →
-            HasValueFrom s second time sent × (v ≡ time_later turn time)
+            HasValueFrom s time_says time sent × (v ≡ time_later turn time)
         by_send e = (
           subst (λ (b : Bool). HasValueFrom s (if b then carried_at_send g order rows s x else before_it) time sent)
               (sym e) sends,
-          ap
-              (λ (b : Bool). if b then time_later turn time else y) e,
+          ap (λ (b : Bool). if b then time_later turn time else y) e,
         )
 
         -- if x doesn't go, the slots are free when they were before
-        by_wait : item_active g s.values (item_at g x) ≡ false → HasValueFrom s second y free × (v ≡ y)
+        by_wait : item_active g s.values (item_at g x) ≡ false → HasValueFrom s time_says y free × (v ≡ y)
         by_wait e = (
           subst (λ (b : Bool). HasValueFrom s (if b then carried_at_send g order rows s x else before_it) y free)
               (sym e) waits,
@@ -223,8 +224,8 @@ module _ (g : Graph) (order : List ℕ) (rows : List (List Column)) (s : Scenari
         of_says l (inr j) = by_value j.0 l j.1
 
         -- so is all that the tree of the free slots says
-        within : (l : Literal) → Contains (says ++ second) l → Contains (before_it ++ queued g order rows s x) l
-        within l j = elim (Contains-append_cases says second l j) [
+        within : (l : Literal) → Contains (says ++ time_says) l → Contains (before_it ++ queued g order rows s x) l
+        within l j = elim (Contains-append_cases says time_says l j) [
           | inl i ↦ of_says l (at_most l i)
           | inr i ↦ of_second (item_active g s.values (item_at g x)) refl l i
         ]

@@ -89,7 +89,7 @@ chosen_valued g urgency is_urgency urgent p guard is_guard chooser actives s law
         (ways_are_deciding g urgency p guard s.values is_urgency urgent is_guard law.values) j) in
         Contains-filter (decides g s.values p) _ c r.1 (Contains-numbers _ c (from_along g urgency c r.0).0)
 
--- what is carried by an item that is sent is what is carried at its send
+-- what is carried beside item x, which is sent, is what is carried at its send
 carried_sent : (g : Graph) (order : List ℕ) (rows : List (List Column)) (s : Scenario) (x : ℕ) (i : Item) →
     is_sent_item g i ≡ true →
     carried_by_item g order rows s x i ≡ carried_at_send g order rows s x
@@ -104,12 +104,13 @@ module _ (g : Graph) (limits : IsWithinLimits g) (order : List ℕ) (topological
     (chooser : TreeState Bool)
     (chosen : (s : Scenario) → IsScenario g s → HasValueFrom s (decided g s p) (active g s.values p) chooser) where
   -- given: one of its items, and the trees before and after that one is added
-  -- `k`, `inside`: the k-th item that p sends; `old`, `before`, `sending`: trees and frozen times with the k items
+  -- `k`, `inside`: the k-th item that p sends; `old`, `frozen_old`, `sending`: trees and frozen times with the k items
   -- before it
-  -- `new`, `after`, `added`: those with this item too
-  module _ (k : ℕ) (inside : k < length (queue_of g p)) (old new : ForestState) (before after : List (Option ℕ))
-      (sending : IsSending g order p k before old)
-      (added : IsItemAdded g order chooser (get_or (queue_of g p) k 0) old new before after) where
+  -- `new`, `frozen_new`, `added`: those with this item too
+  module _ (k : ℕ) (inside : k < length (queue_of g p)) (old new : ForestState)
+      (frozen_old frozen_new : List (Option ℕ))
+      (sending : IsSending g order p k frozen_old old)
+      (added : IsItemAdded g order chooser (get_or (queue_of g p) k 0) old new frozen_old frozen_new) where
     -- the item that is sent next
     abbrev here : ℕ
     here = get_or (queue_of g p) k 0
@@ -135,12 +136,12 @@ module _ (g : Graph) (limits : IsWithinLimits g) (order : List ℕ) (topological
     trees = has_put g old new here
         (home g here) added.sent added.freed sending.trees added.sent_tree added.freed_tree added.is
 
-    -- what is done by then ranks before it
+    -- what is done by then has an earlier moment than it
     later : (y : ℕ) → y < item_count g → IsDone g order p k y → moment g order y < moment g order here
     later = done_sooner g order topological p l k inside
 
     -- it has no frozen time yet
-    unset : get_or before here None ≡ None
+    unset : get_or frozen_old here None ≡ None
     unset = sending.settled.others here (λ h f done. let m = later here within done in absurd (omega (arith, m)))
 
     -- it isn't among what is done
@@ -183,12 +184,12 @@ module _ (g : Graph) (limits : IsWithinLimits g) (order : List ℕ) (topological
     p_ends = omega arith
 
     -- each frozen time so far is below 2^58
-    early_before : AreEarly before
-    early_before = early_from_low g order before limits topological sending.settled.count sending.settled.low
+    early_before : AreEarly frozen_old
+    early_before = early_from_low g order frozen_old limits topological sending.settled.count sending.settled.low
 
-    -- what stands before it is done
+    -- what is queued before it is done
     done_before : (y : ℕ) → Contains (queued_before g order here) y → IsDone g order p k y
-    -- it is sent for a process before p, or is one of the first k of p's queue
+    -- such an item is sent for a process before p, or is one of the first k of p's queue
     done_before y c =
         elim (Contains-append_cases (sent_before g order (place order p) (node_of g p)) (take k (queue_of g p)) y
         (queued_so_far g order topological (record { faults = []; values = [] }) p l k inside y c)) [
@@ -199,7 +200,7 @@ module _ (g : Graph) (limits : IsWithinLimits g) (order : List ℕ) (topological
           | inr i ↦ inr (inr i)
         ]
 
-    -- what is queued before it are items of the graph
+    -- what is queued before it is an item of the graph
     within_before : (y : ℕ) → Contains (queued_before g order here) y → y < item_count g
     within_before y c = numbers-Contains (item_count g) y
         (Contains-filter_parts (λ y. is_queued_before g order y here) (numbers_below (item_count g)) y c).0
@@ -230,14 +231,14 @@ module _ (g : Graph) (limits : IsWithinLimits g) (order : List ℕ) (topological
         (or_cases _ _ b.1)))
 
     -- in each run under the frozen times so far, the trees say what the send waits for
-    valued_send : (s : Scenario) → IsScenario g s → (t : Times) → IsRun g order before s t →
+    valued_send : (s : Scenario) → IsScenario g s → (t : Times) → IsRun g order frozen_old s t →
         IsSendByTrees g order old added.goes (ends_of g old (producer g here)) here s t
     valued_send s law t run =
         let rows : List (List Column) = own_rows old in
         let few = scenario_few g s law in
         -- what the trees so far say of the run, whose times are below 2^59
         let lines = sending.lines rows (own_rows_hold g order (place order p) old sending.trees) s law t run in
-        let small = run_small g order before s t limits topological law early_before run in
+        let small = run_small g order frozen_old s t limits topological law early_before run in
         -- where the item goes, and when its producer ends
         let goes = added.goes_where s few (decided g s (producer g here))
         (subst (λ q. HasValueFrom s (decided g s q) (active g s.values q) chooser) (sym by_p) (chosen s law)) in
@@ -250,16 +251,16 @@ module _ (g : Graph) (limits : IsWithinLimits g) (order : List ℕ) (topological
           ends = λ e on. ends.value e on;
           -- its producer has ended then
           ended = λ on. subst (λ q. get_or t.ends q None ≡ Some (end_in t q)) (sym by_p)
-              (let is = has_end g order before s t run p l (acts s on) in
+              (let is = has_end g order frozen_old s t run p l (acts s on) in
               is ∙ ap (λ n. Some n) (sym (ap (λ o. unwrap_or o 0) is)));
           early = small.ends (producer g here);
-          value = unfrozen_sent g order before s t run here goes_over;
+          value = unfrozen_sent g order frozen_old s t run here goes_over;
           -- each active item before it in the queue has its time by its tree
           sent = λ y c a.
               let h = within_before y c in
               let w = the_path g.faults (times_of g old y).paths (times_tree g old sending.trees y h).each s few in (
                 time_in t y,
-                (w.0, w.1, (lines.times y h (done_before y c)).value w.0 w.1 ∙ has_time g order before s t run y h a),
+                (w.0, w.1, (lines.times y h (done_before y c)).value w.0 w.1 ∙ has_time g order frozen_old s t run y h a),
                 sym (later_exact (Some (time_in t y)) (round g) (small.times y) (round-le g limits)),
                 h,
                 by_places y c,
@@ -267,7 +268,7 @@ module _ (g : Graph) (limits : IsWithinLimits g) (order : List ℕ) (topological
           -- the other way: such a time is one of those that the send waits for
           came = λ y time h is v.
               let c = from_places y h is in
-              let r = time_parts g order before s t run y time
+              let r = time_parts g order frozen_old s t run y time
               (sym ((lines.times y h (done_before y c)).value v.0 v.1) ∙ v.2) in
               let bound = greatest_above (send_bounds g order s t here) (time_in t y + round g)
               (Contains-rest _ _ _ (Contains-map (λ z. time_in t z + round g)
@@ -280,43 +281,45 @@ module _ (g : Graph) (limits : IsWithinLimits g) (order : List ℕ) (topological
     of_ends : IsTree g (ends_of g old (producer g here))
     of_ends = subst (λ q. IsTree g (ends_of g old q)) (sym by_p) (ends_tree g old sending.trees p l)
 
-    -- if it is frozen, its time in `after` is the greatest that it would have in the runs so far
-    found : IsFrozenSend g order added.goes here old before after added.sent → IsFound g order before here after
-    found f = frozen_found g order topological before here (omega (arith, within, sending.settled.count)) unset f.latest
-        (send_above g order before topological old added.goes added.goes_tree
+    -- if it is frozen, its time in `frozen_new` is the greatest that it would have in the runs so far
+    found : IsFrozenSend g order added.goes here old frozen_old frozen_new added.sent →
+        IsFound g order frozen_old here frozen_new
+    found f = frozen_found g order topological frozen_old here (omega (arith, within, sending.settled.count)) unset f.latest
+        (send_above g order frozen_old topological old added.goes added.goes_tree
         (ends_of g old (producer g here)) of_ends here valued_send f.latest f.top)
-        (send_reached g order before topological old added.goes added.goes_tree
-        (ends_of g old (producer g here)) of_ends here valued_send f.latest f.top) after f.frozen.set
+        (send_reached g order frozen_old topological old added.goes added.goes_tree
+        (ends_of g old (producer g here)) of_ends here valued_send f.latest f.top) frozen_new f.frozen.set
 
     -- ---- the frozen times
 
     -- the frozen times stay settled with it
-    settled_then : AreSettledOf g order (IsDone g order p (k + 1)) after
+    settled_then : AreSettledOf g order (IsDone g order p (k + 1)) frozen_new
     settled_then = by added.sends
       where
         -- an unfrozen item leaves them as they are, and a frozen one adds its latest time
-        by : IsSentFor g order added.goes here old before after added.sent →
-            AreSettledOf g order (IsDone g order p (k + 1)) after
+        by : IsSentFor g order added.goes here old frozen_old frozen_new added.sent →
+            AreSettledOf g order (IsDone g order p (k + 1)) frozen_new
         by (inl th) = subst (AreSettledOf g order (IsDone g order p (k + 1))) (sym th.1)
             (settled_idle g order topological limits (IsDone g order p k)
-            (IsDone g order p (k + 1)) before sending.settled here within later grows one_more only th.0)
+            (IsDone g order p (k + 1)) frozen_old sending.settled here within later grows one_more only th.0)
         by (inr f) =
             let r = found f.1 in
-            settled_more g order topological limits (IsDone g order p k) (IsDone g order p (k + 1)) before
-            sending.settled here within later grows one_more only f.0 after r.is r.same r.long
+            settled_more g order topological limits (IsDone g order p k) (IsDone g order p (k + 1)) frozen_old
+            sending.settled here within later grows one_more only f.0 frozen_new r.is r.same r.long
 
     -- all other items keep their frozen times
-    same_others : (x : ℕ) → x ≢ here → get_or before x None ≡ get_or after x None
+    same_others : (x : ℕ) → x ≢ here → get_or frozen_old x None ≡ get_or frozen_new x None
     same_others x other = by added.sends
       where
         -- by whether it isn't frozen, so that none changes, or is, so that its own alone does
-        by : IsSentFor g order added.goes here old before after added.sent → get_or before x None ≡ get_or after x None
+        by : IsSentFor g order added.goes here old frozen_old frozen_new added.sent →
+            get_or frozen_old x None ≡ get_or frozen_new x None
         by (inl th) = sym (ap (λ fs. get_or fs x None) th.1)
         by (inr f) = let r = found f.1 in sym (r.same x other)
 
     -- each of the new frozen times is below 2^58
-    early_after : AreEarly after
-    early_after = early_from_low g order after limits topological settled_then.count settled_then.low
+    early_after : AreEarly frozen_new
+    early_after = early_from_low g order frozen_new limits topological settled_then.count settled_then.low
 
     -- ---- the lines
 
@@ -326,40 +329,40 @@ module _ (g : Graph) (limits : IsWithinLimits g) (order : List ℕ) (topological
     hold_old rows hold = record {
       sends = λ x h sent sooner path time j is. hold.sends x h sent sooner path time
           (subst (λ (tree : TreeState (Option ℕ)). Contains tree.paths path)
-          (sym (other_times g order chooser here old new before after added x (apart x h (inl sooner)))) j) is;
+          (sym (other_times g order chooser here old new frozen_old frozen_new added x (apart x h (inl sooner)))) j) is;
     }
 
     -- given: rows that hold what the new trees list, and one scenario with its run
     -- `rows`, `hold`: the rows that hold the new trees; `s`, `law`, `t`, `run`: a scenario and its run
     module _ (rows : List (List Column)) (hold : RowsHold g order (place order p) new rows) (s : Scenario)
-        (law : IsScenario g s) (t : Times) (run : IsRun g order after s t) where
+        (law : IsScenario g s) (t : Times) (run : IsRun g order frozen_new s t) where
       -- the old trees give the lines of this run, since its times agree before the item with those under the old frozen
       -- times
       old_lines : SendLines g order rows s t p k old
       old_lines =
-          let r = a_run g order before s topological in
+          let r = a_run g order frozen_old s topological in
           send_lines_over g order topological p l k inside s r.0 t
-          (agree_before g order topological s r.0 t before after r.1 run (moment g order here)
+          (agree_before g order topological s r.0 t frozen_old frozen_new r.1 run (moment g order here)
           (λ x h m. same_others x (λ e. let same = ap (moment g order) e in absurd (omega (arith, m, same)))))
           rows old (sending.lines rows (hold_old rows hold) s law r.0 r.1)
 
       -- each time of the run is below 2^59
       small : AreSmall t
-      small = run_small g order after s t limits topological law early_after run
+      small = run_small g order frozen_new s t limits topological law early_after run
 
       -- the new tree of the item gives its time, with the literals that its row carries
       valued_here : HasValueFrom s (carried g order rows s here) (get_or t.times here None) (times_of g new here)
       valued_here = subst (λ ls. HasValueFrom s ls (get_or t.times here None) (times_of g new here))
           (sym (carried_sent g order rows s here (item_at g here) goes_over))
-          (item_valued g limits order topological rows s law (scenario_few g s law) after t run small p l k inside
-          chooser old new before after sending.trees added on_node (chosen s law)
+          (item_valued g limits order topological rows s law (scenario_few g s law) frozen_new t run small p l k inside
+          chooser old new frozen_old frozen_new sending.trees added on_node (chosen s law)
           (λ on. old_lines.ends p l p_ends) old_lines.here refl (omega (arith, within, sending.settled.count)) unset
           (λ is. settled_then.each here within is one_more))
 
       -- the new tree of free slots says when they are free once it is sent, if a later item waits for that
       freed : IsQueuedFor g order (place order p) (node_of g p) → IsFreeOnce g order rows s t p (k + 1) new
-      freed q = free_once g limits order topological rows s law (scenario_few g s law) after t run small p l k inside
-          chooser old new before after sending.trees added on_node (chosen s law)
+      freed q = free_once g limits order topological rows s law (scenario_few g s law) frozen_new t run small p l k inside
+          chooser old new frozen_old frozen_new sending.trees added on_node (chosen s law)
           (λ on. old_lines.ends p l p_ends) old_lines.here refl (omega (arith, within, sending.settled.count)) unset
           (λ is. settled_then.each here within is one_more) q
 
@@ -371,7 +374,7 @@ module _ (g : Graph) (limits : IsWithinLimits g) (order : List ℕ) (topological
         times = λ x h done. elim (only x done) [
           | inl d ↦ subst
               (λ (tree : TreeState (Option ℕ)). HasValueFrom s (carried g order rows s x) (get_or t.times x None) tree)
-              (sym (other_times g order chooser here old new before after added x (apart x h d)))
+              (sym (other_times g order chooser here old new frozen_old frozen_new added x (apart x h d)))
               (old_lines.times x h d)
           | inr e ↦ subst (λ z. HasValueFrom s (carried g order rows s z) (get_or t.times z None) (times_of g new z))
               (sym e) valued_here
@@ -379,14 +382,14 @@ module _ (g : Graph) (limits : IsWithinLimits g) (order : List ℕ) (topological
         -- the ends, and when nodes are ready, are as before
         ends = λ q h less. subst (λ (tree : TreeState (Option ℕ)).
             HasValueFrom s (carried_at_end g order rows s q) (get_or t.ends q None) tree)
-            (sym (same_ends g order chooser here old new before after added q)) (old_lines.ends q h less);
+            (sym (same_ends g order chooser here old new frozen_old frozen_new added q)) (old_lines.ends q h less);
         ready = λ node h w. subst (λ (tree : TreeState ℕ). IsReadyLine g order rows s t (place order p + 1) node tree)
-            (sym (same_ready g order chooser here old new before after added node))
+            (sym (same_ready g order chooser here old new frozen_old frozen_new added node))
             (old_lines.ready node h w);
         here = freed;
         -- the slots of other nodes are free as before
         free = λ node h other q. subst (λ (tree : TreeState ℕ). IsFreeLine g order rows s t (place order p) node tree)
-            (sym (other_free g order chooser here old new before after added node
+            (sym (other_free g order chooser here old new frozen_old frozen_new added node
             (λ e. other (e ∙ ap (node_of g) by_p)))) (old_lines.free node h other q);
       }
 
@@ -394,7 +397,7 @@ module _ (g : Graph) (limits : IsWithinLimits g) (order : List ℕ) (topological
     unsent_then : LeavesUnsent g new
     unsent_then x big h is =
         subst (λ (tree : TreeState (Option ℕ)). IsConstant None g.faults tree)
-        (sym (other_times g order chooser here old new before after added x
+        (sym (other_times g order chooser here old new frozen_old frozen_new added x
         (λ e. absurd (not_both (sym (ap (is_sent g) e ∙ goes_over) ∙ is))))) (sending.unsent x big h is)
       where
         -- what is excluded: an item that is sent and isn't
@@ -402,7 +405,7 @@ module _ (g : Graph) (limits : IsWithinLimits g) (order : List ℕ) (topological
         not_both e = cc
 
     -- with the item added, the first k + 1 items are sent
-    pub next_sent : IsSending g order p (k + 1) after new
+    pub next_sent : IsSending g order p (k + 1) frozen_new new
     next_sent = record {
       trees = trees;
       unsent = unsent_then;
@@ -410,33 +413,35 @@ module _ (g : Graph) (limits : IsWithinLimits g) (order : List ℕ) (topological
       lines = λ rows hold s law t run. send_lines rows hold s law t run;
     }
 
-  -- with all items added that are left, the whole queue is sent
+  -- if p has sent the first k items of its queue, and `xs`, the items that are left, are added, it has sent the whole
+  -- queue
   rest_sent : (xs : List ℕ) (k : ℕ) → k + length xs ≡ length (queue_of g p) →
       ((i : ℕ) → i < length xs → get_or xs i 0 ≡ get_or (queue_of g p) (k + i) 0) →
-      (old new : ForestState) (before after : List (Option ℕ)) →
-      IsSending g order p k before old → AreItemsAdded g order chooser xs old new before after →
-      IsSending g order p (length (queue_of g p)) after new
+      (old new : ForestState) (frozen_old frozen_new : List (Option ℕ)) →
+      IsSending g order p k frozen_old old → AreItemsAdded g order chooser xs old new frozen_old frozen_new →
+      IsSending g order p (length (queue_of g p)) frozen_new new
   -- by induction on the list
-  rest_sent [] k count is old new before after sending none =
+  rest_sent [] k count is old new frozen_old frozen_new sending none =
       -- all that the process sends is sent
       let all : k ≡ length (queue_of g p) = omega (arith, count) in
-      subst (λ n. IsSending g order p n after new) all (subst (λ f. IsSending g order p k after f) (sym none.0)
+      subst (λ n. IsSending g order p n frozen_new new) all (subst (λ f. IsSending g order p k frozen_new f) (sym none.0)
       (subst (λ h. IsSending g order p k h old) (sym none.1) sending))
-  rest_sent (x ∷ xs) k count is old new before after sending more =
+  rest_sent (x ∷ xs) k count is old new frozen_old frozen_new sending more =
       -- the next item is the one at place k of its queue
       let inside : k < length (queue_of g p) = omega (arith, count) in
-      let first : x ≡ get_or (queue_of g p) k 0 =
+      let is_head : x ≡ get_or (queue_of g p) k 0 =
       is 0 (omega arith) ∙ ap (λ n. get_or (queue_of g p) n 0) (let e : k + 0 ≡ k = omega arith in e) in
       rest_sent xs (k + 1) (omega (arith, count)) (λ i h. is (suc i) (omega (arith, h))
       ∙ ap (λ n. get_or (queue_of g p) n 0) (let e : k + suc i ≡ k + 1 + i = omega arith in e)) more.0 new more.1
-      after
-      (next_sent k inside old more.0 before more.1 sending
-      (subst (λ y. IsItemAdded g order chooser y old more.0 before more.1) first more.2)) more.3
+      frozen_new
+      (next_sent k inside old more.0 frozen_old more.1 sending
+      (subst (λ y. IsItemAdded g order chooser y old more.0 frozen_old more.1) is_head more.2)) more.3
 
   -- once all that a process sends is added, the trees are grown up to its place, with all its items sent
-  pub all_sent : (old new : ForestState) (before after : List (Option ℕ)) → IsSending g order p 0 before old →
-      AreItemsAdded g order chooser (queue_of g p) old new before after →
-      IsSending g order p (length (queue_of g p)) after new
-  all_sent old new before after sending added = rest_sent (queue_of g p) 0 (omega arith)
-      (λ i h. let first : ℕ = 0 in ap (λ n. get_or (queue_of g p) n 0) (let e : i ≡ first + i = omega arith in e))
-      old new before after sending added
+  pub all_sent : (old new : ForestState) (frozen_old frozen_new : List (Option ℕ)) →
+      IsSending g order p 0 frozen_old old →
+      AreItemsAdded g order chooser (queue_of g p) old new frozen_old frozen_new →
+      IsSending g order p (length (queue_of g p)) frozen_new new
+  all_sent old new frozen_old frozen_new sending added = rest_sent (queue_of g p) 0 (omega arith)
+      (λ i h. let place_0 : ℕ = 0 in ap (λ n. get_or (queue_of g p) n 0) (let e : i ≡ place_0 + i = omega arith in e))
+      old new frozen_old frozen_new sending added

@@ -87,11 +87,11 @@ module _ (g : Graph) (order : List ℕ) (topological : IsTopological g order) (p
               omega (arith, at, e)
         ]
 
-    -- so both times have the same such ends
+    -- so such an end is the same in both runs
     end_over : (q : ℕ) → q < process_count g → place order q < place order p + 1 → end_in t q ≡ end_in u q
     end_over q h less = ap (λ o. unwrap_or o 0) (a.ends q h (end_before q less))
 
-    -- by both a node hears a condition that decides such a process at the same time
+    -- in both runs a node hears a condition that decides such a process at the same time
     heard_over : (node q c : ℕ) → place order q < place order p + 1 → c < condition_count g →
         decides g s.values q c ≡ true →
         heard_there g t node c ≡ heard_there g u node c
@@ -104,7 +104,7 @@ module _ (g : Graph) (order : List ℕ) (topological : IsTopological g order) (p
         (ap (λ o. unwrap_or o 0 + slot_length g (home g (broadcast_item g c)))
         (before_place.items (broadcast_item g c) (omega arith) (broadcast_sooner g order topological p c up)))
 
-    -- by both a node is ready at the same time
+    -- in both runs a node is ready behind p at the same time
     ready_over : (node v : ℕ) → IsReady g order s t (place order p + 1) node v →
         IsReady g order s u (place order p + 1) node v
     ready_over node v r = record {
@@ -114,7 +114,7 @@ module _ (g : Graph) (order : List ℕ) (topological : IsTopological g order) (p
           (λ q c h less on k d. subst (λ n. n ≤ b) (sym (heard_over node q c less k d)) (y q c h less on k d));
     }
 
-    -- after an item that is sent before this one, the slots are free at the same time by both
+    -- in both runs the slots are free at the same time after an item that is sent before this one
     after_over : (y : ℕ) → IsSentBy g order s p k y → free_after g t y ≡ free_after g u y
     after_over y b = ap (λ o. unwrap_or o 0 + round g) (a.items y b.0.within (done_sooner y b.0.within (done b.1)))
       where
@@ -123,7 +123,7 @@ module _ (g : Graph) (order : List ℕ) (topological : IsTopological g order) (p
         done (inl e) = inl e
         done (inr c) = inr (inr c)
 
-    -- so by both the slots are free at the same time before this item
+    -- so in both runs the slots are free for this item at the same time
     free_over : (v : ℕ) → IsMost (IsSentBy g order s p k) (free_after g t) v →
         IsMost (IsSentBy g order s p k) (free_after g u) v
     free_over v m = record {
@@ -143,6 +143,9 @@ module _ (g : Graph) (order : List ℕ) (topological : IsTopological g order) (p
       ready = λ node h w. let r = lines.ready node h w in
           record { time = r.time; is = ready_over node r.time r.is; has_value = r.has_value };
       here = λ q. let h = lines.here q in record { time = h.time; is = free_over h.time h.is; has_value = h.has_value };
-      free = λ node h other q. let r = lines.free node h other q in record
-          { time = r.time; is = free_same g order topological s t u (place order p) before_place node r.time r.is; has_value = r.has_value };
+      free = λ node h other q. let r = lines.free node h other q in record {
+        time = r.time;
+        is = free_same g order topological s t u (place order p) before_place node r.time r.is;
+        has_value = r.has_value;
+      };
     }

@@ -60,13 +60,13 @@ module _ (g : Graph) (order : List ℕ) (topological : IsTopological g order) (s
             (producer_in_range g order topological y q.within))
             (omega (arith, o.1, ap (place order) q.by, ap (place order) x.by)))))
         -- sent before it by the same process
-        | inr first ↦
-            let q = in_queue g p y (Contains-take k (queue_of g p) y first) in
+        | inr among ↦
+            let q = in_queue g p y (Contains-take k (queue_of g p) y among) in
             let same : (home g y == home g here) ≡ true = eq-eqb _ _ (ap (node_of g) (q.by ∙ sym x.by)) in
             queued_from g order topological here y q.within
             (and_from _ _ (and_from _ _ q.sent same) (or_right _ _
             (and_from _ _ (eq-eqb _ _ (q.by ∙ sym x.by))
-            (lt-ltb _ _ (below_first (rank_at g) (queue_of g p) (queue_rises g p) k inside y first)))))
+            (lt-ltb _ _ (below_first (rank_at g) (queue_of g p) (queue_rises g p) k inside y among)))))
       ]
 
   -- only what the node has sent so far stands before the item in the queue
@@ -136,7 +136,7 @@ module _ (g : Graph) (order : List ℕ) (topological : IsTopological g order) (s
                   (take (k + 1) (queue_of g p)) z (in_next (queue_of g p) k z inside (inl i))
             ]
 
-        -- what stands before the item, and the item itself, are all that is sent by then
+        -- what the items before it and the item itself leave is left by all that is sent by then
         within : (m : Literal) → Contains (support_all (queued_before g order here) ++ queued g order rows s here) m →
             Contains (support_all (sent_so_far g order p (k + 1))) m
         -- a literal is left by what stands before the item, or by the item itself

@@ -80,22 +80,23 @@ module _ (g : Graph) (limits : IsWithinLimits g) (order : List ℕ) (topological
   acts = producer_active g s.values (item_at g here)
 
   -- given: an item that is added to the trees, with what the trees said before
-  -- `old`, `before`, `trees`: trees and frozen times without the item; `new`, `after`, `added`: those with it
+  -- `old`, `frozen_old`, `trees`: trees and frozen times without the item; `new`, `frozen_new`, `added`: those with it
   -- `on_node`: p is on a node of the graph; `chosen`: the chooser says where p is active; `ended`: the old trees have
   -- p's end
   -- `once`: they have when its slots are free, if an item waits for that
   -- `same`, `long`, `unset`: the item had no frozen time, and has that of the run now
   -- `settled`: a frozen item's time is the greatest that it would have
-  module _ (chooser : TreeState Bool) (old new : ForestState) (before after : List (Option ℕ)) (trees : HasTrees g old)
-      (added : IsItemAdded g order chooser here old new before after)
+  module _ (chooser : TreeState Bool) (old new : ForestState) (frozen_old frozen_new : List (Option ℕ))
+      (trees : HasTrees g old)
+      (added : IsItemAdded g order chooser here old new frozen_old frozen_new)
       (on_node : node_of g p < length g.nodes)
       (chosen : HasValueFrom s (decided g s p) (active g s.values p) chooser)
       (ended : active g s.values p ≡ true →
       HasValueFrom s (carried_at_end g order rows s p) (get_or t.ends p None) (ends_of g old p))
       (once : IsQueuedFor g order (place order p) (node_of g p) → IsFreeOnce g order rows s t p k old)
-      (same : get_or frozen here None ≡ get_or after here None)
-      (long : here < length before)
-      (unset : get_or before here None ≡ None)
+      (same : get_or frozen here None ≡ get_or frozen_new here None)
+      (long : here < length frozen_old)
+      (unset : get_or frozen_old here None ≡ None)
       (settled : is_frozen g here ≡ true → IsFrozenTime g order frozen here) where
     -- the literals of the value by which an active producer sends it
     value_part : List Literal
@@ -147,7 +148,7 @@ module _ (g : Graph) (limits : IsWithinLimits g) (order : List ℕ) (topological
     -- ---- its times
 
     -- the tree of an item that is not frozen gives its time in the run
-    of_thawed : IsFreeOnce g order rows s t p k old → is_frozen g here ≡ false → after ≡ before →
+    of_thawed : IsFreeOnce g order rows s t p k old → is_frozen g here ≡ false → frozen_new ≡ frozen_old →
         IsSentTree g.faults (share_of g (home g here)) added.goes (ends_of g old (producer g here))
         (free_of g old (home g here)) added.sent →
         HasValueFrom s (carried_at_send g order rows s here) (get_or t.times here None) added.sent
@@ -178,7 +179,7 @@ module _ (g : Graph) (limits : IsWithinLimits g) (order : List ℕ) (topological
       | inr off ↦ cond-false _ _ _ off ∙ sym (time_is g order frozen s t run here within ∙ cond-false _ _ _ off)
     ]
 
-    -- the item itself goes by when its slots are free, if it isn't frozen
+    -- if the item isn't frozen, it is itself one that waits for the slots of p's node
     queued_here : is_frozen g here ≡ false → IsQueuedFor g order (place order p) (node_of g p)
     queued_here thawed = record {
       other = here;
@@ -194,12 +195,12 @@ module _ (g : Graph) (limits : IsWithinLimits g) (order : List ℕ) (topological
     sends_valued = by added.sends
       where
         -- by whether it isn't frozen, or is sent at its frozen time
-        by : IsSentFor g order added.goes here old before after added.sent →
+        by : IsSentFor g order added.goes here old frozen_old frozen_new added.sent →
             HasValueFrom s (carried_at_send g order rows s here) (get_or t.times here None) added.sent
         by (inl th) = of_thawed (once (queued_here th.0)) th.0 th.1 th.2
         by (inr f) = subst (λ (o : Option ℕ). HasValueFrom s (carried_at_send g order rows s here) o added.sent)
             (frozen_time f.0 f.1.latest
-            (same ∙ ap (λ h. get_or h here None) f.1.frozen.set ∙ set_here before here f.1.latest long unset))
+            (same ∙ ap (λ h. get_or h here None) f.1.frozen.set ∙ set_here frozen_old here f.1.latest long unset))
             (frozen_send_line g order rows s few here says added.goes of_goes at_most f.0 added.sent
             (unwrap_or f.1.latest 0) added.goes_tree f.1.frozen.made)
 

@@ -102,7 +102,7 @@ module _ (g : Graph) (limits : IsWithinLimits g) (order : List ℕ) (topological
     (lines : Lines g order rows s t (place order p) f)
     (guards : Guards) (are : (q : ℕ) → q < process_count g → IsGuardOf g urgency q (tree_of guards q))
     (chooser : TreeState Bool) (actives : IsActiveTree g.faults (tree_of guards p) chooser)
-    (from : ℕ) (cut : IsCut g order guards (node_of g p) (place order p) from) where
+    (from : ℕ) (cut : IsCut g order guards (node_of g p) from (place order p)) where
   -- the scenario has at most the graph's faults
   few : HasAtMostFaults g.faults s
   few = scenario_few g s law
@@ -189,29 +189,29 @@ module _ (g : Graph) (limits : IsWithinLimits g) (order : List ℕ) (topological
   -- given: an input of p
   module _ (e : ℕ) (c : Contains (inputs g p) e) where
     -- the edge is one of the graph, and leads to p
-    parts : (e < edge_count g) × (target g e ≡ p)
-    parts = inputs_parts g p e c
+    edge_of : (e < edge_count g) × (target g e ≡ p)
+    edge_of = inputs_parts g p e c
 
     -- its message is an item of the graph
     item_within : message_item g e < item_count g
-    item_within = let n = parts.0 in omega arith
+    item_within = let n = edge_of.0 in omega arith
 
-    -- the process that sends it stands before p
+    -- the producer of its message stands before p
     earlier : place order (producer g (message_item g e)) < place order p
-    earlier = let n = ap (place order) (producer_of_message g e parts.0) in
+    earlier = let n = ap (place order) (producer_of_message g e edge_of.0) in
         omega (arith, n, input_goes_up g order topological p e c)
 
     -- if an input from another node is sent as a message, the input is live
     item_is : item_active g s.values (item_at g (message_item g e)) ≡ true → is_message g e ≡ true →
         live g s.values e ≡ true
     item_is acts m = (and_parts (is_message g e) (live g s.values e)
-        (subst (λ x. item_active g s.values x ≡ true) (item_at-message g e parts.0) acts)).1
+        (subst (λ x. item_active g s.values x ≡ true) (item_at-message g e edge_of.0) acts)).1
 
     -- given: an input from another node
     module _ (m : is_message g e ≡ true) where
-      -- if the input is live, its message is active
+      -- if the input is live, its message is sent
       acts : live g s.values e ≡ true → item_active g s.values (item_at g (message_item g e)) ≡ true
-      acts lives = subst (λ x. item_active g s.values x ≡ true) (sym (item_at-message g e parts.0))
+      acts lives = subst (λ x. item_active g s.values x ≡ true) (sym (item_at-message g e edge_of.0))
           (and_from (is_message g e) (live g s.values e) m lives)
 
       -- the message of a live input has a time in the run, and the input is there a frame's length after it
@@ -255,7 +255,7 @@ module _ (g : Graph) (limits : IsWithinLimits g) (order : List ℕ) (topological
       same_node : node_of g (source g e) ≡ node_of g p
       same_node = elim (cases_eq (node_of g (source g e)) (node_of g p)) [
         | inl same ↦ same
-        | inr other ↦ absurd (untrue (sym (message_at g p e parts.1 other) ∙ own))
+        | inr other ↦ absurd (untrue (sym (message_at g p e edge_of.1 other) ∙ own))
       ]
 
       -- the input is there at the end of its source, and by then a process between `from` and p has ended
@@ -264,7 +264,7 @@ module _ (g : Graph) (limits : IsWithinLimits g) (order : List ℕ) (topological
           let is : input_there g t e ≡ end_in t (source g e) =
           ap (λ (b : Bool). if b then frame_there g t (message_item g e) else end_in t (source g e)) own in
           subst (HasEndAt g order f from p s) (sym is)
-          (before_ended (source g e) (source_in_order g order topological e parts.0)
+          (before_ended (source g e) (source_in_order g order topological e edge_of.0)
           (input_goes_up g order topological p e c) same_node (and_parts _ _ lives).0)
 
   -- given: a process at p's place or before it

@@ -38,7 +38,8 @@ use Rattle.cpg_tree.specs.Space.{HasAtMostFaults}
 use Rattle.cpg_tree.specs.Tree.{TreeState}
 use Rattle.cpg_expand.specs.Agreeing.{HasValueFrom}
 use Rattle.cpg_expand.specs.Forest.{ForestState, heard_tree, input_tree, heard_delay, input_delay, times_of, ends_of}
-use Rattle.cpg_expand.specs.Guarded.{AreThere, IsStartTree, awaited, start_says, start_at, value_known, values_known}
+use Rattle.cpg_expand.specs.Guarded.{AreOwnInputsThere, IsStartTree, awaited, start_literals, start_at, value_known}
+use Rattle.cpg_expand.specs.Guarded.{values_known}
 use Rattle.cpg_expand.specs.Guarded.{support_of, latest_of}
 use Rattle.cpg_expand.specs.TreeValues.{HasTreeValues}
 use Rattle.cpg_tree.specs.Later.{time_later}
@@ -239,7 +240,7 @@ module _ (g : Graph) (limits : IsWithinLimits g) (order : List ℕ) (topological
     ]
 
     -- the inputs of the node itself are there once it is ready
-    there : AreThere g (input_time g limits t small) waited (awaited (inputs g p) (outcome_at guard s.values))
+    there : AreOwnInputsThere g (input_time g limits t small) waited (awaited (inputs g p) (outcome_at guard s.values))
     there e j own =
         let k = live_input e j in
         let ended : end_in t (source g e) ≤ r =
@@ -260,7 +261,8 @@ module _ (g : Graph) (limits : IsWithinLimits g) (order : List ℕ) (topological
         same_node (inl same) = same
         same_node (inr sends) = absurd (untrue (sym sends ∙ own))
 
-    -- the tree of a start that is not frozen agrees with what is carried at the start
+    -- if p isn't frozen, the tree `start` says p's start in s, by what is carried there: the latest of the wait, the
+    -- release and the inputs, or none if p is inactive
     pub start_line : (start : TreeState (Option ℕ)) →
         IsStartTree g f wait (process_at g p).release (inputs g p) guard start →
         (process_at g p).frozen ≡ false →
@@ -280,7 +282,8 @@ module _ (g : Graph) (limits : IsWithinLimits g) (order : List ℕ) (topological
         -- the literals that the tree of the start says
         says : List Literal
         says = values_known s (way guard s.values)
-            ++ start_says wait_says (input_support g order topological rows s) (inputs g p) (outcome_at guard s.values)
+            ++ start_literals wait_says (input_support g order topological rows s) (inputs g p)
+            (outcome_at guard s.values)
 
         -- the start by the guard's leaf: the latest of the wait, the release and the awaited inputs
         at : Option ℕ
@@ -308,7 +311,7 @@ module _ (g : Graph) (limits : IsWithinLimits g) (order : List ℕ) (topological
         -- so is all that the tree says
         within : (x : Literal) → Contains says x → Contains (carried_at_start g order rows s p) x
         -- a literal is the value of a test on the way, or of the start
-        within x j = elim (Contains-append_cases (values_known s (way guard s.values)) (start_says wait_says
+        within x j = elim (Contains-append_cases (values_known s (way guard s.values)) (start_literals wait_says
             (input_support g order topological rows s) (inputs g p) (outcome_at guard s.values)) x j) [
               | inl i ↦ let r = Contains-map_parts (value_known s) (way guard s.values) x i in
                   start_carried g order topological rows s p thawed x (inl (Contains-append_left

@@ -110,7 +110,7 @@ all_kept p (x ∷ xs) e = let r = and_parts (p x) (list_all p xs) e in
 untrue : false ≡ true → ⊥
 untrue e = cc
 
--- a join that is active by its first live input awaits it; if at most one input is live, that is all the live ones
+-- if ys, the live inputs of a join, are at most one, an active join awaits just these: its first live input
 awaited_first : (xs ys : List ℕ) → length ys ≤ 1 → is_active (by_first ys) ≡ true → awaited xs (by_first ys) ≡ ys
 awaited_first xs [] l on = absurd (untrue on)
 awaited_first xs (y ∷ []) l on = refl
@@ -145,8 +145,7 @@ module _ (g : Graph) (limits : IsWithinLimits g) (order : List ℕ) (topological
       ap (awaited (inputs g p)) is ∙ awaited_is (process_at g p).join (inputs g p) (live g s.values)
       (λ e. joins p s.values l e long) (subst (λ (a : Activation). is_active a ≡ true) is on)
 
-  -- the start at a time or once the release and all awaited inputs are there is the start by the live inputs in the
-  -- run
+  -- if p waits on its node until w, its start by the inputs that it awaits is that by its live inputs in the run
   pub start_exact : (w : ℕ) →
       start_at w (process_at g p).release (input_delay g) (input_time g limits t small) (inputs g p)
       (activation g s.values p)

@@ -18,8 +18,9 @@ use Rattle.cpg_expand.specs.Agreeing.{Agrees, HasValueFrom}
 use Rattle.cpg_tree.specs.GraphTrees.{IsTree}
 use Rattle.cpg_expand.specs.Descent.{AreLeaves}
 use Rattle.cpg_expand.specs.Forest.{ForestState, ends_of, input_delay, input_tree, later_tree, times_of}
-use Rattle.cpg_expand.specs.Guarded.{AreThere, IsActiveTree, IsStartAfter, IsStartTree, IsStartWhere, WaitsForAll}
-use Rattle.cpg_expand.specs.Guarded.{awaited, start_at, start_says, values_known}
+use Rattle.cpg_expand.specs.Guarded.{AreOwnInputsThere, IsActiveTree, IsStartAfter, IsStartTree, IsStartWhere}
+use Rattle.cpg_expand.specs.Guarded.{WaitsForAll}
+use Rattle.cpg_expand.specs.Guarded.{awaited, start_at, start_literals, values_known}
 use Rattle.cpg_expand.specs.Later.{IsLaterTree, IsLatest, IsReleasedWhere}
 use Rattle.cpg_tree.specs.Later.{time_later}
 use Rattle.cpg_expand.proofs.AgreeingTrees.{agrees_constant, agrees_elsewhere, agrees_pick, agrees_weaker, agrees_where}
@@ -33,22 +34,22 @@ use Rattle.cpg_expand.proofs.GuardTrees.{support_as_first}
 -- `number`, `other_number`: the numbers that the two trees' values are read as
 -- `makes`, `none`: what is made of the greater number where the chooser is true, and what stands elsewhere
 -- `of_chooser`, `of_a`, `of_b`: the trees have the graph's faults, and one path for each scenario
--- `made`: the tree t is made so of the trees `a` and `b`; `s`, `few`, `given`: the scenario, and the literals by which
--- the chooser's value is known
+-- `made`: the tree t is made so of the trees `a` and `b`; `s`, `few`, `chosen_by`: the scenario, and the literals by
+-- which the chooser's value is known
 module _ {T U V : Type 0} (g : Graph) (number : T → ℕ) (other_number : U → ℕ) (makes : ℕ → V) (none : V)
     (chooser : TreeState Bool) (a : TreeState T) (b : TreeState U) (t : TreeState V)
     (of_chooser : IsTree g chooser) (of_a : IsTree g a) (of_b : IsTree g b)
     (made : IsJoinWhere (λ x y z. z ≡ makes (max (number x) (other_number y))) none chooser a b t)
-    (s : Scenario) (few : HasAtMostFaults g.faults s) (given : List Literal) where
+    (s : Scenario) (few : HasAtMostFaults g.faults s) (chosen_by : List Literal) where
   -- where the chooser is true, t has what is made of the greater of the two numbers; its path follows from the
-  -- chooser's literals and those of both trees
-  made_where : (first second : List Literal) (x y : ℕ) → HasValueFrom s given true chooser →
-      Agrees s first (λ v. number v ≡ x) a →
-      Agrees s second (λ w. other_number w ≡ y) b →
-      HasValueFrom s (given ++ (first ++ second)) (makes (max x y)) t
+  -- chooser's literals, from `by_a`, which say that a's number is x, and from `by_b`, which say that b's is y
+  made_where : (by_a by_b : List Literal) (x y : ℕ) → HasValueFrom s chosen_by true chooser →
+      Agrees s by_a (λ v. number v ≡ x) a →
+      Agrees s by_b (λ w. other_number w ≡ y) b →
+      HasValueFrom s (chosen_by ++ (by_a ++ by_b)) (makes (max x y)) t
   -- by `agrees_where`: equal numbers have the same greater one
-  made_where first second x y on has_value other =
-      agrees_where s (λ v w z. z ≡ makes (max (number v) (other_number w))) none chooser a b t given first second
+  made_where by_a by_b x y on has_value other =
+      agrees_where s (λ v w z. z ≡ makes (max (number v) (other_number w))) none chooser a b t chosen_by by_a by_b
       (λ v. number v ≡ x) (λ w. other_number w ≡ y) (λ z. z ≡ makes (max x y))
       (few_of g.faults chooser.faults s of_chooser.faults few) (of_a.faults ∙ sym of_chooser.faults)
       (of_b.faults ∙ sym of_chooser.faults)
@@ -56,27 +57,27 @@ module _ {T U V : Type 0} (g : Graph) (number : T → ℕ) (other_number : U →
       (each_of g chooser.faults a of_chooser.faults of_a) (each_of g chooser.faults b of_chooser.faults of_b)
       made (λ v w z d e i. i ∙ ap₂ (λ m n. makes (max m n)) d e) on has_value other
 
-  -- the same with the two trees turned: the second one's literals and number stand first
-  made_where_turned : (first second : List Literal) (x y : ℕ) → HasValueFrom s given true chooser →
-      Agrees s first (λ v. number v ≡ x) a →
-      Agrees s second (λ w. other_number w ≡ y) b →
-      HasValueFrom s (given ++ (second ++ first)) (makes (max y x)) t
+  -- the same with the two trees turned: the literals and the number of b stand first
+  made_where_turned : (by_a by_b : List Literal) (x y : ℕ) → HasValueFrom s chosen_by true chooser →
+      Agrees s by_a (λ v. number v ≡ x) a →
+      Agrees s by_b (λ w. other_number w ≡ y) b →
+      HasValueFrom s (chosen_by ++ (by_b ++ by_a)) (makes (max y x)) t
   -- the greater of two numbers, and what two lists of literals say, don't depend on which comes first
-  made_where_turned first second x y on has_value other =
-      agrees_weaker s t (given ++ (first ++ second)) (given ++ (second ++ first)) (λ z. z ≡ makes (max x y))
+  made_where_turned by_a by_b x y on has_value other =
+      agrees_weaker s t (chosen_by ++ (by_a ++ by_b)) (chosen_by ++ (by_b ++ by_a)) (λ z. z ≡ makes (max x y))
       (λ z. z ≡ makes (max y x))
-      (support_as_first given (first ++ second) (second ++ first)
-      (λ l j. elim (Contains-append_cases first second l j) [
-        | inl i ↦ Contains-append_right second first l i
-        | inr i ↦ Contains-append_left second first l i
+      (support_as_first chosen_by (by_a ++ by_b) (by_b ++ by_a)
+      (λ l j. elim (Contains-append_cases by_a by_b l j) [
+        | inl i ↦ Contains-append_right by_b by_a l i
+        | inr i ↦ Contains-append_left by_b by_a l i
       ]))
       (λ z e. e ∙ ap makes (let same : max x y ≡ max y x = omega arith in same))
-      (made_where first second x y on has_value other)
+      (made_where by_a by_b x y on has_value other)
 
   -- where the chooser is false, t has `none`, by the chooser's literals alone
-  made_elsewhere : HasValueFrom s given false chooser → HasValueFrom s given none t
+  made_elsewhere : HasValueFrom s chosen_by false chooser → HasValueFrom s chosen_by none t
   made_elsewhere off =
-      agrees_elsewhere s (λ v w z. z ≡ makes (max (number v) (other_number w))) none chooser a b t given
+      agrees_elsewhere s (λ v w z. z ≡ makes (max (number v) (other_number w))) none chooser a b t chosen_by
       (few_of g.faults chooser.faults s of_chooser.faults few)
       (each_of g chooser.faults chooser of_chooser.faults of_chooser) made off
 
@@ -98,12 +99,12 @@ module _ (g : Graph) (release delay d : ℕ) (same_delay : delay ≡ d) (times r
       IsReleasedWhere g.faults chooser wait (later_by d read) release t
   -- with the chooser by `made_where`, without it by `made_elsewhere`; the times count as their delayed numbers
   read_where wait t of_wait made = record {
-    on = λ s few given first second x y on has_value there.
+    on = λ s few chosen_by by_a by_b x y on has_value there.
         made_where g (λ n. n) (time_later delay) start_of None chooser wait times t of_chooser of_wait of_times made s
-        few given first second x y on has_value
-        (as_read g start_of delay d same_delay times read is of_times s second y there);
-    off = λ s few given off. made_elsewhere g (λ n. n)
-        (time_later delay) start_of None chooser wait times t of_chooser of_wait of_times made s few given off;
+        few chosen_by by_a by_b x y on has_value
+        (as_read g start_of delay d same_delay times read is of_times s by_b y there);
+    off = λ s few chosen_by off. made_elsewhere g (λ n. n)
+        (time_later delay) start_of None chooser wait times t of_chooser of_wait of_times made s few chosen_by off;
   }
 
   -- so are those made of some ends and of these times: the ends count as a wait without a delay
@@ -112,14 +113,14 @@ module _ (g : Graph) (release delay d : ℕ) (same_delay : delay ≡ d) (times r
       chooser times end t →
       IsReleasedWhere g.faults chooser (later_tree read_end) (later_by d read) release t
   ends_where end read_end t is_end of_end made = record {
-    on = λ s few given first second x y on has_value there.
+    on = λ s few chosen_by by_a by_b x y on has_value there.
         made_where_turned g (time_later delay) (time_later 0) start_of None chooser times end t of_chooser of_times
-        of_end made s few given second first y x on
-        (as_read g start_of delay d same_delay times read is of_times s second y there)
-        (from_ends s end first x
-        (subst (λ (u : TreeState (Option ℕ)). HasValueFrom s first x (later_tree u)) (sym is_end) has_value));
-    off = λ s few given off. made_elsewhere g (time_later delay)
-        (time_later 0) start_of None chooser times end t of_chooser of_times of_end made s few given off;
+        of_end made s few chosen_by by_b by_a y x on
+        (as_read g start_of delay d same_delay times read is of_times s by_b y there)
+        (from_ends s end by_a x
+        (subst (λ (u : TreeState (Option ℕ)). HasValueFrom s by_a x (later_tree u)) (sym is_end) has_value));
+    off = λ s few chosen_by off. made_elsewhere g (time_later delay)
+        (time_later 0) start_of None chooser times end t of_chooser of_times of_end made s few chosen_by off;
   }
 
 -- if t is released by the time of a message and its slot's length, it is released by the input that the message brings
@@ -149,22 +150,23 @@ module _ (g : Graph) (f : ForestState) (chooser : TreeState Bool) (wait : TreeSt
       IsStartWhere g f chooser wait release [] t
   -- `picked` with the side for true, and with that for false, which adds no literals
   picked_where start never of_chooser of_start of_never starts none made = record {
-    on = λ s few given of_c base x has_value support time there heard.
-        picked s few true given (base ++ []) (Some (max (max x release) 0)) of_c
+    on = λ s few chosen_by of_c base x has_value support time there heard.
+        picked s few true chosen_by (base ++ []) (Some (max (max x release) 0)) of_c
         (starts s few base x has_value support time there heard);
-    off = λ s few given of_c. agrees_weaker s t (given ++ []) given (λ y. y ≡ None) (λ y. y ≡ None)
-        (λ l j. elim (Contains-append_cases given [] l j) [ inl i ↦ i | inr i ↦ absurd (Contains-nil l i) ]) (λ y e. e)
-        (picked s few false given [] None of_c (agrees_constant s None g.faults never (λ y. y ≡ None) refl none));
+    off = λ s few chosen_by of_c. agrees_weaker s t (chosen_by ++ []) chosen_by (λ y. y ≡ None) (λ y. y ≡ None)
+        (λ l j. elim (Contains-append_cases chosen_by [] l j) [ inl i ↦ i | inr i ↦ absurd (Contains-nil l i) ]) (λ y e. e)
+        (picked s few false chosen_by [] None of_c (agrees_constant s None g.faults never (λ y. y ≡ None) refl none));
   }
     where
       -- the tree t has the starts where the process is active, and no start elsewhere; its path follows from the
       -- chooser's literals and those of the side that is picked
-      picked : (s : Scenario) → HasAtMostFaults g.faults s → (b : Bool) (given second : List Literal) (y : Option ℕ) →
-          HasValueFrom s given b chooser
-          → HasValueFrom s second y (if b then start else never) →
-          HasValueFrom s (given ++ second) y t
-      picked s few b given second y of_c of_picked =
-          agrees_pick s chooser start never t b given second (λ z. z ≡ y)
+      picked : (s : Scenario) → HasAtMostFaults g.faults s →
+          (b : Bool) (chosen_by by_picked : List Literal) (y : Option ℕ) →
+          HasValueFrom s chosen_by b chooser
+          → HasValueFrom s by_picked y (if b then start else never) →
+          HasValueFrom s (chosen_by ++ by_picked) y t
+      picked s few b chosen_by by_picked y of_c of_picked =
+          agrees_pick s chooser start never t b chosen_by by_picked (λ z. z ≡ y)
           (few_of g.faults chooser.faults s of_chooser.faults few) (of_start.faults ∙ sym of_chooser.faults)
           (of_never.faults ∙ sym of_chooser.faults)
           (each_of g chooser.faults chooser of_chooser.faults of_chooser)
@@ -175,7 +177,7 @@ module _ (g : Graph) (f : ForestState) (chooser : TreeState Bool) (wait : TreeSt
   pub own_where : (e : ℕ) (es : List ℕ) → is_message g e ≡ false → IsStartWhere g f chooser wait release es t →
       IsStartWhere g f chooser wait release (e ∷ es) t
   own_where e es own starts = record {
-    on = λ s few given of_c. own_input g f s given wait t release e es own (starts.on s few given of_c);
+    on = λ s few chosen_by of_c. own_input g f s chosen_by wait t release e es own (starts.on s few chosen_by of_c);
     off = starts.off;
   }
 
@@ -186,8 +188,8 @@ module _ (g : Graph) (f : ForestState) (chooser : TreeState Bool) (wait : TreeSt
       IsStartWhere g f chooser both release es t → IsStartWhere g f chooser wait release (e ∷ es) t
   one_where there both e es later latest starts =
       record {
-        on = λ s few given of_c.
-            one_input g f s given few wait there both t release e es later latest (starts.on s few given of_c);
+        on = λ s few chosen_by of_c.
+            one_input g f s chosen_by few wait there both t release e es later latest (starts.on s few chosen_by of_c);
         off = starts.off;
       }
 
@@ -197,8 +199,8 @@ module _ (g : Graph) (f : ForestState) (chooser : TreeState Bool) (wait : TreeSt
       IsReleasedWhere g.faults chooser wait (later_by (input_delay g e) (input_tree g f e)) release t →
       IsStartWhere g f chooser wait release (e ∷ es) t
   last_where e es own starts = record {
-    on = λ s few given of_c. last_input g f s given wait t release e es own
-        (λ base second x y has_value there. starts.on s few given base second x y of_c has_value there);
+    on = λ s few chosen_by of_c. last_input g f s chosen_by wait t release e es own
+        (λ base by_picked x y has_value there. starts.on s few chosen_by base by_picked x y of_c has_value there);
     off = starts.off;
   }
 
@@ -231,9 +233,10 @@ active_starts g f chooser wait release inputs guard t all actives starts s few b
 
     -- by what the guard leads to: an active process has these starts, and an inactive one has none
     by : (a : Activation) → WaitsForAll a → HasValueFrom s values (is_active a) chooser →
-        AreThere g time x (awaited inputs a) →
+        AreOwnInputsThere g time x (awaited inputs a) →
         ((e : ℕ) → Contains (awaited inputs a) e → HasValueFrom s (support e) (time e) (input_tree g f e)) →
-        HasValueFrom s (values ++ start_says base support inputs a) (start_at x release (input_delay g) time inputs a) t
+        HasValueFrom s (values ++ start_literals base support inputs a)
+        (start_at x release (input_delay g) time inputs a) t
     by Plain w active ready heard = starts.on s few values active base x has_value support time ready heard
     by Inactive w active ready heard = agrees_weaker s t values (values ++ []) (λ y. y ≡ None) (λ y. y ≡ None)
         (λ l j. Contains-append_left values [] l j) (λ y e. e) (starts.off s few values active)

@@ -16,7 +16,7 @@ pub tested_leaf : (k : ℕ) (a : Activation) (c : ℕ) (t : TreeState Bool) → 
     IsTestedOn k (Leaf a) c t
 tested_leaf k a c t is s few = agrees_constant s false k t (λ y. y ≡ false) refl is
 
--- if the first test is of the condition, the guard tests it everywhere
+-- a guard whose first test is of the condition `wanted` tests it everywhere, so a tree t that is always true is right
 pub tested_first : (k c : ℕ) (off on : Guard) (wanted : ℕ) (t : TreeState Bool) → c ≡ wanted → IsConstant true k t →
     IsTestedOn k (Test c off on) wanted t
 tested_first k c off on wanted t same always s few =
@@ -30,7 +30,8 @@ tested_first k c off on wanted t same always s few =
     found = ap (λ (b : Bool). b || list_any (λ d. d == wanted)
         (if get_or s.values c false then way on s.values else way off s.values)) (eq-eqb c wanted same)
 
--- if the first test is of another condition, the guard tests it where the side that is picked does
+-- a guard whose first test is of another condition, c, tests `wanted` where the side that c's value picks does: t picks
+-- y, the tree of `on`, or f, that of `off`
 pub tested_further : (k c : ℕ) (off on : Guard) (wanted : ℕ) (f y t : TreeState Bool) → (c ≡ wanted → ⊥) →
     IsTestedOn k off wanted f → IsTestedOn k on wanted y →
     PicksByValue k c y f t →
@@ -54,12 +55,12 @@ tested_further k c off on wanted f y t other of_off of_on picks s few = go (get_
 
 -- ---- what is tested is on the way
 
--- a condition that is tested is on the guard's way, and each one on the way is tested
+-- a condition that the guard tests in an outcome is on its way there
 pub tested_parts : (guard : Guard) (o : List Bool) (c : ℕ) → is_tested guard o c ≡ true → Contains (way guard o) c
 tested_parts guard o c is =
     let found = list_any_parts (λ d. d == c) (way guard o) is in
     subst (Contains (way guard o)) (eqb-true found.0 c found.2) found.1
 
--- a condition on the way of a guard is tested
+-- a condition on the guard's way in an outcome is one that it tests there
 pub tested_from : (guard : Guard) (o : List Bool) (c : ℕ) → Contains (way guard o) c → is_tested guard o c ≡ true
 tested_from guard o c there = list_any_true (λ d. d == c) (way guard o) c there (eq-eqb c c refl)

@@ -33,7 +33,7 @@ module _ (g : Graph) (order : List ℕ) (topological : IsTopological g order) (s
   before_in q k less same = Contains-filter (λ (u : ℕ). node_of g u == node_of g p) (before order p) q (eq-eqb _ _ same)
       (Contains-before order q p (Contains-order (process_count g) order topological.all q k) less)
 
-  -- and one of those is a process of p's node that stands before p
+  -- each of those before p on its node is a process of p's node that stands before p
   pub before_parts : (q : ℕ) → Contains (before_on_node g order p) q →
       (q < process_count g) × (place order q < place order p) × (node_of g q ≡ node_of g p)
   before_parts q c =
@@ -47,14 +47,14 @@ module _ (g : Graph) (order : List ℕ) (topological : IsTopological g order) (s
   pub release_in : (process_at g p).release ≤ greatest (start_bounds g order s t p)
   release_in = bound (process_at g p).release (Contains-first _ _)
 
-  -- nor are the times at which the inputs are there
+  -- no live input is there later than the greatest of the bounds
   pub inputs_in : greatest (input_bounds g s t p) ≤ greatest (start_bounds g order s t p)
   inputs_in = greatest-le (input_bounds g s t p) least_start (λ v k. bound v
       (Contains-rest _ _ _ (Contains-append_left (input_bounds g s t p ++ processor_bounds g order s t p)
       (hearing_bounds g order s t p) v
       (Contains-append_left (input_bounds g s t p) (processor_bounds g order s t p) v k))))
 
-  -- nor is the end of an active process before p on its node
+  -- no active process before p on its node ends later than the greatest of the bounds
   pub end_in_bounds : (q : ℕ) → Contains (before_on_node g order p) q → active g s.values q ≡ true →
       end_in t q ≤ greatest (start_bounds g order s t p)
   end_in_bounds q k acts = bound (end_in t q)
@@ -64,7 +64,7 @@ module _ (g : Graph) (order : List ℕ) (topological : IsTopological g order) (s
       (Contains-map (end_in t) (filter (active g s.values) (before_on_node g order p)) q
       (Contains-filter (active g s.values) (before_on_node g order p) q acts k)))))
 
-  -- nor is the time at which the node hears a condition that decides one of these or p
+  -- no condition that decides one of these or p is heard on the node later than the greatest of the bounds
   pub heard_in_bounds : (q c : ℕ) → Contains (before_on_node g order p ++ p ∷ []) q → c < condition_count g →
       decides g s.values q c ≡ true →
       heard_there g t (node_of g p) c ≤ greatest (start_bounds g order s t p)
@@ -77,6 +77,6 @@ module _ (g : Graph) (order : List ℕ) (topological : IsTopological g order) (s
       (Contains-filter (decides g s.values q) (numbers_below (condition_count g)) c d
       (Contains-numbers (condition_count g) c h))))))
 
-  -- their greatest is the time that p's start would have if it weren't frozen
+  -- the greatest of the bounds is the time that p's start would have if it weren't frozen
   pub unfrozen_is : p < process_count g → unfrozen_time g order s t p ≡ greatest (start_bounds g order s t p)
   unfrozen_is l = ap (λ j. greatest (bounds_of_item g order s t p j)) (item_at-start g p l)

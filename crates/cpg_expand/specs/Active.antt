@@ -1,4 +1,4 @@
--- Trees of where items are active.
+-- What a tree of where an item is active says.
 use Rattle.std.specs.Prelude.{ℕ, ◌≡◌, Bool}
 use Rattle.cpg_base.specs.Graph.{Graph, item_at}
 use Rattle.cpg_base.specs.Activity.{item_active}

@@ -14,7 +14,7 @@ abbrev pub AreLeaves : (Activation → Type 0) → Guard → Type 0
 AreLeaves fact (Leaf a) = fact a
 AreLeaves fact (Test c off on) = AreLeaves fact off × AreLeaves fact on
 
--- the tree of each known guard has the fact `made`, and `fits` relates the guard to it
+-- in the list of known guards, each tree has the fact `made`, and `fits` relates its guard to it
 abbrev pub AreKnown : {T : Type 0} → (TreeState T → Type 0) → (Guard → TreeState T → Type 0) → List (KnownGuard T) →
     Type 0
 AreKnown {T} made fits known = All (λ (k : KnownGuard T). made k.tree × fits k.guard.now k.tree) known
@@ -24,29 +24,30 @@ abbrev pub IsAt : {T : Type 0} → List (KnownGuard T) → ℕ → Guard → Typ
 IsAt {T} known i g = (i < length known) × HoldsAt (λ (k : KnownGuard T). k.guard.now ≡ g) known i
 
 -- each guard that `old` has at a place is at the same place in `new`
-abbrev pub AreKept : {T : Type 0} → List (KnownGuard T) → List (KnownGuard T) → Type 0
-AreKept old new = (i : ℕ) (g : Guard) → IsAt old i g → IsAt new i g
+abbrev pub ArePlacesKept : {T : Type 0} → List (KnownGuard T) → List (KnownGuard T) → Type 0
+ArePlacesKept old new = (i : ℕ) (g : Guard) → IsAt old i g → IsAt new i g
 
--- the source, if it is a place of the list, is within the list
+-- if the source is a place, that is within the list of known guards
 abbrev pub IsThere : {T : Type 0} → List (KnownGuard T) → Source T → Type 0
 IsThere known (At i) = i < length known
 IsThere known (Alone t) = Unit {0}
 
--- r is the tree that the source names: the one at its place in the list, or its own
+-- r is the tree that the source names: the one at its place in the list of known guards, or its own
 abbrev pub IsTreeOf : {T : Type 0} → List (KnownGuard T) → Source T → TreeState T → Type 0
 IsTreeOf {T} known (At i) r = HoldsAt (λ (k : KnownGuard T). r ≡ k.tree) known i
 IsTreeOf known (Alone t) r = r ≡ t
 
--- The source is right for guard g: it is a place at which the list has g, or a tree of its own that is made and fits
--- g.
+-- The source is right for guard g: it is a place at which the list has g, or a tree of its own that has the fact `made`
+-- and to which `fits` relates g.
 abbrev pub IsFound : {T : Type 0} → (TreeState T → Type 0) → (Guard → TreeState T → Type 0) → List (KnownGuard T) →
     Guard → Source T → Type 0
 IsFound made fits known g (At i) = IsAt known i g
 IsFound made fits known g (Alone t) = made t × fits g t
 
--- What adding a guard with its tree did. At a place: the list has grown by the two, and the place is the last. Alone:
--- the list stays, and the tree is handed back.
-abbrev pub IsAdded : {T : Type 0} → List (KnownGuard T) → List (KnownGuard T) → Guard → TreeState T → Source T → Type 0
-IsAdded {T} old new g tree (At i) =
+-- What adding guard g with its tree did to the list `old`, which is now `new`. If the source is a place, the list has
+-- grown by the two, and the place is the last. If the source is alone, the list stays, and the tree is handed back.
+abbrev pub IsGuardAdded : {T : Type 0} → List (KnownGuard T) → List (KnownGuard T) → Guard → TreeState T → Source T →
+    Type 0
+IsGuardAdded {T} old new g tree (At i) =
     (i ≡ length old) × (k : KnownGuard T) × (new ≡ old ++ (k ∷ [])) × (k.guard.now ≡ g) × (k.tree ≡ tree)
-IsAdded old new g tree (Alone t) = (new ≡ old) × (t ≡ tree)
+IsGuardAdded old new g tree (Alone t) = (new ≡ old) × (t ≡ tree)

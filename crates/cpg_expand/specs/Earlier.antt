@@ -30,15 +30,16 @@ pub record AreAlong (g : Graph) (guards : Guards) (order : List ℕ) : Type 0 wh
   -- the order has as many places as there are processes
   pub places : length order ≡ process_count g
 
--- whether every leaf of the guard is active, so that the process is active in every outcome
+-- whether every leaf of the guard is active, so that its process is active in every outcome
 abbrev pub is_always : Guard → Bool
 is_always (Leaf a) = is_active a
 is_always (Test c off on) = is_always off && is_always on
 
 -- Processes of the node before the place `from` needn't be looked at. Either there are none, since the place is 0, or
--- a process z at `from` or later, but before `to`, is always active: when z has ended, so have those before it.
+-- a process z at `from` or later, but before `to`, is always active: when z has ended, those before it have ended too,
+-- and the node has heard what their guards test.
 abbrev pub IsCut : Graph → List ℕ → Guards → ℕ → ℕ → ℕ → Type 0
-IsCut g order guards node to from =
+IsCut g order guards node from to =
     (from ≡ 0) ⊎ ((z : ℕ) × IsBetween g order node from to z × (is_always (tree_of guards z) ≡ true))
 
 -- Of the processes 0 .. k - 1, one is on the node, has its place from `from` on and before `to`, and its guard tests
@@ -53,14 +54,15 @@ pub record IsAskedOf (g : Graph) (order : List ℕ) (guards : Guards) (node from
   -- its guard tests c in the outcome o
   pub tested : is_tested (tree_of guards process) o c ≡ true
 
--- the tree is true in just those scenarios in which the guard of such a process tests condition c
+-- the tree t is true in just those scenarios in which the guard of one of the processes 0 .. k - 1, on the node and
+-- between the two places, tests condition c (`IsAskedOf`)
 abbrev pub IsAskedTree : Graph → List ℕ → Guards → ℕ → ℕ → ℕ → ℕ → ℕ → TreeState Bool → Type 0
 IsAskedTree g order guards node from to c k t =
     (s : Scenario) → HasAtMostFaults g.faults s → (x : Path Bool) → IsOnPath t.paths s x →
     (x.1 ≡ true → IsAskedOf g order guards node from to c k s.values) ×
     (IsAskedOf g order guards node from to c k s.values → x.1 ≡ true)
 
--- t is true in just those scenarios in which both a and b are
+-- t is true in just those scenarios of at most k faults in which both a and b are
 abbrev pub IsBothTree : ℕ → TreeState Bool → TreeState Bool → TreeState Bool → Type 0
 IsBothTree k a b t = (s : Scenario) → HasAtMostFaults k s → (x y z : Path Bool) → IsOnPath a.paths s x →
     IsOnPath b.paths s y → IsOnPath t.paths s z → z.1 ≡ (x.1 && y.1)

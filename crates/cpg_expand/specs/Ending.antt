@@ -16,25 +16,25 @@ use Rattle.cpg_tree.specs.Later.{time_later}
 use Rattle.cpg_expand.specs.declared.forest.Ready.{Ready}
 use Rattle.cpg_expand.specs.declared.forest.Ready.TheVariants.{After, At}
 
--- how long an execution of p lasts with 0, 1, .. k faults, by their number
+-- how long an execution of p lasts with 0, 1, .. faults, up to the most of the graph, by their number
 abbrev pub durations_of : Graph → ℕ → List ℕ
 durations_of g p = map (duration g p) (numbers_below (g.faults + 1))
 
--- The ends of process p: in each scenario its start and the duration with its fault count there, or none if it doesn't
--- start. The end is known by the literals of the start and that of the count.
+-- t has the ends of process p, whose starts the tree `start` has: in each scenario the start and the duration with p's
+-- fault count there, or none if it doesn't start. The end is known by the literals of the start and that of the count.
 abbrev pub IsEndTree : Graph → ℕ → TreeState (Option ℕ) → TreeState (Option ℕ) → Type 0
 IsEndTree g p start t = (s : Scenario) → HasAtMostFaults g.faults s → (literals : List Literal) (x : Option ℕ) →
     HasValueFrom s literals x start →
     HasValueFrom s (literals ++ number_known s p ∷ []) (ended (durations_of g p) (number_of s p) x) t
 
--- When a node is ready after a process: at the process's end if it is active, and otherwise when what it would have
--- waited for is there. `first` says whether it is active, `second` what the tree says that is read then; `v` is the
--- time.
+-- t says when a node is ready after a process, in scenarios of at most k faults: at the process's end (`end`) where it
+-- is active (`active`), and otherwise when what it would have waited for is there (`wait`). The literals `by_active`
+-- say whether it is active (b), `by_time` that end (x) or wait (w), and v is the time that t has.
 abbrev pub IsReadyTree : ℕ → TreeState Bool → TreeState (Option ℕ) → TreeState ℕ → TreeState ℕ → Type 0
 IsReadyTree k active end wait t = (s : Scenario) → HasAtMostFaults k s →
-    (b : Bool) (first second : List Literal) (x : Option ℕ) (w v : ℕ) → HasValueFrom s first b active →
-    (b ≡ true → HasValueFrom s second x end × (v ≡ time_later 0 x)) →
-    (b ≡ false → HasValueFrom s second w wait × (v ≡ w)) → HasValueFrom s (first ++ second) v t
+    (b : Bool) (by_active by_time : List Literal) (x : Option ℕ) (w v : ℕ) → HasValueFrom s by_active b active →
+    (b ≡ true → HasValueFrom s by_time x end × (v ≡ time_later 0 x)) →
+    (b ≡ false → HasValueFrom s by_time w wait × (v ≡ w)) → HasValueFrom s (by_active ++ by_time) v t
 
 -- what says when p's node is ready after p: p's own ends, or a tree of the graph
 abbrev pub IsReadyAfter : Graph → ℕ → Ready → Type 0

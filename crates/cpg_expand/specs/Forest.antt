@@ -9,7 +9,7 @@ use Rattle.cpg_tree.specs.GraphTrees.{IsTree, no_tree}
 use Rattle.cpg_expand.specs.declared.forest.Ready.{Ready}
 use Rattle.cpg_expand.specs.declared.forest.Ready.TheVariants.{After, At}
 
--- the trees so far
+-- the trees that are found so far
 pub record ForestState : Type 0 where
   -- for each item, when it starts or is sent; `None` where it doesn't
   pub times : List (TreeState (Option ℕ))
@@ -21,12 +21,12 @@ pub record ForestState : Type 0 where
   -- the item that a fault names if a tree has too many leaves; with `None` leaves aren't counted
   pub wide : Option ℕ
 
--- what says when a node is ready is of the graph: one of its processes, or a tree
+-- what says when a node is ready is of the graph: one of its processes, or a tree over its scenarios
 abbrev pub IsWait : Graph → Ready → Type 0
 IsWait g (After q) = q < process_count g
 IsWait g (At t) = IsTree g t
 
--- What says from when on a node is ready: the ends of a process (`After`), or a tree of its own (`At`).
+-- what says from when on a node is ready: the ends of a process (`After`), or a tree of its own (`At`)
 abbrev pub ready_at : Graph → ForestState → ℕ → Ready
 ready_at g f node = get_or f.ready node (At (no_tree g.faults))
 
@@ -53,7 +53,7 @@ times_of g f x = get_or f.times x (no_tree g.faults)
 abbrev pub ends_of : Graph → ForestState → ℕ → TreeState (Option ℕ)
 ends_of g f p = get_or f.ends p (no_tree g.faults)
 
--- the tree with plain times: 0 where t has none
+-- the tree with the times of t as plain numbers: 0 where t has none
 abbrev pub later_tree : TreeState (Option ℕ) → TreeState ℕ
 later_tree t = later_by 0 t
 

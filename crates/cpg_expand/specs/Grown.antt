@@ -111,7 +111,7 @@ pub record AreSettledOf (g : Graph) (order : List ℕ) (Done : ℕ → Type 0) (
   -- each frozen time is low, by a bound that grows with the place of its item in the order
   pub low : AreLow 0 g order frozen
 
--- an item that is never sent, as an edge within a node, has no time in any scenario
+-- what is never sent, as an edge within a node, has no time in any scenario
 abbrev pub LeavesUnsent : Graph → ForestState → Type 0
 LeavesUnsent g f =
     (x : ℕ) → process_count g ≤ x → x < item_count g → is_sent g x ≡ false → IsConstant None g.faults (times_of g f x)
@@ -140,10 +140,11 @@ pub record IsSending (g : Graph) (order : List ℕ) (p k : ℕ) (frozen : List (
       (t : Times) →
       IsRun g order frozen s t → SendLines g order rows s t p k f
 
--- One step along the order: if the trees are grown up to the place of p, they become those up to the place behind it.
+-- One step along the order, which is topological: if the trees `old` are grown up to the place of p, then the trees
+-- `new` are grown up to the place behind it; so are the frozen times.
 abbrev pub IsGrownBy : Graph → List ℕ → ℕ → List (Option ℕ) → ForestState → List (Option ℕ) → ForestState → Type 0
-IsGrownBy g order p before old after new =
-    IsTopological g order → IsGrown g order (place order p) before old → IsGrown g order (place order p + 1) after new
+IsGrownBy g order p frozen_old old frozen_new new =
+    IsTopological g order → IsGrown g order (place order p) frozen_old old → IsGrown g order (place order p + 1) frozen_new new
 
 -- at the beginning a node waits for no process and is ready from time 0 on, in all scenarios of at most k faults
 abbrev pub IsReadyFirst : ℕ → Ready → Type 0
@@ -151,7 +152,7 @@ IsReadyFirst k (After q) = ⊥
 IsReadyFirst k (At t) = IsConstant 0 k t
 
 -- f is the forest at the beginning of an order, before any process
-pub record IsBare (g : Graph) (f : ForestState) : Type 0 where
+pub record IsBareForest (g : Graph) (f : ForestState) : Type 0 where
   -- no item has a time in any scenario, and nodes and slots are free from time 0 on in all of them
   pub times : All (IsConstant None g.faults) f.times
   pub ready : All (IsReadyFirst g.faults) f.ready

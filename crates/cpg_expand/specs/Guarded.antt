@@ -26,8 +26,8 @@ value_known s c = number_known s (value_variable c)
 abbrev pub values_known : Scenario → List ℕ → List Literal
 values_known s cs = map (value_known s) cs
 
--- the tree that the value of a condition picks
--- `k`: the faults; `c`: the condition; `high`, `low`: the trees for true and false; `t`: the tree made of them
+-- in each scenario of at most k faults, t has the value of `high` if condition c is true there, and of `low` if it is
+-- false; its path follows from the value of c and the literals of that tree
 abbrev pub PicksByValue : {T : Type 0} → ℕ → ℕ → TreeState T → TreeState T → TreeState T → Type 0
 PicksByValue {T} k c high low t = (s : Scenario) → HasAtMostFaults k s → (literals : List Literal) (x : T) →
     HasValueFrom s literals x (if get_or s.values c false then high else low) →
@@ -47,15 +47,17 @@ abbrev pub IsTestedOn : ℕ → Guard → ℕ → TreeState Bool → Type 0
 IsTestedOn k guard c t = (s : Scenario) → HasAtMostFaults k s →
     HasValueFrom s (values_known s (way guard s.values)) (is_tested guard s.values c) t
 
--- the literals by which these conditions are heard, and their values
+-- for each of the conditions, the literals by which it is heard (`support c`) and that of its value
 abbrev pub support_of : Scenario → (ℕ → List Literal) → List ℕ → List Literal
 support_of s support cs = flat_map (λ c. support c ++ value_known s c ∷ []) cs
 
--- when the last of some things is there, each a delay after its time
+-- when the last of the things xs is there: each x of them is there `delay x` after `time x`, and one without a time is
+-- there at 0
 abbrev pub latest_of : (ℕ → ℕ) → (ℕ → Option ℕ) → List ℕ → ℕ
 latest_of delay time xs = greatest (map (λ x. time_later (delay x) (time x)) xs)
 
--- when a node has heard all that a guard tests, given trees that say when it hears each condition on the way
+-- t says when the node has heard all conditions that the guard tests on a scenario's way. It hears condition c when the
+-- delay of c has passed since `time c`, which is known by the literals `support c`.
 abbrev pub IsHeardTree : Graph → ForestState → ℕ → Guard → TreeState ℕ → Type 0
 IsHeardTree g f node guard t =
     (s : Scenario) → HasAtMostFaults g.faults s → (support : ℕ → List Literal) (time : ℕ → Option ℕ) →
@@ -63,73 +65,79 @@ IsHeardTree g f node guard t =
     HasValueFrom s (support_of s support (way guard s.values))
     (latest_of (heard_delay g node) time (way guard s.values)) t
 
--- inputs that are no messages, those within the node, are there once it is ready
-abbrev pub AreThere : Graph → (ℕ → Option ℕ) → ℕ → List ℕ → Type 0
-AreThere g time ready edges = (e : ℕ) → Contains edges e → is_message g e ≡ false → time_later 0 (time e) ≤ ready
+-- those of the inputs `edges` that are no messages, so come from the node itself, are there by `ready`; e is there at
+-- `time e`
+abbrev pub AreOwnInputsThere : Graph → (ℕ → Option ℕ) → ℕ → List ℕ → Type 0
+AreOwnInputsThere g time ready edges =
+    (e : ℕ) → Contains edges e → is_message g e ≡ false → time_later 0 (time e) ≤ ready
 
--- In scenario s, `t` has the start after the wait, the release and the arrival of the inputs. It says the literals
--- `first`, then those that the wait says, then those that the inputs say.
--- `first`: literals known before; `wait`: when the node is ready; `edges`: the inputs; `base`, `support`: what the
--- wait and each input say; `x`, `time`: when they are over
+-- In scenario s, t has the start after the wait, the release and the arrival of the inputs `edges`. The tree `wait`
+-- says when the node is ready, which is x, by the literals `base`; input e follows `time e`, by the literals
+-- `support e`. The path of t follows from the literals `chosen_by`, those of the wait and those of the inputs.
 abbrev pub StartsAfter : Graph → ForestState → Scenario → List Literal → TreeState ℕ → ℕ → List ℕ →
     TreeState (Option ℕ) → Type 0
-StartsAfter g f s first wait release edges t =
+StartsAfter g f s chosen_by wait release edges t =
     (base : List Literal) (x : ℕ) → HasValueFrom s base x wait → (support : ℕ → List Literal) (time : ℕ → Option ℕ) →
-    AreThere g time x edges → ((e : ℕ) → Contains edges e → HasValueFrom s (support e) (time e) (input_tree g f e)) →
-    HasValueFrom s (first ++ (base ++ flat_map support edges))
+    AreOwnInputsThere g time x edges →
+    ((e : ℕ) → Contains edges e → HasValueFrom s (support e) (time e) (input_tree g f e)) →
+    HasValueFrom s (chosen_by ++ (base ++ flat_map support edges))
     (Some (max (max x release) (latest_of (input_delay g) time edges))) t
 
--- in each scenario, `t` has the start after the wait, the release and the arrival of the inputs, with no literals first
+-- in each scenario, t has the start after the wait, the release and the arrival of the inputs `edges`, and no literals
+-- but those of the wait and of the inputs are needed for it
 abbrev pub IsStartAfter : Graph → ForestState → TreeState ℕ → ℕ → List ℕ → TreeState (Option ℕ) → Type 0
 IsStartAfter g f wait release edges t =
     (s : Scenario) → HasAtMostFaults g.faults s → StartsAfter g f s [] wait release edges t
 
--- the starts after a release and after these inputs are there, if a chooser is true, and no starts if it is false
--- `wait`, `release`, `edges`: what the start waits for
+-- t has the starts after the wait, the release and the arrival of the inputs `edges` where the chooser is true, and no
+-- start where it is false
 pub record IsStartWhere (g : Graph) (f : ForestState) (chooser : TreeState Bool) (wait : TreeState ℕ) (release : ℕ)
     (edges : List ℕ)
     (t : TreeState (Option ℕ)) : Type 0 where
-  -- where the chooser is true, the starts, with the literals by which it is true
-  pub on : (s : Scenario) → HasAtMostFaults g.faults s → (given : List Literal) → HasValueFrom s given true chooser →
-      StartsAfter g f s given wait release edges t
+  -- where the chooser is true, a start, which is known by the literals of that (`chosen_by`), the wait and the inputs
+  pub on : (s : Scenario) → HasAtMostFaults g.faults s → (chosen_by : List Literal) → HasValueFrom s chosen_by true chooser →
+      StartsAfter g f s chosen_by wait release edges t
   -- where it is false, no start
-  pub off : (s : Scenario) → HasAtMostFaults g.faults s → (given : List Literal) → HasValueFrom s given false chooser →
-      HasValueFrom s given None t
+  pub off : (s : Scenario) → HasAtMostFaults g.faults s → (chosen_by : List Literal) → HasValueFrom s chosen_by false chooser →
+      HasValueFrom s chosen_by None t
 
--- the inputs that a process with an activation waits for
+-- those of the inputs that a process with this activation waits for: none, all, or the one that the activation names
 abbrev pub awaited : List ℕ → Activation → List ℕ
 awaited inputs Inactive = []
 awaited inputs Plain = inputs
 awaited inputs (By e) = e ∷ []
 
--- the literals by which a process starts: those of the wait and of the awaited inputs, or none if it is inactive
-abbrev pub start_says : List Literal → (ℕ → List Literal) → List ℕ → Activation → List Literal
-start_says base support inputs a = if is_active a then base ++ flat_map support (awaited inputs a) else []
+-- the literals by which a process with activation a starts: those of the wait (`base`) and of each awaited input e
+-- (`support e`), or none if it is inactive
+abbrev pub start_literals : List Literal → (ℕ → List Literal) → List ℕ → Activation → List Literal
+start_literals base support inputs a = if is_active a then base ++ flat_map support (awaited inputs a) else []
 
--- the start: the latest of the wait, the release and the awaited inputs, or none if the process is inactive
+-- the start of a process with activation a: the latest of the wait, the release and the awaited inputs, each e of which
+-- is there `delay e` after `time e`; or none if the process is inactive
 abbrev pub start_at : ℕ → ℕ → (ℕ → ℕ) → (ℕ → Option ℕ) → List ℕ → Activation → Option ℕ
 start_at wait release delay time inputs a = if is_active a
     then Some (max (max wait release) (latest_of delay time (awaited inputs a))) else None
 
--- the starts of a process with an activation. `base`, `x`: what the wait says, and when it is over; `support`, `time`:
--- what each input says, and the time after which it is there
+-- t has the starts of a process with activation a, which waits for `wait`, its release and the inputs that a awaits. By
+-- the literals `base` the wait is over at x; by the literals `support e` input e follows `time e`.
 abbrev pub IsStartBy : Graph → ForestState → TreeState ℕ → ℕ → List ℕ → Activation → TreeState (Option ℕ) → Type 0
 IsStartBy g f wait release inputs a t =
     (s : Scenario) → HasAtMostFaults g.faults s → (base : List Literal) (x : ℕ) → HasValueFrom s base x wait →
-    (support : ℕ → List Literal) (time : ℕ → Option ℕ) → AreThere g time x (awaited inputs a) →
+    (support : ℕ → List Literal) (time : ℕ → Option ℕ) → AreOwnInputsThere g time x (awaited inputs a) →
     ((e : ℕ) → Contains (awaited inputs a) e → HasValueFrom s (support e) (time e) (input_tree g f e)) →
-    HasValueFrom s (start_says base support inputs a) (start_at x release (input_delay g) time inputs a) t
+    HasValueFrom s (start_literals base support inputs a) (start_at x release (input_delay g) time inputs a) t
 
--- t has the starts of a process with a guard: the literals are those of the guard's way and, if the process is active,
--- those of what it waits for
+-- t has the starts of a process with this guard: the literals are those of the guard's way and, if the process is
+-- active, those of what it waits for. `base`, `x`, `support` and `time` are as in `IsStartBy`.
 abbrev pub IsStartTree : Graph → ForestState → TreeState ℕ → ℕ → List ℕ → Guard → TreeState (Option ℕ) → Type 0
 IsStartTree g f wait release inputs guard t =
     (s : Scenario) → HasAtMostFaults g.faults s → (base : List Literal) (x : ℕ) → HasValueFrom s base x wait →
     (support : ℕ → List Literal) (time : ℕ → Option ℕ) →
-    AreThere g time x (awaited inputs (outcome_at guard s.values)) →
+    AreOwnInputsThere g time x (awaited inputs (outcome_at guard s.values)) →
     ((e : ℕ) → Contains (awaited inputs (outcome_at guard s.values)) e →
     HasValueFrom s (support e) (time e) (input_tree g f e)) →
-    HasValueFrom s (values_known s (way guard s.values) ++ start_says base support inputs (outcome_at guard s.values))
+    HasValueFrom s
+    (values_known s (way guard s.values) ++ start_literals base support inputs (outcome_at guard s.values))
     (start_at x release (input_delay g) time inputs (outcome_at guard s.values)) t
 
 -- the activation waits for all inputs or is inactive: it names no input

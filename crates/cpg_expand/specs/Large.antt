@@ -25,15 +25,15 @@ use Rattle.cpg_expand.specs.declared.bounding.TheConstants.{MOST_LEAVES}
 abbrev pub IsLarge : {T : Type 0} → TreeState T → Type 0
 IsLarge t = MOST_LEAVES < length t.paths
 
--- `TooWide` is said only if there is an item `wide` to name and the cause `why`, and it names that item; `OutOfMemory`
+-- the fault is `TooWide` only if `wide` has an item and the cause `why` holds, and it names that item; `OutOfMemory`
 -- needs no cause
 abbrev pub ShowsLarge : Option ℕ → Type 0 → BuildFault → Type 0
 ShowsLarge wide why fault = ShowsBuildFault (λ x. (wide ≡ Some x) × why) fault
 
 -- ---- on the way to a start
 
--- On the way down a guard some tree has too many leaves: at a leaf one that `large` tells of, or at a test one that
--- fits the part of the guard below it.
+-- On the way down a guard some tree has too many leaves: at a leaf one that `large` tells of, or at a test one to which
+-- `fits` relates the part of the guard from that test on.
 abbrev pub IsLargeDown : {T : Type 0} → (Activation → Type 0) → (Guard → TreeState T → Type 0) → Guard → Type 0
 IsLargeDown large fits (Leaf a) = large a
 IsLargeDown {T} large fits (Test c off on) =
@@ -50,8 +50,9 @@ IsLargeWait g f node guard =
     IsLarge (ready_of g f node) ⊎
     (IsLargeHeard g f node guard ⊎ ((wait : TreeState ℕ) × IsWaitTree g f node guard wait × IsLarge wait))
 
--- The tree of when the wait is over and the first few of these inputs are there has too many leaves. The inputs are
--- taken one by one; those within the node add no tree, since they are there once it is ready.
+-- The tree of when the wait is over and the first few of these inputs are there, at least one message among them, has
+-- too many leaves. The inputs are taken one by one; those within the node add no tree, since they are there once it is
+-- ready.
 abbrev pub IsLargeWith : Graph → ForestState → TreeState ℕ → List ℕ → Type 0
 IsLargeWith g f wait [] = ⊥
 IsLargeWith g f wait (e ∷ es) = ((is_message g e ≡ false) × IsLargeWith g f wait es)
@@ -64,11 +65,11 @@ abbrev pub IsLargeStart : Graph → ForestState → TreeState ℕ → ℕ → Li
 IsLargeStart g f wait release inputs guard = (AreLeaves WaitsForAll guard × IsLargeWith g f wait inputs)
     ⊎ IsLargeDown (λ a. IsLargeWith g f wait (awaited inputs a)) (IsStartTree g f wait release inputs) guard
 
--- the tree of a process's starts has too many leaves, or that of its ends
+-- `start`, the tree of process p's starts, has too many leaves, or the tree of its ends
 abbrev pub IsLargeEnd : Graph → ℕ → TreeState (Option ℕ) → Type 0
 IsLargeEnd g p start = IsLarge start ⊎ ((end : TreeState (Option ℕ)) × IsEndTree g p start end × IsLarge end)
 
--- with this wait, the tree of the process's starts has too many leaves, or that of its ends
+-- with this wait, the tree of process p's starts has too many leaves, or that of its ends
 abbrev pub IsLargeOf : Graph → ℕ → ForestState → Guard → TreeState ℕ → Type 0
 IsLargeOf g p f guard wait =
     (start : TreeState (Option ℕ)) × IsStartTree g f wait (process_at g p).release (inputs g p) guard start ×

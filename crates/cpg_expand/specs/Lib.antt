@@ -1,5 +1,4 @@
 pub mod Agreeing
-pub mod TreeRows
 pub mod Forest
 pub mod Guarded
 pub mod Earlier
@@ -15,10 +14,5 @@ pub mod Grown
 pub mod Sent
 pub mod Begun
 pub mod Active
-pub mod Measured
-pub mod GrownFor
 pub mod Waited
 pub mod Large
-pub mod WideRows
-pub mod BuiltRows
-pub mod RunEnds

@@ -42,29 +42,31 @@ pub record IsFreeOnce (g : Graph) (order : List ℕ) (rows : List (List Column))
   pub has_value : HasValueFrom s (flat_map (queued g order rows s) (sent_so_far g order p k)) time
       (free_of g f (node_of g p))
 
--- The times of a frozen item: one time wherever it goes, the latest of all scenarios. `before` and `after` are the
--- frozen times without x's and with it.
+-- The tree `sent` has the times of the frozen item x: one time wherever it goes (`goes`), the latest of all scenarios.
+-- f is the forest before x, and `frozen_old` and `frozen_new` are the frozen times without x's and with it.
 pub record IsFrozenSend (g : Graph) (order : List ℕ) (goes : TreeState Bool) (x : ℕ) (f : ForestState)
-    (before after : List (Option ℕ))
+    (frozen_old frozen_new : List (Option ℕ))
     (sent : TreeState (Option ℕ)) : Type 0 where
   -- the latest time that x would have; `None` if it never goes
   pub latest : Option ℕ
   pub top : IsLatestSend g order f (share_of g (home g x)) goes (ends_of g f (producer g x)) x latest
   -- that time is x's frozen time, and the tree has it wherever x goes
-  pub frozen : IsFrozenBy x latest goes before after sent
+  pub frozen : IsFrozenBy x latest goes frozen_old frozen_new sent
 
--- The times of item x. If it isn't frozen, it goes in each scenario once its producer has ended and slots are free,
--- and the frozen times stay. If it is frozen, it has the latest time, which is added to the frozen times.
+-- The tree `sent` has the times of item x; `goes` says where it goes. If it isn't frozen, it goes there once its
+-- producer has ended and slots are free, and the frozen times stay. If it is frozen, it has the latest time, which is
+-- added to the frozen times.
 abbrev pub IsSentFor : Graph → List ℕ → TreeState Bool → ℕ → ForestState → List (Option ℕ) → List (Option ℕ) →
     TreeState (Option ℕ) → Type 0
-IsSentFor g order goes x f before after sent =
-    ((is_frozen g x ≡ false) × (after ≡ before) ×
+IsSentFor g order goes x f frozen_old frozen_new sent =
+    ((is_frozen g x ≡ false) × (frozen_new ≡ frozen_old) ×
     IsSentTree g.faults (share_of g (home g x)) goes (ends_of g f (producer g x)) (free_of g f (home g x)) sent)
-    ⊎ ((is_frozen g x ≡ true) × IsFrozenSend g order goes x f before after sent)
+    ⊎ ((is_frozen g x ≡ true) × IsFrozenSend g order goes x f frozen_old frozen_new sent)
 
--- Item x is added to the forest: its times, and when the slots of its node are free after it.
+-- Item x is added to the forest: its times, and when the slots of its node are free after it. `chooser` says where its
+-- producer is active.
 pub record IsItemAdded (g : Graph) (order : List ℕ) (chooser : TreeState Bool) (x : ℕ) (old new : ForestState)
-    (before after : List (Option ℕ)) : Type 0 where
+    (frozen_old frozen_new : List (Option ℕ)) : Type 0 where
   -- in which scenarios the item goes
   pub goes : TreeState Bool
   pub goes_tree : IsTree g goes
@@ -72,7 +74,7 @@ pub record IsItemAdded (g : Graph) (order : List ℕ) (chooser : TreeState Bool)
   -- when it is sent
   pub sent : TreeState (Option ℕ)
   pub sent_tree : IsTree g sent
-  pub sends : IsSentFor g order goes x old before after sent
+  pub sends : IsSentFor g order goes x old frozen_old frozen_new sent
   -- when the slots are free behind it, which counts only if a later item waits for that
   pub freed : TreeState ℕ
   pub freed_tree : IsTree g freed
@@ -87,9 +89,10 @@ pub record IsItemAdded (g : Graph) (order : List ℕ) (chooser : TreeState Bool)
     wide = old.wide;
   }
 
--- The items are added one after another. Between two of them are the forest `mid` and the frozen times `between`.
+-- The items of the list are added one after another; `chooser` says where their producer is active. After the first of
+-- them, the forest is `mid`, and the frozen times are `between`.
 abbrev pub AreItemsAdded : Graph → List ℕ → TreeState Bool → List ℕ → ForestState → ForestState → List (Option ℕ) →
     List (Option ℕ) → Type 0
-AreItemsAdded g order chooser [] old new before after = (new ≡ old) × (after ≡ before)
-AreItemsAdded g order chooser (x ∷ xs) old new before after = (mid : ForestState) × (between : List (Option ℕ)) ×
-    IsItemAdded g order chooser x old mid before between × AreItemsAdded g order chooser xs mid new between after
+AreItemsAdded g order chooser [] old new frozen_old frozen_new = (new ≡ old) × (frozen_new ≡ frozen_old)
+AreItemsAdded g order chooser (x ∷ xs) old new frozen_old frozen_new = (mid : ForestState) × (between : List (Option ℕ)) ×
+    IsItemAdded g order chooser x old mid frozen_old between × AreItemsAdded g order chooser xs mid new between frozen_new

@@ -31,14 +31,15 @@ pub record IsQueuedFor (g : Graph) (order : List ℕ) (i node : ℕ) : Type 0 wh
   pub later : i ≤ place order (producer g other)
   pub thawed : is_frozen g other ≡ false
 
--- whether item y is sent before item x in the queue of one node: its producer stands earlier in the order, or both
--- have one producer and y's rank is less (a broadcast's before a message's)
+-- whether item y stands before item x in the queue of one node, which sends y: y's producer stands earlier in the
+-- order, or both have one producer and y's rank is less (a broadcast's before a message's)
 abbrev pub stands_before : Graph → List ℕ → ℕ → ℕ → Bool
 stands_before g order y x = (is_sent g y && (home g y == home g x))
     && (nat_lt (place order (producer g y)) (place order (producer g x))
     || ((producer g y == producer g x) && nat_lt (rank_of_item (item_at g y)) (rank_of_item (item_at g x))))
 
--- t says when the node is ready after a process with this guard, by what that process waits for or would wait for
+-- t says when the node is ready after a process with this guard: at its end (`end`) where it is active (`chooser`), and
+-- elsewhere when what it would wait for is there
 pub record IsReadyOnce (g : Graph) (f : ForestState) (node : ℕ) (guard : Guard) (chooser : TreeState Bool)
     (end : TreeState (Option ℕ))
     (t : TreeState ℕ) : Type 0 where
@@ -48,7 +49,8 @@ pub record IsReadyOnce (g : Graph) (f : ForestState) (node : ℕ) (guard : Guard
   -- the node is ready at the process's end where it is active, and when the wait is over elsewhere
   pub is : IsReadyTree g.faults chooser end wait t
 
--- t says when p's node is ready after p, provided that a later process on the node, which isn't frozen, waits for it
+-- t says when p's node is ready after p, provided that a later process on the node, which isn't frozen, waits for it; f
+-- is the forest before p, `chooser` says where p is active, and `end` has its ends
 abbrev pub IsReadyIfWaited : Graph → List ℕ → ForestState → ℕ → Guard → TreeState Bool → TreeState (Option ℕ) →
     TreeState ℕ → Type 0
 IsReadyIfWaited g order f p guard chooser end t =

@@ -20,8 +20,8 @@ ready_of g f node = ready_by g f (ready_at g f node)
 abbrev pub free_of : Graph → ForestState → ℕ → TreeState ℕ
 free_of g f node = get_or f.free node (no_tree g.faults)
 
--- What a process waits for on its node: the tree of that if one was made, as its guard tests conditions; without one,
--- what says when the node is ready.
+-- what a process waits for on its node: the tree of that if one was made, as its guard tests conditions; without one,
+-- what says when the node is ready
 abbrev pub wait_of : Graph → ForestState → ℕ → Option Ready → Ready
 wait_of g f node None = ready_at g f node
 wait_of g f node (Some wait) = wait

@@ -11,7 +11,8 @@ use cpg_rules::Admitted;
 use cpg_tree::Tree;
 use std::alloc::Global;
 
-/// Returns a tree that is true where an item is active; the item is a start, or one that is sent.
+/// Returns a tree that is true in the scenarios in which an item is active, and false in all others. The item is the
+/// start of a process, or one that is sent.
 pub fn active_item(alloc: Global, admitted: &Admitted, item: u32) -> Result<Tree<bool>, OutOfMemory>
     requires item { item < item_count admitted.now.graph }
     requires acts { process_count admitted.now.graph ≤ item → is_sent admitted.now.graph item ≡ true }

@@ -27,7 +27,8 @@ use cpg_run::{BuildFault, FrozenTimes};
 use cpg_tree::Tree;
 use std::alloc::Global;
 
-/// Puts the starts and the ends of a process, and from when on its node is ready after it.
+/// Puts the trees of a process into the forest: `times` has its starts, `ends` its ends, and `ready` says from when on
+/// its node is ready after it.
 fn put_begun(
     forest: &mut Forest,
     process: u32,
@@ -55,14 +56,15 @@ fn put_begun(
 /// What follows from the starts of a process: its ends, and from when on its node goes on after it.
 #[derive(Drop)]
 struct EndAndReady {
-    /// When it ends in each scenario; none where it is inactive.
+    /// When the process ends in each scenario; no time where it is inactive.
     end: Tree<Option<u64>>,
-    /// When its node goes on after it.
+    /// From when on its node goes on after it.
     ready: Ready,
 }
 
-/// Returns the ends of a process, and from when on its node goes on after it. `TooWide` names the forest's item if the
-/// tree of the starts or that of the ends has too many leaves.
+/// Returns the ends of a process, and from when on its node goes on after it. `active` says where it is active, `start`
+/// has its starts, and `wait` says what it waits for on its node. `TooWide` names the forest's item if the tree of the
+/// starts or that of the ends has too many leaves.
 fn follow(
     alloc: Global,
     problem: &Problem,
@@ -91,8 +93,8 @@ fn follow(
     Ok(EndAndReady { end, ready })
 }
 
-/// Adds the start and the end of a process that isn't frozen, and when its node goes on after it. Returns the tree of
-/// where it is active. `TooWide` names the forest's item if a tree on the way has too many leaves.
+/// Adds to the forest the start and the end of a process that isn't frozen, and when its node goes on after it. Returns
+/// the tree of where it is active. `TooWide` names the forest's item if a tree on the way has too many leaves.
 fn begin_thawed(
     alloc: Global,
     admitted: &Admitted,
@@ -122,9 +124,10 @@ fn begin_thawed(
     Ok(active)
 }
 
-/// Returns from when on the node of a frozen process goes on after it. The right tree is made only if a later process
-/// that isn't frozen waits for it, since a tree of all that the guard tests can be far wider than the row. `TooWide`
-/// names the forest's item if a tree on the way has too many leaves.
+/// Returns from when on the node of a frozen process goes on after it. `active` says where the process is active, and
+/// `end` has its ends. The right tree is made only if a later process that isn't frozen waits for the node, since a
+/// tree of all that the guard tests can be far wider than the row; otherwise some tree is returned. `TooWide` names the
+/// forest's item if a tree on the way has too many leaves.
 fn ready_after(
     alloc: Global,
     admitted: &Admitted,
@@ -162,9 +165,9 @@ fn ready_after(
     Ok(ready)
 }
 
-/// Adds the start and the end of a frozen process, its frozen time, and when its node goes on after it. Returns the
-/// tree of where it is active. `TooWide` names the forest's item if a tree of what it would wait for has too many
-/// leaves.
+/// Adds to the forest the start and the end of a frozen process, and when its node goes on after it, and to `frozen`
+/// its frozen time, if it is ever active. Returns the tree of where it is active. `TooWide` names the forest's item if
+/// a tree of what it would wait for has too many leaves.
 fn begin_frozen(
     alloc: Global,
     admitted: &Admitted,
@@ -199,8 +202,9 @@ fn begin_frozen(
     Ok(active)
 }
 
-/// Adds the start and the end of a process, its frozen time if it is frozen, and when its node goes on after it.
-/// Returns the tree of where it is active. `TooWide` names the forest's item if a tree on the way has too many leaves.
+/// Adds to the forest the start and the end of a process, and when its node goes on after it, and to `frozen` its
+/// frozen time if it is frozen and ever active. Returns the tree of where it is active. `TooWide` names the forest's
+/// item if a tree on the way has too many leaves.
 fn begin(
     alloc: Global,
     admitted: &Admitted,
@@ -229,8 +233,9 @@ fn begin(
     Ok(active)
 }
 
-/// Adds the trees of a process and of what it sends, and the frozen times of those that are frozen. `TooWide` names
-/// the forest's item if a tree on the way to the start and the end has too many leaves.
+/// Adds to the forest the trees of a process and of what it sends, and to `frozen` the frozen times of those of them
+/// that are frozen. `TooWide` names the forest's item if a tree on the way to the start and the end has too many
+/// leaves.
 pub(crate) fn step(
     alloc: Global,
     admitted: &Admitted,

@@ -14,8 +14,8 @@ pub fn leaf_limit_is_this()
     ensures { MOST_LEAVES ≡ 147456 }
 {}
 
-/// Answers `TooWide` of `wide` if the tree has more than `MOST_LEAVES` leaves. With `None` nothing is counted or
-/// refused.
+/// Answers `TooWide` of the item in `wide` if the tree has more than `MOST_LEAVES` leaves. If `wide` is `None`, nothing
+/// is counted or refused.
 pub(crate) fn few<T: Copy>(tree: &Tree<T>, wide: Option<u32>) -> Result<(), BuildFault>
     ensures { IfErr result (ShowsLarge wide (IsLarge tree.now)) }
 {

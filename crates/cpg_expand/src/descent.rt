@@ -5,7 +5,7 @@ ghost use Rattle.std.specs.Bool.{OnTrue};
 ghost use Rattle.cpg_base.specs.declared.activation.Activation.{Activation};
 ghost use Rattle.cpg_order.specs.Guard.{Guard, Leaf, Test};
 ghost use Rattle.cpg_tree.specs.Tree.{TreeState};
-ghost use Rattle.cpg_expand.specs.Descent.{AreKept, AreKnown, AreLeaves, IsAdded, IsAt, IsFound, IsThere, IsTreeOf};
+ghost use Rattle.cpg_expand.specs.Descent.{ArePlacesKept, AreKnown, AreLeaves, IsGuardAdded, IsAt, IsFound, IsThere, IsTreeOf};
 ghost use Rattle.cpg_expand.specs.Large.{IsLargeDown, ShowsLarge};
 ghost use Rattle.cpg_rules.specs.Trees.{TestsBelow};
 
@@ -122,7 +122,8 @@ fn is_same(guard: &GuardTree, other: &GuardTree) -> bool
     }
 }
 
-/// Returns the first place at which `known` has a guard that is equal to this one, or `None` if there is none.
+/// Returns the first place at which `known` has a guard that is equal to this one, or `None` if there is none. Callers
+/// rely only on a place that is returned.
 fn guard_index<T>(known: &[KnownGuard<'_, T>], guard: &GuardTree) -> Option<usize>
     ensures { IfSome result (λ i. IsAt known.now i guard.now) }
 {
@@ -145,14 +146,14 @@ fn tree_of<'a, T>(found: &'a Source<T>, known: &'a [KnownGuard<'_, T>]) -> &'a T
     }
 }
 
-/// Keeps a guard and its tree if fewer than `KEPT` are kept, and returns the place. Otherwise the tree is handed back
-/// in `Alone`.
+/// Keeps a guard and its tree at the end of `known` if fewer than `KEPT` are kept, and returns the place. Otherwise the
+/// tree is handed back in `Alone`.
 fn keep<'a, T: Copy>(
     known: &mut Vec<KnownGuard<'a, T>>,
     guard: &'a GuardTree,
     tree: Tree<T>,
 ) -> Result<Source<T>, OutOfMemory>
-    ensures { IfOk result (IsAdded known.old.items known.new.items guard.now tree) }
+    ensures { IfOk result (IsGuardAdded known.old.items known.new.items guard.now tree) }
 {
     let place = known.len();
     if place >= KEPT {
@@ -162,8 +163,8 @@ fn keep<'a, T: Copy>(
     Ok(Source::At(place))
 }
 
-/// Returns where the tree of a guard is. It is made unless `known` has an equal part of the guard, and then kept if
-/// there is room. `TooWide` names `descent.wide()` if a tree has too many leaves.
+/// Returns where the tree of a guard is. It is made unless `known` has an equal guard, and then kept there if there is
+/// room. `TooWide` names `descent.wide()` if a tree on the way has too many leaves.
 fn found<'a, T: Copy + Eq, D: Descent<T>>(
     descent: &D,
     guard: &'a GuardTree,
@@ -174,7 +175,7 @@ fn found<'a, T: Copy + Eq, D: Descent<T>>(
     requires leaves { AreLeaves (D.may descent.now) guard.now }
     requires known { AreKnown (D.made descent.now) (D.fits descent.now) known.old.items }
     ensures known { IfOk result (λ _. AreKnown (D.made descent.now) (D.fits descent.now) known.new.items) }
-    ensures kept { IfOk result (λ _. AreKept known.old.items known.new.items) }
+    ensures kept { IfOk result (λ _. ArePlacesKept known.old.items known.new.items) }
     ensures found { IfOk result (IsFound (D.made descent.now) (D.fits descent.now) known.new.items guard.now) }
     ensures fault { IfErr result (ShowsLarge (D.wide descent.now) (IsLargeDown (D.large descent.now) (D.fits descent.now) guard.now)) }
 {
@@ -199,8 +200,8 @@ fn found<'a, T: Copy + Eq, D: Descent<T>>(
     }
 }
 
-/// Returns the tree of a guard. Parts of the guard that are equal share one tree on the way. `TooWide` names
-/// `descent.wide()` if a tree has too many leaves.
+/// Returns the tree of a guard, made as `descent` says. Parts of the guard that are equal share one tree on the way, as
+/// long as it is kept. `TooWide` names `descent.wide()` if a tree on the way has too many leaves.
 pub(crate) fn tree_down<T: Copy + Eq, D: Descent<T>>(
     alloc: Global,
     descent: &D,

@@ -26,7 +26,8 @@ pub(crate) struct NodeSpan<'a> {
     pub(crate) from: u32,
 }
 
-/// Whether a process is on the node of a span and stands at `from` or later and before `to`.
+/// Whether process `other` is on the node of the span, and stands at the place `from` of the order or later and before
+/// `to`. The span's own `from` doesn't count here.
 pub(crate) fn stands_between(span: &NodeSpan<'_>, from: u32, to: u32, other: u32) -> bool
     requires other { other < process_count span.now.problem.now }
     requires order { length span.now.order.now ≡ process_count span.now.problem.now }
@@ -51,13 +52,13 @@ fn is_always(guard: &GuardTree) -> bool
     }
 }
 
-/// Returns the place of process `other` if that is always active and between the two places on the node, and `from`
-/// otherwise. What stands before such a process has ended once it has.
+/// Returns the place of process `other` if it is always active, is on the span's node, and stands at `from` or later
+/// and before `to`; otherwise `from`. What stands before such a process on the node has ended once it has.
 fn later_cut(span: &NodeSpan<'_>, from: u32, to: u32, other: u32) -> u32
     requires along { AreAlong span.now.problem.now span.now.guards.now span.now.order.now }
     requires other { other < process_count span.now.problem.now }
-    ensures { IsCut span.now.problem.now span.now.order.now span.now.guards.now span.now.node to from →
-        IsCut span.now.problem.now span.now.order.now span.now.guards.now span.now.node to result }
+    ensures { IsCut span.now.problem.now span.now.order.now span.now.guards.now span.now.node from to →
+        IsCut span.now.problem.now span.now.order.now span.now.guards.now span.now.node result to }
 {
     if !stands_between(span, from, to, other) {
         return from;
@@ -68,11 +69,12 @@ fn later_cut(span: &NodeSpan<'_>, from: u32, to: u32, other: u32) -> u32
     span.order.place(other)
 }
 
-/// Returns a place from which on the processes of the node before `to` have to be looked at: what stands before it has
-/// ended by the end of an always active process from there on. It is 0 if there is no such process.
+/// Returns a place such that of the node's processes before `to` only those from there on have to be looked at: what
+/// stands before it has ended by the end of an always active process from there on. It is 0 if there is no such
+/// process.
 fn cut(span: &NodeSpan<'_>, to: u32) -> u32
     requires along { AreAlong span.now.problem.now span.now.guards.now span.now.order.now }
-    ensures { IsCut span.now.problem.now span.now.order.now span.now.guards.now span.now.node to result }
+    ensures { IsCut span.now.problem.now span.now.order.now span.now.guards.now span.now.node result to }
 {
     let mut from = 0;
     for other in 0..span.problem.processes().len() as u32 {
@@ -81,7 +83,8 @@ fn cut(span: &NodeSpan<'_>, to: u32) -> u32
     from
 }
 
-/// Returns the span of a node's processes that have to be looked at before the place `to`.
+/// Returns a span of the node that has all its processes before the place `to` that have to be looked at: its `from` is
+/// as in `cut`.
 pub(crate) fn span_before<'a>(
     problem: &'a Problem,
     guards: &'a GuardTrees,
@@ -94,7 +97,7 @@ pub(crate) fn span_before<'a>(
     ensures guards { result.guards.now ≡ guards.now }
     ensures order { result.order.now ≡ order.now }
     ensures node { result.node ≡ node }
-    ensures cut { IsCut problem.now order.now guards.now node to result.from }
+    ensures cut { IsCut problem.now order.now guards.now node result.from to }
 {
     // the whole node, to look for the cut in
     let span = NodeSpan {
@@ -113,8 +116,8 @@ pub(crate) fn span_before<'a>(
     }
 }
 
-/// Returns a tree that is true where `asked` is, or where the guard of process `other` tests the condition, if `other`
-/// is in the span and before `to`.
+/// Returns a tree that is true where `asked` is, or where the guard of process `other` tests the condition on the
+/// scenario's way. If `other` isn't in the span or not before `to`, `asked` itself is returned.
 fn or_asked(
     alloc: Global,
     span: &NodeSpan<'_>,
@@ -140,7 +143,8 @@ fn or_asked(
     Ok(either)
 }
 
-/// Returns a tree that is true where the guard of some process in the span and before `to` tests the condition.
+/// Returns a tree that is true where the guard of some process in the span and before `to` tests the condition on the
+/// scenario's way, and false elsewhere.
 pub(crate) fn asked(
     alloc: Global,
     span: &NodeSpan<'_>,

@@ -13,7 +13,8 @@ use cpg_tree::{Tree, fault};
 use cpg_tree_times::{ends, pick_later};
 use std::alloc::Global;
 
-/// Returns how long an execution of a process lasts with 0, 1, .. k faults.
+/// Returns how long an execution of a process lasts with 0, 1, .. k faults, by their number; k is the most faults that
+/// a scenario of the graph has.
 fn durations(alloc: Global, problem: &Problem, process: u32) -> Result<Vec<u64>, OutOfMemory>
     requires { process < process_count problem.now }
     ensures { IfOk result (λ durations. durations.items ≡ map (duration problem.now process) (numbers_below (problem.now.faults + 1))) }
@@ -65,8 +66,8 @@ fn end_or(
     Ok(ready)
 }
 
-/// Returns when the node of a process goes on after it, for a process that isn't always active: at its end, or where
-/// it is inactive, when its wait would be over.
+/// Returns from when on the node of a process goes on after it: its end where `active` is true, and elsewhere when its
+/// wait would be over. `end` has the ends of the process, and `wait` says what it waits for on its node.
 fn ready_at(
     problem: &Problem,
     forest: &Forest,
@@ -84,8 +85,8 @@ fn ready_at(
     match wait {
         // the wait is until another process has ended
         Ready::After(process) => {
-            let before = forest.end_there(problem, *process)?;
-            let ready = end_or(problem, active, end, &before)?;
+            let there = forest.end_there(problem, *process)?;
+            let ready = end_or(problem, active, end, &there)?;
             Ok(ready)
         }
         // the wait has a tree of its own
@@ -96,8 +97,9 @@ fn ready_at(
     }
 }
 
-/// Returns from when on the node of a process goes on: after its end, or where it is inactive, when its wait would be
-/// over. If it is always active, its ends say so, and no tree is made.
+/// Returns from when on the node of a process goes on after it: its end where `active` is true, and elsewhere when its
+/// wait would be over. `end` has the ends of the process, and `wait` says what it waits for on its node. If it is
+/// always active, the answer is `After` it, and no tree is made.
 pub(crate) fn ready(
     problem: &Problem,
     forest: &Forest,

@@ -3,7 +3,7 @@ ghost use Rattle.std.specs.Prelude.{[], ◌≡◌, ◌<◌, ◌≤◌, None, All
 ghost use Rattle.cpg_base.specs.Graph.{condition_count, edge_count, is_message, item_count, process_count, home};
 ghost use Rattle.cpg_tree.specs.GraphTrees.{IsTree};
 ghost use Rattle.cpg_expand.specs.Forest.{HasTrees, IsWait, ends_of, heard_delay, heard_tree, input_delay, input_tree, later_tree, ready_by, times_of};
-ghost use Rattle.cpg_expand.specs.Grown.{IsBare, IsReadyFirst};
+ghost use Rattle.cpg_expand.specs.Grown.{IsBareForest, IsReadyFirst};
 ghost use Rattle.cpg_expand.specs.Guarded.{IsStartAfter, IsStartWhere};
 ghost use Rattle.cpg_expand.specs.Later.{IsLatest, IsNoMore, IsReleased, IsReleasedWhere};
 ghost use Rattle.cpg_base.specs.Bus.{slot_length};
@@ -30,7 +30,7 @@ pub(crate) enum Ready {
 
 /// The trees so far: each tells a time in every scenario.
 #[derive(Drop)]
-pub(crate) struct Forest {
+pub struct Forest {
     /// For each item, when it starts or is sent; no time where it doesn't.
     pub(crate) times: Vec<Tree<Option<u64>>>,
     /// For each process, when it ends; no time where it isn't active.
@@ -100,14 +100,14 @@ fn ready_first(alloc: Global, problem: &Problem, count: usize) -> Result<Vec<Rea
 
 impl Forest {
     /// Returns a forest in which no item has a time and no process an end; nodes are ready and slots free from time 0
-    /// on.
+    /// on. `wide` is the item that `TooWide` names if a tree has too many leaves; with `None` leaves aren't counted.
     pub(crate) fn none(
         alloc: Global,
         problem: &Problem,
         wide: Option<u32>,
     ) -> Result<Forest, OutOfMemory>
         ensures trees { IfOk result (HasTrees problem.now) }
-        ensures bare { IfOk result (IsBare problem.now) }
+        ensures bare { IfOk result (IsBareForest problem.now) }
         ensures wide { IfOk result (λ forest. forest.wide ≡ wide) }
     {
         let nodes = problem.nodes().len();
@@ -120,8 +120,15 @@ impl Forest {
         })
     }
 
+    /// Returns the ends of the processes, by process.
+    pub fn ends(&self) -> &[Tree<Option<u64>>]
+        ensures { result.now ≡ self.now.ends }
+    {
+        self.ends.as_slice()
+    }
+
     /// Returns the times of the items. The other trees are dropped.
-    pub(crate) fn into_times(self) -> Vec<Tree<Option<u64>>>
+    pub fn into_times(self) -> Vec<Tree<Option<u64>>>
         ensures { result.items ≡ self.times }
     {
         self.times
@@ -142,7 +149,8 @@ impl Forest {
         Ok(there)
     }
 
-    /// Returns from when on a node has heard a condition and `further` is reached too.
+    /// Returns the later of two times in each scenario: from when on a node has heard a condition, and `further`. Where
+    /// the condition isn't told, that is `further`.
     pub(crate) fn heard_and(
         &self,
         problem: &Problem,
@@ -170,7 +178,7 @@ impl Forest {
         }
     }
 
-    /// Returns from when on a node is ready and `there` is reached too.
+    /// Returns the later of two times in each scenario: from when on a node is ready, which `ready` says, and `there`.
     pub(crate) fn ready_and(
         &self,
         problem: &Problem,
@@ -184,14 +192,14 @@ impl Forest {
         ensures both { IfOk result (IsLatest problem.now.faults (ready_by problem.now self.now ready.now) there.now) }
     {
         match ready {
-            // the node goes on when that process ends; where it isn't active, it counts as 0
+            // the node is ready once that process has ended, and from 0 on where that isn't active
             Ready::After(process) => {
                 // called for its contract: the graph is within its limits
                 let _processes = problem.processes();
                 let both = max_later(there, &self.ends[*process as usize], 0)?;
                 Ok(both)
             }
-            // the node is ready by a tree
+            // the node is ready at the times of a tree of its own
             Ready::At(tree) => {
                 let both = max_of(tree, there)?;
                 Ok(both)
@@ -199,7 +207,8 @@ impl Forest {
         }
     }
 
-    /// Returns from when on a node is ready and the frame of an item has arrived.
+    /// Returns from when on a node is ready, which `ready` says, and the frame of an item has arrived. Where the item
+    /// isn't sent, the node's being ready alone counts.
     fn ready_and_frame(
         &self,
         problem: &Problem,
@@ -216,12 +225,12 @@ impl Forest {
         let delay = problem.slot_length(problem.home(item));
         let times = &self.times[item as usize];
         match ready {
-            // the node goes on when that process ends, 0 if it isn't active
+            // the node is ready once that process has ended, and from 0 on where that isn't active
             Ready::After(process) => {
                 let both = later_of(times, delay, &self.ends[*process as usize])?;
                 Ok(both)
             }
-            // the node is ready by a tree
+            // the node is ready at the times of a tree of its own
             Ready::At(tree) => {
                 let both = max_later(tree, times, delay)?;
                 Ok(both)
@@ -229,7 +238,8 @@ impl Forest {
         }
     }
 
-    /// Returns from when on a node is ready and an input from another node has arrived.
+    /// Returns from when on a node is ready, which `ready` says, and an input from another node (`edge`) has arrived.
+    /// Where its message isn't sent, the node's being ready alone counts.
     pub(crate) fn ready_and_input(
         &self,
         problem: &Problem,
@@ -248,8 +258,8 @@ impl Forest {
         Ok(both)
     }
 
-    /// Returns the starts of a process at `release` or later, once its node is ready and the frame of an item has
-    /// arrived.
+    /// Returns the starts of a process at `release` or later, once its node is ready, which `ready` says, and the frame
+    /// of an item has arrived. Where the item isn't sent, its frame isn't waited for.
     fn started_by_frame(
         &self,
         problem: &Problem,
@@ -267,12 +277,12 @@ impl Forest {
         let delay = problem.slot_length(problem.home(item));
         let times = &self.times[item as usize];
         match ready {
-            // the node goes on when that process ends, 0 if it isn't active
+            // the node is ready once that process has ended, and from 0 on where that isn't active
             Ready::After(process) => {
                 let start = started_of(times, delay, &self.ends[*process as usize], release)?;
                 Ok(start)
             }
-            // the node is ready by a tree
+            // the node is ready at the times of a tree of its own
             Ready::At(tree) => {
                 let start = started_or(tree, times, delay, release)?;
                 Ok(start)
@@ -280,8 +290,8 @@ impl Forest {
         }
     }
 
-    /// Returns the starts of a process at `release` or later, once its node is ready and an input from another node
-    /// has arrived.
+    /// Returns the starts of a process at `release` or later, once its node is ready, which `ready` says, and an input
+    /// from another node (`edge`) has arrived. Where its message isn't sent, it isn't waited for.
     pub(crate) fn started_by_input(
         &self,
         problem: &Problem,
@@ -302,8 +312,9 @@ impl Forest {
         Ok(start)
     }
 
-    /// Returns the starts of a process at `release` or later, once its node is ready and the frame of an item has
-    /// arrived, where `active` is true; no time elsewhere.
+    /// Returns the starts of a process where `active` is true, and no time elsewhere. It starts at `release` or later,
+    /// once its node is ready, which `ready` says, and the frame of an item has arrived. Where the item isn't sent, its
+    /// frame isn't waited for.
     fn started_by_frame_where(
         &self,
         problem: &Problem,
@@ -323,13 +334,13 @@ impl Forest {
         let delay = problem.slot_length(problem.home(item));
         let times = &self.times[item as usize];
         match ready {
-            // the node goes on when that process ends, 0 if it isn't active
+            // the node is ready once that process has ended, and from 0 on where that isn't active
             Ready::After(process) => {
                 let end = &self.ends[*process as usize];
                 let start = started_of_where(active, times, delay, end, release)?;
                 Ok(start)
             }
-            // the node is ready by a tree
+            // the node is ready at the times of a tree of its own
             Ready::At(tree) => {
                 let start = started_or_where(active, tree, times, delay, release)?;
                 Ok(start)
@@ -337,8 +348,9 @@ impl Forest {
         }
     }
 
-    /// Returns the starts of a process at `release` or later, once its node is ready and an input from another node
-    /// has arrived, where `active` is true; no time elsewhere.
+    /// Returns the starts of a process where `active` is true, and no time elsewhere. It starts at `release` or later,
+    /// once its node is ready, which `ready` says, and an input from another node (`edge`) has arrived. Where its
+    /// message isn't sent, it isn't waited for.
     pub(crate) fn started_by_input_where(
         &self,
         problem: &Problem,
@@ -361,7 +373,7 @@ impl Forest {
         Ok(start)
     }
 
-    /// Returns the starts of a process at `release` or later, once its node is ready.
+    /// Returns the starts of a process at `release` or later, once its node is ready, which `ready` says.
     pub(crate) fn started(
         &self,
         problem: &Problem,
@@ -374,14 +386,14 @@ impl Forest {
         ensures start { IfOk result (IsStartAfter problem.now self.now (ready_by problem.now self.now ready.now) release []) }
     {
         match ready {
-            // the node goes on when that process ends, 0 if it isn't active
+            // the node is ready once that process has ended, and from 0 on where that isn't active
             Ready::After(process) => {
                 // called for its contract: the graph is within its limits
                 let _processes = problem.processes();
                 let start = self.ends[*process as usize].no_earlier(release)?;
                 Ok(start)
             }
-            // the node is ready by a tree
+            // the node is ready at the times of a tree of its own
             Ready::At(tree) => {
                 let start = started(tree, release)?;
                 Ok(start)
@@ -389,8 +401,8 @@ impl Forest {
         }
     }
 
-    /// Returns the starts of a process at `release` or later, once its node is ready, where `active` is true; no time
-    /// elsewhere.
+    /// Returns the starts of a process where `active` is true, and no time elsewhere. It starts at `release` or later,
+    /// once its node is ready, which `ready` says.
     pub(crate) fn started_where(
         &self,
         problem: &Problem,

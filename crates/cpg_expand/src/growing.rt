@@ -19,11 +19,11 @@ use std::alloc::Global;
 
 /// The trees of an order, and the frozen times that they were made under.
 #[derive(Drop)]
-pub(crate) struct GrownForest {
+pub struct GrownForest {
     /// The frozen times, by item.
-    pub(crate) frozen: FrozenTimes,
+    pub frozen: FrozenTimes,
     /// The times of items, the ends of processes, and when nodes and slots are free.
-    pub(crate) forest: Forest,
+    pub forest: Forest,
 }
 
 /// Answers `TooWide` of the forest's item if the tree of an item that the process sends has too many leaves.
@@ -85,9 +85,10 @@ fn few_left(
     Ok(())
 }
 
-/// Returns the trees of all processes and of what they send, and the frozen times, under an order. If there is an item
-/// to name, leaves are counted: `TooWide` names it if a tree on the way has more than 147,456.
-pub(crate) fn grown(
+/// Returns the trees of all processes and of what they send, and the frozen times, under an order. If `wide` has an
+/// item, leaves are counted: `TooWide` names it if a tree on the way has more than 147,456. If it is `None`, none are
+/// counted.
+pub fn grown(
     alloc: Global,
     admitted: &Admitted,
     order: &Order,

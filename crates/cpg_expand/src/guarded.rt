@@ -90,7 +90,8 @@ impl Descent<bool> for Activity<'_> {
     }
 }
 
-/// Returns a tree that is true where a guard leads to an active leaf, so where its process is active.
+/// Returns a tree that is true where a guard leads to an active leaf, so where its process is active, and false
+/// elsewhere.
 pub(crate) fn active(
     alloc: Global,
     problem: &Problem,
@@ -110,7 +111,7 @@ pub(crate) fn active(
     }
 }
 
-/// Returns a tree that is true where a guard tests the condition `wanted` on the scenario's way.
+/// Returns a tree that is true where a guard tests the condition `wanted` on the scenario's way, and false elsewhere.
 pub(crate) fn tested_on(
     alloc: Global,
     problem: &Problem,
@@ -226,7 +227,8 @@ pub(crate) fn heard(
     Ok(heard)
 }
 
-/// Whether all these inputs come from the process's own node; so it is if there are none.
+/// Whether all these inputs come from the process's own node; so it is if there are none. Callers rely only on the
+/// answer yes.
 fn are_own(problem: &Problem, edges: &[u32]) -> bool
     requires { All (λ e. e < edge_count problem.now) edges.now }
     ensures { OnTrue result (All (λ e. is_message problem.now e ≡ false) edges.now) }
@@ -241,8 +243,9 @@ fn are_own(problem: &Problem, edges: &[u32]) -> bool
     are_own(problem, others)
 }
 
-/// Returns the starts of a process that waits for its node, its release and these inputs. `TooWide` names the forest's
-/// item if a tree of the wait with some of the inputs has too many leaves.
+/// Returns the starts of a process that waits for its node, its release and the inputs `edges`. `wait` says from when
+/// on the node is ready for it. `TooWide` names the forest's item if a tree of the wait with some of the inputs has too
+/// many leaves.
 fn start_after(
     problem: &Problem,
     forest: &Forest,
@@ -278,9 +281,9 @@ fn start_after(
     start_after(problem, forest, &both, release, others)
 }
 
-/// Returns the starts of a process where it is active, and no time elsewhere; there it waits for its node, its release
-/// and these inputs. `TooWide` names the forest's item if a tree of the wait with some of the inputs has too many
-/// leaves.
+/// Returns the starts of a process where `active` is true, and no time elsewhere. It waits for its node, its release
+/// and the inputs `edges`; `wait` says from when on the node is ready for it. `TooWide` names the forest's item if a
+/// tree of the wait with some of the inputs has too many leaves.
 fn start_where(
     problem: &Problem,
     forest: &Forest,
@@ -318,7 +321,8 @@ fn start_where(
     start_where(problem, forest, &both, release, others, active)
 }
 
-/// Whether the activation waits for all inputs, or is inactive and so waits for none.
+/// Whether the activation waits for all inputs, or is inactive and so waits for none. Callers rely only on the answer
+/// yes.
 fn is_for_all(activation: Activation) -> bool
     ensures { OnTrue result (WaitsForAll activation) }
 {
@@ -331,7 +335,7 @@ fn is_for_all(activation: Activation) -> bool
     }
 }
 
-/// Whether no leaf of a guard waits for one input alone.
+/// Whether no leaf of a guard waits for one input alone. Callers rely only on the answer yes.
 fn waits_for_all(guard: &GuardTree) -> bool
     ensures { OnTrue result (AreLeaves WaitsForAll guard.now) }
 {
@@ -351,7 +355,7 @@ fn waits_for_all(guard: &GuardTree) -> bool
 }
 
 /// Whether the starts are made once for all active leaves of a guard: it tests something, and each active leaf waits
-/// for all inputs.
+/// for all inputs. If the answer is yes, callers rely only on what it says of the leaves.
 fn is_by_activity(guard: &GuardTree) -> bool
     ensures { OnTrue result (AreLeaves WaitsForAll guard.now) }
 {
@@ -367,8 +371,9 @@ fn is_by_activity(guard: &GuardTree) -> bool
     }
 }
 
-/// Returns the starts of a process with this activation: none if it is inactive, and otherwise once its node is ready,
-/// at its release or later, when all inputs, or the one that the activation names, are there.
+/// Returns the starts of a process with this activation: no time if it is inactive, and otherwise, at its release or
+/// later, when its node is ready, which `wait` says, and all inputs, or the one that the activation names, are there.
+/// `TooWide` names the forest's item if a tree of the wait with some of the inputs has too many leaves.
 fn start_by(
     alloc: Global,
     problem: &Problem,
@@ -470,9 +475,9 @@ impl Descent<Option<u64>> for Starting<'_> {
     }
 }
 
-/// Returns the starts of a process with a guard: it waits for its node, its release and its inputs. `active` says
-/// where the guard leads to an active leaf. `TooWide` names the forest's item if a tree on the way has too many
-/// leaves.
+/// Returns the starts of a process with a guard; no time where it is inactive. It waits for its node, its release and
+/// those of its inputs that the guard's leaf asks for; `wait` says from when on the node is ready for it. `active` says
+/// where the guard leads to an active leaf. `TooWide` names the forest's item if a tree on the way has too many leaves.
 pub(crate) fn start(
     problem: &Problem,
     forest: &Forest,

@@ -31,7 +31,7 @@ fn most_where(problem: &Problem, tree: &Tree<Option<u64>>, wanted: &Tree<bool>) 
     cpg_tree_columns::most_where(tree, wanted)
 }
 
-/// Returns the greater of `latest` and of the time with the delay; `latest` if there is no time.
+/// Returns the greater of `latest` and the time with the delay; `latest` if there is no time.
 fn or_later(latest: u64, time: Option<u64>, delay: u64) -> u64
     ensures { result ≡ or_later latest delay time }
 {
@@ -109,8 +109,8 @@ fn after_condition(
     )
 }
 
-/// Returns `latest`, raised to the latest end of process `other` where `active` is true, if that is in the span and
-/// before `to`.
+/// Returns `latest`, raised to the latest end of process `other` where `active` is true. If `other` isn't in the span
+/// or not before `to`, `latest` stays.
 fn after_one(
     span: &NodeSpan<'_>,
     forest: &Forest,
@@ -133,36 +133,36 @@ fn after_one(
     after_end(span.problem, forest, other, active, latest)
 }
 
-/// Returns `first`, raised to the latest end, where `active` is true, of any process in the span and before `to`.
-fn after_ends(span: &NodeSpan<'_>, forest: &Forest, active: &Tree<bool>, to: u32, first: u64) -> u64
+/// Returns `floor`, raised to the latest end, where `active` is true, of any process in the span and before `to`.
+fn after_ends(span: &NodeSpan<'_>, forest: &Forest, active: &Tree<bool>, to: u32, floor: u64) -> u64
     requires along { AreAlong span.now.problem.now span.now.guards.now span.now.order.now }
     requires forest { HasTrees span.now.problem.now forest.now }
     requires active { IsTree span.now.problem.now active.now }
     ensures { IsRaised span.now.problem.now
         (HasEndedOf span.now.problem.now span.now.order.now forest.now active.now span.now.node span.now.from to
-        (process_count span.now.problem.now)) first result }
+        (process_count span.now.problem.now)) floor result }
 {
-    let mut latest = first;
+    let mut latest = floor;
     for other in 0..span.problem.processes().len() as u32 {
         latest = after_one(span, forest, active, to, other, latest);
     }
     latest
 }
 
-/// Returns a tree that is true where both are.
+/// Returns a tree that is true where the trees `one` and `other` both are, and false elsewhere.
 fn both(
     alloc: Global,
     problem: &Problem,
-    first: &Tree<bool>,
-    second: &Tree<bool>,
+    one: &Tree<bool>,
+    other: &Tree<bool>,
 ) -> Result<Tree<bool>, OutOfMemory>
-    requires first { IsTree problem.now first.now }
-    requires second { IsTree problem.now second.now }
+    requires one { IsTree problem.now one.now }
+    requires other { IsTree problem.now other.now }
     ensures tree { IfOk result (IsTree problem.now) }
-    ensures both { IfOk result (IsBothTree problem.now.faults first.now second.now) }
+    ensures both { IfOk result (IsBothTree problem.now.faults one.now other.now) }
 {
     let never = Tree::constant(alloc, false, problem.faults())?;
-    let both = Tree::pick(first, second, &never)?;
+    let both = Tree::pick(one, other, &never)?;
     Ok(both)
 }
 
@@ -195,7 +195,7 @@ fn after_asked(
     Ok(heard)
 }
 
-/// Returns `first`, raised to the latest time at which the span's node hears any condition where `active` is true and
+/// Returns `floor`, raised to the latest time at which the span's node hears any condition where `active` is true and
 /// the guard of some process in the span and before `to` tests it.
 fn after_hearing(
     alloc: Global,
@@ -203,23 +203,24 @@ fn after_hearing(
     forest: &Forest,
     active: &Tree<bool>,
     to: u32,
-    first: u64,
+    floor: u64,
 ) -> Result<u64, OutOfMemory>
     requires along { AreAlong span.now.problem.now span.now.guards.now span.now.order.now }
     requires forest { HasTrees span.now.problem.now forest.now }
     requires active { IsTree span.now.problem.now active.now }
     ensures { IfOk result (IsRaised span.now.problem.now
         (HasHeardOf span.now.problem.now span.now.order.now span.now.guards.now forest.now active.now span.now.node span.now.from to
-        (condition_count span.now.problem.now)) first) }
+        (condition_count span.now.problem.now)) floor) }
 {
-    let mut latest = first;
+    let mut latest = floor;
     for condition in 0..span.problem.conditions() {
         latest = after_asked(alloc, span, forest, active, to, condition, latest)?;
     }
     Ok(latest)
 }
 
-/// Returns `latest`, raised to the latest arrival of an input where `active` is true, if it comes from another node.
+/// Returns `latest`, raised to the latest arrival of an input where `active` is true. If the input comes from the node
+/// itself, `latest` stays.
 fn after_input(
     problem: &Problem,
     forest: &Forest,
@@ -239,30 +240,30 @@ fn after_input(
     after_frame(problem, forest, problem.message_item(edge), active, latest)
 }
 
-/// Returns `first`, raised to the latest arrival, where `active` is true, of any of these inputs that comes from
+/// Returns `floor`, raised to the latest arrival, where `active` is true, of any of these inputs that comes from
 /// another node.
 fn after_inputs(
     problem: &Problem,
     forest: &Forest,
     active: &Tree<bool>,
     edges: &[u32],
-    first: u64,
+    floor: u64,
 ) -> u64
     requires forest { HasTrees problem.now forest.now }
     requires active { IsTree problem.now active.now }
     requires edges { All (λ e. e < edge_count problem.now) edges.now }
-    ensures { IsRaised problem.now (HasInputOf problem.now forest.now active.now edges.now) first result }
+    ensures { IsRaised problem.now (HasInputOf problem.now forest.now active.now edges.now) floor result }
 {
-    let mut latest = first;
+    let mut latest = floor;
     for edge in edges {
         latest = after_input(problem, forest, active, *edge, latest);
     }
     latest
 }
 
-/// Returns the latest start of a process in any scenario: it waits for its release, these inputs, the ends of the
-/// processes in the span before it, and until its node has heard what their guards and its own test. `None` exactly if
-/// the process is never active.
+/// Returns the latest start of a process in any scenario. It waits for its release, for the inputs `edges`, and for the
+/// processes in the span before it to end; and its node must have heard what the guards of these and its own test.
+/// `active` says where the process is active. `None` exactly if it is never active.
 pub(crate) fn latest_start(
     alloc: Global,
     span: &NodeSpan<'_>,
@@ -283,11 +284,11 @@ pub(crate) fn latest_start(
     let at = span.order.place(process);
     let ready = Tree::constant(alloc, Some(problem.release(process)), problem.faults())?;
     // the release has a time everywhere, so without one here the process is never active
-    let Some(first) = most_where(problem, &ready, active) else {
+    let Some(released) = most_where(problem, &ready, active) else {
         return Ok(None);
     };
     // each step may raise the latest start; `at + 1` also takes in the guard of the process itself
-    let ended = after_ends(span, forest, active, at, first);
+    let ended = after_ends(span, forest, active, at, released);
     let heard = after_hearing(alloc, span, forest, active, at + 1, ended)?;
     Ok(Some(after_inputs(problem, forest, active, edges, heard)))
 }
@@ -297,14 +298,14 @@ pub(crate) fn latest_start(
 pub(crate) struct Sent<'a> {
     /// Its number.
     pub(crate) item: u32,
-    /// Where it goes.
+    /// In which scenarios it goes.
     pub(crate) goes: &'a Tree<bool>,
     /// The length of a round of the bus.
     pub(crate) round: u64,
 }
 
-/// Returns `latest`, raised to a round after the latest time of item `other` in a scenario in which `sent` goes, if
-/// `other` stands before it in the queue of its node.
+/// Returns `latest`, raised to a round after the latest time of item `other` in a scenario in which `sent` goes. If
+/// `other` doesn't stand before `sent` in the queue of its node, `latest` stays.
 fn after_queued(
     problem: &Problem,
     order: &Order,
@@ -329,31 +330,32 @@ fn after_queued(
     or_later(latest, time, sent.round)
 }
 
-/// Returns `first`, raised to a round after the latest time of each item that stands before `sent` in the queue of its
+/// Returns `floor`, raised to a round after the latest time of each item that stands before `sent` in the queue of its
 /// node, in a scenario in which `sent` goes.
 fn after_queue(
     problem: &Problem,
     order: &Order,
     forest: &Forest,
     sent: &Sent<'_>,
-    first: u64,
+    floor: u64,
 ) -> u64
     requires order { length order.now ≡ process_count problem.now }
     requires forest { HasTrees problem.now forest.now }
     requires item { sent.now.item < item_count problem.now }
     requires goes { IsTree problem.now sent.now.goes.now }
     requires round { sent.now.round ≡ round problem.now }
-    ensures { IsRaised problem.now (HasQueuedOf problem.now order.now forest.now sent.now.goes.now sent.now.item (item_count problem.now)) first result }
+    ensures { IsRaised problem.now (HasQueuedOf problem.now order.now forest.now sent.now.goes.now sent.now.item (item_count problem.now)) floor result }
 {
-    let mut latest = first;
+    let mut latest = floor;
     for other in 0..problem.item_count() {
         latest = after_queued(problem, order, forest, sent, other, latest);
     }
     latest
 }
 
-/// Returns the latest time at which an item is sent in any scenario: in the first slot from its producer's latest end
-/// on, or a round after an item before it in the queue, whichever is later. `None` exactly if it never goes.
+/// Returns the latest time at which the item `sent` would go in any scenario: in the first slot from its producer's
+/// latest end on, or a round after an item before it in the queue, whichever is later. `share` says which slots its
+/// node has, and `end` has the ends of its producer. `None` exactly if the producer has no end where the item goes.
 pub(crate) fn latest_send(
     problem: &Problem,
     order: &Order,
@@ -372,6 +374,6 @@ pub(crate) fn latest_send(
 {
     // where the item goes its producer has ended, so without an end it never goes
     let last = most_where(problem, end, sent.goes)?;
-    let first = slot_at(share, Some(last));
-    Some(after_queue(problem, order, forest, sent, first))
+    let slot = slot_at(share, Some(last));
+    Some(after_queue(problem, order, forest, sent, slot))
 }

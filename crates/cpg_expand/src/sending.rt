@@ -25,7 +25,7 @@ use cpg_tree::{Tree, value};
 use cpg_tree_times::{later, pick_later, same_as, slots};
 use std::alloc::Global;
 
-/// Returns a tree that is true where `active` is and the condition has the value `wanted`.
+/// Returns a tree that is true where `active` is and the condition has the value `wanted`, and false elsewhere.
 fn tested(
     alloc: Global,
     problem: &Problem,
@@ -67,7 +67,7 @@ fn asked(problem: &Problem, edge: u32) -> Option<(u32, bool)>
     }
 }
 
-/// Returns a tree that is true where an edge is live, given where its source is active.
+/// Returns a tree that is true where an edge is live, and false elsewhere. `active` says where its source is active.
 fn live(
     alloc: Global,
     problem: &Problem,
@@ -94,7 +94,7 @@ fn live(
     }
 }
 
-/// Returns a tree that is true where an item is sent, given where its producer is active.
+/// Returns a tree that is true where an item is sent, and false elsewhere. `active` says where its producer is active.
 pub(crate) fn goes(
     alloc: Global,
     problem: &Problem,
@@ -122,8 +122,9 @@ pub(crate) fn goes(
     }
 }
 
-/// Returns a tree with the first free slot at `end` or later where an item goes, and no time elsewhere. `free` says
-/// from when on slots are free.
+/// Returns a tree with the times of an item: the first free slot at `end` or later where `goes` is true, and no time
+/// elsewhere. `share` says which slots its node has, `end` when its producer ends, and `free` from when on slots are
+/// free.
 fn unfrozen_sent(
     alloc: Global,
     problem: &Problem,
@@ -148,9 +149,9 @@ fn unfrozen_sent(
     Ok(sent)
 }
 
-/// Returns when the slots are free after an item: a round after it where it goes, and as before elsewhere. That holds
-/// only if some item waits for it; otherwise any tree is returned, since the right one can be far wider than a frozen
-/// item's row.
+/// Returns from when on the slots are free after an item: `round` after its time in `sent` where `goes` is true, and as
+/// `free` says elsewhere. That holds only if some item that isn't frozen waits for it; otherwise any tree is returned,
+/// since the right one can be far wider than a frozen item's row.
 fn freed(
     problem: &Problem,
     order: &Order,
@@ -185,9 +186,9 @@ fn freed(
     Ok(freed)
 }
 
-/// Returns a tree with the first free slot of an item's node at its producer's end or later where the item goes, and
-/// no time elsewhere.
-fn slots_of(
+/// Returns a tree with the times of an item that isn't frozen: the first free slot of its node at its producer's end or
+/// later where `goes` is true, and no time elsewhere.
+fn unfrozen_times_of(
     alloc: Global,
     problem: &Problem,
     plan: &Plan,
@@ -213,7 +214,8 @@ fn slots_of(
     Ok(sent)
 }
 
-/// Returns when the slots of an item's node are free after it, if an item waits for that; otherwise any tree.
+/// Returns from when on the slots of an item's node are free after it, if some item that isn't frozen waits for that;
+/// otherwise any tree. `goes` says where the item goes, and `sent` has its times.
 fn free_then(
     problem: &Problem,
     plan: &Plan,
@@ -239,7 +241,7 @@ fn free_then(
     Ok(freed)
 }
 
-/// Puts the times of an item, and from when on the slots of its node are free.
+/// Puts into the forest the times of an item, and `free`, from when on the slots of its node are free.
 fn put(forest: &mut Forest, item: u32, times: Tree<Option<u64>>, node: u32, free: Tree<u64>)
     requires item { item < length forest.old.times }
     requires node { node < length forest.old.free }
@@ -266,7 +268,8 @@ pub(crate) struct PlannedCourse<'a> {
     pub(crate) order: &'a Order,
 }
 
-/// Returns the latest time at which a frozen item would be sent if it weren't frozen; `None` exactly if it never goes.
+/// Returns the latest time at which a frozen item would be sent if it weren't frozen. `goes` says where it goes; `None`
+/// exactly if its producer has no end there.
 fn latest_of(
     course: &PlannedCourse<'_>,
     forest: &Forest,
@@ -295,7 +298,8 @@ fn latest_of(
     latest_send(problem, course.order, forest, share, &sent, end)
 }
 
-/// Returns the times of an item that is sent. If it is frozen, they are one time, which is set in `frozen`.
+/// Returns the times of an item where it goes, which `goes` says, and no time elsewhere. If it is frozen, they are one
+/// time, the latest that it would have, which is set in `frozen`; if it never goes, no time is set.
 fn sent_of(
     alloc: Global,
     course: &PlannedCourse<'_>,
@@ -322,12 +326,12 @@ fn sent_of(
         let sent = freeze(problem, frozen, item, goes, latest)?;
         return Ok(sent);
     }
-    let sent = slots_of(alloc, problem, course.plan, forest, goes, item)?;
+    let sent = unfrozen_times_of(alloc, problem, course.plan, forest, goes, item)?;
     Ok(sent)
 }
 
-/// Adds an item that a process sends: its times, its frozen time if it is frozen, and when the slots of its node are
-/// free after it.
+/// Adds an item that a process sends: to the forest its times, and from when on the slots of its node are free after
+/// it, and to `frozen` its frozen time if it is frozen and ever goes. `active` says where the process is active.
 fn add(
     alloc: Global,
     course: &PlannedCourse<'_>,
@@ -366,7 +370,8 @@ fn add(
     Ok(())
 }
 
-/// Adds the items that a process sends, in the order of its queue.
+/// Adds the items that a process sends, in the order of its queue: to the forest their times, and from when on the
+/// slots of its node are free after them, and to `frozen` the frozen times. `active` says where the process is active.
 pub(crate) fn send(
     alloc: Global,
     course: &PlannedCourse<'_>,

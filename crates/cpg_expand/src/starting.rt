@@ -85,8 +85,9 @@ pub(crate) fn wait_for<'a>(
     }
 }
 
-/// Returns the starts of a process that isn't frozen. `active` says where it is active. `TooWide` names the forest's
-/// item if a tree on the way has too many leaves.
+/// Returns the starts of a process that isn't frozen; no time where it is inactive. `wait` says what it waits for on
+/// its node, `inputs` are the edges that lead to it, `guard` is its guard, and `active` says where it is active.
+/// `TooWide` names the forest's item if a tree on the way has too many leaves.
 pub(crate) fn unfrozen_start(
     problem: &Problem,
     forest: &Forest,
@@ -132,8 +133,9 @@ fn set_if(frozen: &mut FrozenTimes, item: u32, latest: Option<u64>)
     }
 }
 
-/// Sets `latest` as the frozen time of an item, and returns the tree that has this time where the item goes. With
-/// `None`, which is right only if it never goes, no time is set. The contract alone names `problem`.
+/// Sets `latest` as the frozen time of an item, and returns the tree that has this time where `goes` is true, and no
+/// time elsewhere. With `None`, which is right only if the item never goes, no time is set. The contract alone names
+/// `problem`.
 pub(crate) fn freeze(
     problem: &Problem,
     frozen: &mut FrozenTimes,

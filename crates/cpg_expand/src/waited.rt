@@ -8,7 +8,7 @@ ghost use Rattle.cpg_order.specs.Queue.{rank_of_item};
 
 use cpg_base::{Item, Order, Problem};
 
-/// Whether process `other` is on the node, stands behind the place `at`, and isn't frozen.
+/// Whether process `other` is on the node, stands behind the place `at` of the order, and isn't frozen.
 fn waits_behind(problem: &Problem, order: &Order, node: u32, at: u32, other: u32) -> bool
     requires other { other < process_count problem.now }
     requires order { length order.now ≡ process_count problem.now }
@@ -35,7 +35,7 @@ pub(crate) fn is_waited_for(problem: &Problem, order: &Order, process: u32) -> b
     false
 }
 
-/// Whether item `other` is sent by the node for a process at the place `at` or later, and isn't frozen.
+/// Whether item `other` is sent by the node for a process at the place `at` of the order or later, and isn't frozen.
 fn is_sent_later(problem: &Problem, order: &Order, node: u32, at: u32, other: u32) -> bool
     requires other { other < item_count problem.now }
     requires order { length order.now ≡ process_count problem.now }
@@ -46,7 +46,7 @@ fn is_sent_later(problem: &Problem, order: &Order, node: u32, at: u32, other: u3
         && (problem.home(other) == node && at <= order.place(problem.producer(other)))
 }
 
-/// Whether the node sends some item that isn't frozen for a process at the place `at` or later.
+/// Whether the node sends some item that isn't frozen for a process at the place `at` of the order or later.
 pub(crate) fn is_queued_from(problem: &Problem, order: &Order, node: u32, at: u32) -> bool
     requires order { length order.now ≡ process_count problem.now }
     ensures queued { IsQueuedFor problem.now order.now at node → result ≡ true }
@@ -80,13 +80,13 @@ pub(crate) fn is_queued_for(problem: &Problem, order: &Order, item: u32) -> bool
     )
 }
 
-/// Whether one item of a process goes before another one of it: the broadcast first, then the messages by number.
-fn is_sooner(first: Item, second: Item) -> bool
-    ensures { result ≡ nat_lt (rank_of_item first) (rank_of_item second) }
+/// Whether `item` goes before `other`, both of one process: the broadcast goes first, then the messages by number.
+fn is_sooner(item: Item, other: Item) -> bool
+    ensures { result ≡ nat_lt (rank_of_item item) (rank_of_item other) }
 {
-    match second {
+    match other {
         // only a message has items of its process before it
-        Item::Message(later) => match first {
+        Item::Message(later) => match item {
             Item::Message(edge) => edge < later,
             _ => true,
         },
@@ -102,9 +102,9 @@ pub(crate) fn stands_before(problem: &Problem, order: &Order, other: u32, item: 
     requires order { length order.now ≡ process_count problem.now }
     ensures { result ≡ stands_before problem.now order.now other item }
 {
-    let first = problem.producer(other);
-    let second = problem.producer(item);
+    let other_producer = problem.producer(other);
+    let producer = problem.producer(item);
     (problem.is_sent(other) && problem.home(other) == problem.home(item))
-        && (order.place(first) < order.place(second)
-            || (first == second && is_sooner(problem.item(other), problem.item(item))))
+        && (order.place(other_producer) < order.place(producer)
+            || (other_producer == producer && is_sooner(problem.item(other), problem.item(item))))
 }

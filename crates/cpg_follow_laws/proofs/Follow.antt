@@ -46,8 +46,9 @@ use Rattle.cpg_follow_laws.proofs.Reports.{told_by_time, tells_by_time}
 -- ones that a node on a stream takes.
 module _ {g : Graph} {tables : List NodeTable} {w : World} (k : Played g tables w) (c : Cluster)
     (r : Reached g tables w c) (a : ℕ) (l : a < length g.nodes) (time : ℕ) where
-  -- Frames of the turn aren't strange to a node that keeps only what is true. By induction on the frames: the first
-  -- isn't strange, as what it tells is true, and after it the node still keeps only what is true.
+  -- Frames `fs` of the turn aren't strange to a dispatcher `d` that keeps only what is true (`known`). By induction on
+  -- the frames: the first isn't strange, as what it tells is true, and after it the dispatcher still keeps only what is
+  -- true.
   fine : (fs : List Frame) (d : Dispatcher) (table : d.table ≡ own_table g a (table_at tables a))
       (known : Literal → Type 0) →
       Keeps g.faults d.heard known →

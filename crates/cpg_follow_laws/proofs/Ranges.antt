@@ -21,7 +21,7 @@ use Rattle.cpg_live.specs.declared.event.Event.TheVariants.{Frame as Arrival, En
 use Rattle.cpg_live.specs.declared.lawless.Defect.{Defect}
 use Rattle.cpg_live.specs.declared.lawless.Defect.TheVariants.{Length, Order, Frame as StrangeFrame, End as FalseEnd}
 use Rattle.cpg_live.specs.Records.{cut as cut_bytes, event_of, record_of}
-use Rattle.cpg_live.specs.Stream.{LiveState, NodeProgress, Step, faulty, instant_below, judged, lawful, may_end}
+use Rattle.cpg_live.specs.Stream.{LiveState, NodeProgress, Step, lawless, instant_below, judged, lawful, may_end}
 use Rattle.cpg_live.specs.Stream.{open_stream, refused, settled, step, stepped, take_record, turn_below, turn_if}
 use Rattle.cpg_live.specs.Stream.{turned}
 use Rattle.cpg_live.specs.Stream.{turns_below, with_rest}
@@ -53,12 +53,12 @@ ends_have table (e ∷ es) heard h = ends_have table es (hear_end table heard e)
 abbrev Has : NodeProgress → Type 0
 Has p = AllHave p.dispatcher.heard
 
--- a turn that takes no frame leaves no range empty
+-- if no range that `p` holds is empty, none is after the turn of the instant `o`, if there is one
 turn_has : (p : NodeProgress) (o : Option ℕ) → Has p → Has (turn_if p o)
 turn_has p None h = h
 turn_has p (Some time) h = ends_have p.dispatcher.table (due_reports p.dispatcher time) p.dispatcher.heard h
 
--- some turns without frames leave no range empty
+-- up to `count` turns, in which the node hears no frames, leave no range empty; by induction on `count`
 turns_have : (count limit : ℕ) (p : NodeProgress) → Has p → Has (turns_below count limit p)
 unfolding turns_below
 turns_have zero limit p h = h
@@ -84,14 +84,14 @@ fine d time f e =
 step_has : (time : ℕ) (event : Event) (p : NodeProgress) → Has p → Has (step time event p).progress
 step_has time (Arrival f) p h =
     let q : NodeProgress = turned time p in
-    cond_both (is_strange q.dispatcher time f) (faulty q StrangeFrame) (lawful
+    cond_both (is_strange q.dispatcher time f) (lawless q StrangeFrame) (lawful
     (record q { dispatcher = record q.dispatcher { heard = hear_frame q.dispatcher.table q.dispatcher.heard f } }))
     (λ (s : Step). Has s.progress) (λ e. turns_have time time p h) (λ e. fine q.dispatcher time f e)
 step_has time (Ending process faults value) p h =
     let q : NodeProgress = turned time p in
     let e : Ended = record { process = process; faults = faults; value = value } in
     let have : Has q = turns_have time time p h in
-    cond_both (may_end q.dispatcher time e) _ (faulty q FalseEnd) (λ (s : Step). Has s.progress) (λ _. have) (λ _. have)
+    cond_both (may_end q.dispatcher time e) _ (lawless q FalseEnd) (λ (s : Step). Has s.progress) (λ _. have) (λ _. have)
 step_has time Close p h = turns_have (time + 1) (time + 1) p h
 
 -- no range of the node of a stream is empty
@@ -120,7 +120,7 @@ record_holds s bytes h =
     cond_both (is_some s.lawless) s _ Holds (λ _. h) (λ _. cond_both s.closed (refused s Length) _ Holds (λ _. h)
     (λ _. judged_holds s (record_of bytes).time (event_of s.progress.dispatcher.table (record_of bytes)) h))
 
--- several records, one after another
+-- records that are taken one after another leave no range empty; by induction on them
 records_hold : (records : List (List ℕ)) (s : LiveState) → Holds s → Holds (fold take_record s records)
 records_hold [] s h = h
 records_hold (r ∷ rs) s h = records_hold rs (take_record s r) (record_holds s r h)
@@ -149,7 +149,7 @@ untold v (l ∷ ls) heard ne = untold v ls (cut heard l) (λ m c. ne m (Contains
     ∙ get_or-set_other heard l.variable v (cut_range (range_of heard l.variable) l) (record { low = 0; high = 0 })
     (λ e. ne l (Contains-first l ls) (sym e))
 
--- two tests that imply each other are equal
+-- if `a` implies `b`, and `b` implies `a`, they are equal
 same_answer : (a b : Bool) → (a ≡ true → b ≡ true) → (b ≡ true → a ≡ true) → a ≡ b
 same_answer true b f e = sym (f refl)
 same_answer false true f e = e refl

@@ -19,8 +19,8 @@ Apart a b = a.1.process ≢ b.1.process
 abbrev pub NotLater : ℕ × Ended → ℕ × Ended → Type 0
 NotLater a b = a.0 ≤ b.0
 
--- Of reports of different processes that may come one after another, each may come first. By induction on the reports:
--- one that may come after the first may come before it, as it is of another process.
+-- Of reports `es` of different processes that dispatcher `d` may take one after another, each `e` may come first. By
+-- induction on the reports: one that may come after the first may come before it, as it is of another process.
 pub all_may : (es : List (ℕ × Ended)) (d : Dispatcher) → AllFinish d es → Rises Apart es → (e : ℕ × Ended) →
     Contains es e →
     MayFinish d e.0 e.1
@@ -30,8 +30,8 @@ all_may (x ∷ es) d h r e c = elim (Contains-cases x es e c) [
   | inr m ↦ may_before d x.1 e.0 e.1 (r.0 e m) (all_may es (finished d x.1) h.1 r.1 e m)
 ]
 
--- Reports of different processes, each of which may come first, may come one after another if they are in order of
--- time. By induction on the reports: after the first, each of the others may still come first.
+-- If dispatcher `d` may take each of the reports `es`, which are of different processes, it may take them one after
+-- another in order of time. By induction on the reports: after the first, each of the others may still come first.
 may_tell : (es : List (ℕ × Ended)) (d : Dispatcher) (from : ℕ) →
     ((e : ℕ × Ended) → Contains es e → MayFinish d e.0 e.1) → Rises Apart es →
     Rises NotLater es →
@@ -121,10 +121,10 @@ rises_by_time : (es : List (ℕ × Ended)) → Rises NotLater (by_time es)
 rises_by_time [] = tt
 rises_by_time (x ∷ es) = rises_inserted x (by_time es) (rises_by_time es)
 
--- What they leave.
+-- What reports leave in order of time.
 
--- A report that is inserted among reports of other processes leaves the same dispatcher as if it came first. By
--- induction on the others: reports of different processes can be swapped.
+-- A report `x` that is inserted among reports `ys` of other processes leaves the same dispatcher as if it came first.
+-- By induction on `ys`: reports of different processes can be swapped.
 told_inserted : (d : Dispatcher) (x : ℕ × Ended) (ys : List (ℕ × Ended)) →
     ((e : ℕ × Ended) → Contains ys e → Apart x e) →
     after_reports d (inserted x ys) ≡ after_reports (finished d x.1) ys
@@ -146,7 +146,7 @@ told_by_time [] d r = refl
 told_by_time (x ∷ es) d r =
     told_inserted d x (by_time es) (λ e c. r.0 e (in_by_time es e c)) ∙ told_by_time es (finished d x.1) r.1
 
--- reports of different processes that a dispatcher may take one after another may be told to it in order of time
+-- reports `es` of different processes that dispatcher `d` may take one after another may be told to it in order of time
 pub tells_by_time : (es : List (ℕ × Ended)) (d : Dispatcher) (from : ℕ) → AllFinish d es → Rises Apart es →
     ((e : ℕ × Ended) → MayFinish d e.0 e.1 → from ≤ e.0) →
     MayReport d from (by_time es)

@@ -28,13 +28,13 @@ abbrev moment : Option ℕ → ℕ
 moment None = 0
 moment (Some last) = last
 
--- records that rise from a time on rise from an earlier one on
+-- events `es` that rise from `later` on rise from `from` on too, which is at most `later`
 rise_weaker : (from later to : ℕ) (es : List (ℕ × Event)) → from ≤ later → RiseWithin later to es →
     RiseWithin from to es
 rise_weaker from later to [] le h = omega (arith, le, h)
 rise_weaker from later to (e ∷ es) le h = (omega (arith, le, h.0), h.1, h.2)
 
--- two lists of records that rise, the second from a time that the first doesn't pass, rise one after the other
+-- if records `xs` rise from `from` to `middle`, and `ys` from there to `to`, they rise one after the other
 rise_join : (xs ys : List (ℕ × Event)) (from middle to : ℕ) → RiseWithin from middle xs → RiseWithin middle to ys →
     RiseWithin from to (xs ++ ys)
 rise_join [] ys from middle to h k = rise_weaker from middle to ys h k
@@ -52,7 +52,7 @@ reports_within time (e ∷ es) d from n le m = (
       (subst (λ o. IfSome o (λ n. e.0 ≤ n)) n m.1.before) m.2,
 )
 
--- frames that arrive at a time are at that time; by induction on `fs`
+-- the records of frames `fs` that arrive at a time are all at that time; by induction on `fs`
 frames_within : (time : ℕ) (fs : List Frame) → RiseWithin time time (map (frame_event time) fs)
 frames_within time [] = omega arith
 frames_within time (f ∷ fs) = (omega arith, refl, frames_within time fs)

@@ -1,4 +1,4 @@
--- What a node is told in a play has room in records.
+-- What a node is told in a play has room in records: each number fits its field, and a message carries no value.
 use Rattle.std.proofs.Common.{◌≡◌, ℕ, ◌+◌, ◌-◌, ◌<◌, ◌≤◌, Bool, true, false, cond, not, ◌||◌, ◌==◌, List, [], ◌∷◌, ◌++◌}
 use Rattle.std.proofs.Common.{length, map, get_or, Contains, Option, Some, None, refl, sym, ap, ◌∙◌, subst}
 use Rattle.std.proofs.Common.{arith, inl, inr, true≢false, ltb-true, lt-ltb, eq-eqb, ne_eqb}
@@ -59,7 +59,7 @@ column_there d time f e =
     ltb-true f.column (length (columns_in d.table.hears f.item))
     (is_true (nat_lt f.column (length (columns_in d.table.hears f.item))) q.1)
   where
-    -- what isn't false is true
+    -- if `not b` is false, `b` is true
     is_true : (b : Bool) → not b ≡ false → b ≡ true
     is_true true e = refl
     is_true false e = absurd (true≢false e)
@@ -76,13 +76,13 @@ columns_few (row ∷ rows) x h = go (row.item == x) (columns_few rows x (λ r m.
     go true ih = h row (Contains-first row rows)
     go false ih = ih
 
--- a frame has the item of its act
+-- the frame of act `a` has the item of the act, whatever item `i` it is taken for
 frame_item : (w : World) (i : Item) (a : Act) → (frame_of_item w i a).item ≡ a.item
 frame_item w (Start p) a = refl
 frame_item w (Message e) a = refl
 frame_item w (Broadcast c) a = refl
 
--- a frame of a start or a message carries the value false
+-- if `x` is a start or a message, the frame of an act `a` of it carries the value false
 frame_plain : (g : Graph) (w : World) (x : ℕ) (a : Act) → x < process_count g + edge_count g →
     (frame_of_item w (item_at g x) a).value ≡ false
 frame_plain g w x a less = go (nat_lt x (process_count g)) (nat_lt x (process_count g + edge_count g))
@@ -126,7 +126,7 @@ module _ {g : Graph} {tables : List NodeTable} {w : World} (k : Played g tables 
         frame_fine k c r.holds node l (reported g w (dispatcher_at c node) time) table time f a
         (Learnt g tables w.scenario node (by (r.holds node l).last))
         (keeps_ready k c r node l time e free) learnt_true in
-        let there = column_there (reported g w (dispatcher_at c node) time) time f fine in
+        let is_there = column_there (reported g w (dispatcher_at c node) time) time f fine in
         let hears : length (columns_in (reported g w (dispatcher_at c node) time).table.hears f.item)
         ≡ length (columns_in (table_at tables node).hears f.item) =
         ap (λ (t : NodeTable). length (columns_in t.hears f.item)) table in
@@ -134,7 +134,7 @@ module _ {g : Graph} {tables : List NodeTable} {w : World} (k : Played g tables 
         sym (ap (λ (f : Frame). f.item) a.is) ∙ frame_item w (item_at g a.item) a.act ∙ a.of in
         let known : a.item < process_count g + edge_count g + condition_count g = a.within in (
           omega (arith, item, known, within.few_processes, within.few_edges, within.few_conditions),
-          omega (arith, there, hears, few f.item),
+          omega (arith, is_there, hears, few f.item),
           λ less. let before : f.item < process_count g + edge_count g = less in
               sym (ap (λ (f : Frame). f.value) a.is) ∙ frame_plain g w a.item a.act (omega (arith, item, before)),
         )
@@ -143,12 +143,12 @@ module _ {g : Graph} {tables : List NodeTable} {w : World} (k : Played g tables 
     report_fits : (z : ℕ × Ended) → Contains (by_time (reports_now g w (dispatcher_at c node) time)) z →
         Fits (end_event z)
     report_fits z m =
-        let there = in_by_time (reports_now g w (dispatcher_at c node) time) z m in
-        let a = report_is k c r node l time z there in
+        let is_there = in_by_time (reports_now g w (dispatcher_at c node) time) z m in
+        let a = report_is k c r node l time z is_there in
         let known : a.process < process_count g = numbers-Contains (process_count g) a.process
         (Contains-filter_parts (λ p. node_of g p == node) (numbers_below (process_count g)) a.process a.on).0 in
         let may = all_may (reports_now g w (dispatcher_at c node) time) (dispatcher_at c node)
-        (may_finish k c r node l time e) (reports_apart k c r node l time) z there in
+        (may_finish k c r node l time e) (reports_apart k c r node l time) z is_there in
         let faults : (dispatcher_at c node).table.faults ≡ g.faults =
         ap (λ (d : Dispatcher). d.table.faults) (r.holds node l).is in (
           omega (arith, known, a.is, within.few_processes),

@@ -24,12 +24,12 @@ use Rattle.cpg_cluster.proofs.Plays.{played_of, valid_tables_are_correct}
 use Rattle.cpg_cluster.proofs.Reached.{reached}
 use Rattle.cpg_follow_laws.specs.Sent.{SentValuesAreKnown, only}
 
--- if the last turn has reached a moment, it has reached each earlier one
+-- if the turn `last` has reached `n`, it has reached `m`, which is not after `n`
 by_up : (last : Option ℕ) (m n : ℕ) → by last n ≡ true → m ≤ n → by last m ≡ true
 by_up None m n e l = e
 by_up (Some t) m n e l = le-leb m t (omega (arith, leb-true n t e))
 
--- a range whose ends are one number is the range of that number
+-- a range `r` whose ends are both `n` is the range of `n` only
 same_range : (r : Range) (n : ℕ) → r.low ≡ n → r.high ≡ n → r ≡ only n
 same_range r n low high = λ i. record { low = low i; high = high i }
 
@@ -47,22 +47,26 @@ sent_values_are_known g tables f h v w turns node condition a is l m e =
     let asked : Asked g tables s node a = mine.0 in
     let within = asked.row.within in
     -- the item is the broadcast of this condition
-    let there : condition < condition_count g = omega (arith, e, within) in
+    let known_condition : condition < condition_count g = omega (arith, e, within) in
     let item = ap (item_at g) e ∙ item_at-broadcast g condition in
     let made : producer g a.item ≡ process_of g condition = ap (producer_of_item g) item in
     -- the act is due, and so orderly: the condition's process has ended by then
     let all : Contains (all_asked g tables s) a =
     all_asked_in k.setting a (subst (λ n. Asked g tables s n a) (sym asked.row.home) asked) in
+    -- the act that starts the process, and that it has ended by the broadcast
     let given = list_any_parts (gives_end g s (producer g a.item) a.time) (all_asked g tables s)
     (((valid_tables_are_correct g tables f h v).orderly s k.setting.law).produced a (all, omega (arith, e))) in
     let b : Act = given.0 in
-    let parts = and_parts (b.item == producer g a.item) (leb (end_of_act g s b) a.time) given.2 in
-    let from : b.item ≡ producer g a.item = eqb-true b.item (producer g a.item) parts.0 in
-    let over : b.time + duration g b.item (fault_of s b.item) ≤ a.time = leb-true (end_of_act g s b) a.time parts.1 in
+    let ended_by_then = and_parts (b.item == producer g a.item) (leb (end_of_act g s b) a.time) given.2 in
+    let from : b.item ≡ producer g a.item = eqb-true b.item (producer g a.item) ended_by_then.0 in
+    let over : b.time + duration g b.item (fault_of s b.item) ≤ a.time =
+    leb-true (end_of_act g s b) a.time ended_by_then.1 in
+    -- this start is due, and it is that of the condition's process
     let start = all_asked_parts k.setting b given.1 in
-    let end : b.item < process_count g = omega (arith, from, made, process_of_below g condition there) in
+    let end : b.item < process_count g = omega (arith, from, made, process_of_below g condition known_condition) in
     let of : condition_of g b.item ≡ Some condition =
-    ap (condition_of g) (from ∙ made) ∙ condition_of_process_of g condition there in
+    ap (condition_of g) (from ∙ made) ∙ condition_of_process_of g condition known_condition in
+    -- the node has learnt the value from this end
     let variable : ℕ = value_variable condition in
     let value : Literal = exactly variable (number_of s variable) in
     let told : LearntFromEnd g tables s node (by n.last) value = record {
@@ -76,7 +80,8 @@ sent_values_are_known g tables f h v w turns node condition a is l m e =
       told = Contains-rest (exactly b.item (number_of s b.item)) (value_fact s (condition_of g b.item)) value
           (subst (λ o. Contains (value_fact s o) value) (sym of) (Contains-first value []));
     } in
-    let few : variable < 160 = omega (arith, there, f.few_conditions) in
+    -- so the range it holds is within that value on both sides
+    let few : variable < 160 = omega (arith, known_condition, f.few_conditions) in
     let around = within_kept k.setting n.heard (Learnt g tables s node (by n.last)) n.keeps learnt_true variable few in
     let low = n.keeps.low_above value (inl told) few in
     let high = n.keeps.high_below value (inl told) few in

@@ -1,4 +1,4 @@
--- The bytes that a node of a play is fed, and what it does with them.
+-- The bytes that spell what a node of a play hears and reports: on them it does what is due.
 use Rattle.std.specs.Prelude.{ℕ, ◌+◌, ◌≡◌, ◌<◌, ◌≤◌, ◌^◌, List, ◌++◌, length, Ok}
 use Rattle.cpg_base.specs.Graph.{Graph}
 use Rattle.cpg_base.specs.Limits.{IsWithinLimits}
@@ -21,7 +21,7 @@ use Rattle.cpg_follow_laws.specs.Follow.{records_in}
 
 -- these records are all those of a node in a play in which it is done, in any order in which time doesn't fall, up to a
 -- close that isn't before the node's last turn
-pub record IsToldAll (g : Graph) (tables : List NodeTable) (w : World) (turns : List ℕ) (node close : ℕ)
+pub record AreAllRecords (g : Graph) (tables : List NodeTable) (w : World) (turns : List ℕ) (node close : ℕ)
     (es : List (ℕ × Event)) : Type 0 where
   -- the records are those of the node in the play, in any order
   pub those : AreThoseOf es (records_in g w (initial_cluster g tables) node turns)
@@ -53,5 +53,5 @@ abbrev pub BytesOfPlaysGiveWhatIsDue : Type 0
 BytesOfPlaysGiveWhatIsDue = (g : Graph) (tables : List NodeTable) → IsWithinLimits g → AreTablesOf (head_of g) tables →
     WellFormed g → IsValid g tables →
     (w : World) (turns : List ℕ) (node close : ℕ) (es : List (ℕ × Event)) → IsWorld g w → node < length g.nodes →
-    IsToldAll g tables w turns node close es →
+    AreAllRecords g tables w turns node close es →
     DoesWhatIsDue g tables w node close (stream_bytes (closed_at es close))

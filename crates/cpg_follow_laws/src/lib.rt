@@ -12,18 +12,19 @@ pub fn plays_are_followed()
     ensures { PlaysAreFollowed }
 {}
 
-/// If a node is done in a play, it has done what is due at the close of the stream of its records.
+/// If a node is done in a play, its records and a close that isn't before its last turn are a lawful stream, on which the
+/// node does what is due.
 pub fn streams_give_what_is_due()
     ensures { StreamsGiveWhatIsDue }
 {}
 
-/// A node's records in a play are in order of time.
+/// A node's records in a play are in order of time, and a close that isn't before its last turn isn't before any of them.
 pub fn records_rise()
     ensures { RecordsRise }
 {}
 
-/// The bytes that spell a node's records, in any order in which time doesn't fall, are a stream that is lawful to its
-/// close. On it the node does what is due.
+/// If a node is done in a play, the bytes that spell its records, in any order in which time doesn't fall, and a close that
+/// isn't before its last turn are a stream that is lawful to its close. On it the node does what is due.
 pub fn bytes_of_plays_give_what_is_due()
     ensures { BytesOfPlaysGiveWhatIsDue }
 {}
@@ -38,7 +39,7 @@ pub fn frames_contradict_where_they_tell()
     ensures { FramesContradictWhereTheyTell }
 {}
 
-/// In a play of valid tables, a node that has sent the value of a condition knows just that value.
+/// In a play of valid tables, a node that has broadcast the value of a condition knows just that value of it.
 pub fn sent_values_are_known()
     ensures { SentValuesAreKnown }
 {}

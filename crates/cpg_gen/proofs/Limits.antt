@@ -73,13 +73,17 @@ slot_within : (i : ℕ) → i < 4 → IsSlotWithin 4 (slot_of i)
 slot_within i l =
     record { node = l; lasts = omega arith; length = omega arith; holds = omega arith; bytes = omega arith }
 
--- an edge leads from one of the 60 processes to a later one; its message is one byte long and frozen; and it has a `when`
--- only if its source is process 10 or 20
+-- an edge is as those of generated graphs are
 pub record IsGeneratedEdge (e : Edge) : Type 0 where
+  -- it leads to a process with a greater number
   pub rises : e.from < e.to
+  -- both are among the 60 processes
   pub within : e.to < 60
+  -- its message is one byte long
   pub size : e.size ≡ 1
+  -- its message is frozen
   pub frozen : e.frozen ≡ true
+  -- it has a `when` only if its source is process 10 or 20
   pub chosen : is_some e.when ≡ true → ((e.from == 10) || (e.from == 20)) ≡ true
 
 -- the predecessor that a draw chooses has a lower number

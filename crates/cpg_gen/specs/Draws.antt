@@ -2,7 +2,7 @@
 use Rattle.std.specs.Prelude.{ℕ, zero, suc, ◌^◌, ◌/◌, ◌%◌}
 use Rattle.cpg_base.specs.Draws.{next_number}
 
--- the number that x leads to after this many draws
+-- the number that x leads to after n draws
 unfoldable pub number_after : ℕ → ℕ → ℕ
 number_after x zero = x
 number_after x (suc n) = next_number (number_after x n)

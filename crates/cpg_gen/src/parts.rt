@@ -62,6 +62,7 @@ fn draw_costs(draws: &mut Draws) -> Costs
 {
     Costs {
         wcet: 1 + draws.next(50),
+        // a draw below 3, so the cast keeps it
         parts: 1 + draws.next(3) as u32,
         alpha: draws.next(3),
         chi: draws.next(3),
@@ -125,7 +126,7 @@ fn drawn_edge(draws: &mut Draws, target: u32) -> Edge
         (when_of (predecessor_by (next_number draws.old.number) target) target) }
     ensures number { draws.new.number ≡ next_number draws.old.number }
 {
-    // one of the six processes before the target, or of all if there are fewer
+    // one of the six processes before the target, or of all if there are fewer; a draw below 6, so the cast keeps it
     let source = target - 1 - draws.next(u64::from(target.min(6))) as u32;
     edge(source, target, when(source, target))
 }

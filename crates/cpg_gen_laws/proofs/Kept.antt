@@ -29,7 +29,7 @@ use Rattle.cpg_rules.proofs.Exact.{two_live}
 use Rattle.cpg_gen.specs.Generated.{generated, generated_process, edge_of, slot_of}
 use Rattle.cpg_gen.proofs.Limits.{generated_edge, edge_there, processes_count, few_conditions, within_limits}
 
--- a filter keeps no more elements than there are
+-- a filter by the test `p` keeps at most as many elements as `xs` has
 pub filter_long : {X : Type 0} (p : X → Bool) (xs : List X) → length (filter p xs) ≤ length xs
 filter_long p xs = omega (arith, length-filter p xs, count_by-le-length p xs)
 
@@ -64,6 +64,7 @@ not_both : (b : Bool) → b ≡ true → not b ≡ true → ⊥
 not_both true e f = both_ways false refl f
 not_both false e f = both_ways false refl e
 
+-- given the number of a generated graph
 module _ (number : ℕ) where
   -- ---- cycles
 
@@ -109,6 +110,7 @@ module _ (number : ℕ) where
   second_edge : edge_at (generated number) 40 ≡ edge_of 10 40 (Some false)
   second_edge = refl
 
+  -- given the values of all conditions
   module _ (values : List Bool) where
     -- whether an edge is live, by its fields
     abbrev live_by : Edge → Bool

@@ -43,7 +43,7 @@ ways_of_processes =
     let two = ways_times 60 1 in
     omega arith
 
--- at most four outcomes of that many ways make 7,564
+-- at most four outcomes, `p`, of 1,891 ways each, `w`, make at most 7,564
 product_few : (p w : ℕ) → p ≤ 4 → w ≡ 1891 → p * w ≤ 7564
 product_few p w l e = subst (λ v. p * v ≤ 7564) (sym e) (omega (arith, l))
 
@@ -61,30 +61,29 @@ none_values v k = absurd (Contains-nil v k)
 values_values : (cs : List ℕ) → AreValues (map value_variable cs)
 values_values cs v k = let r = Contains-map_parts value_variable cs v k in omega (arith, r.2)
 
--- two reaches of values alone make one together
+-- two reaches of values alone, `xs` and `ys`, make one together
 append_values : (xs ys : List ℕ) → AreValues xs → AreValues ys → AreValues (xs ++ ys)
 append_values xs ys h k v c =
     ⊎_elim (λ (a : Contains xs v). h v a) (λ (a : Contains ys v). k v a) (Contains-append_cases xs ys v c)
 
--- either of two reaches of values alone is one
+-- if `xs` and `ys` are both variables of values alone, so is the one of them that `b` picks
 either_values : (b : Bool) (xs ys : List ℕ) → AreValues xs → AreValues ys → AreValues (cond b xs ys)
 either_values true xs ys h k = h
 either_values false xs ys h k = k
 
--- so is the first of two, if a test picks it, whatever the second is
+-- if `b` picks `xs` out of the two, and these are variables of values alone, so is what is picked, whatever `ys` are
 first_values : (b : Bool) (xs ys : List ℕ) → b ≡ true → AreValues xs → AreValues (cond b xs ys)
 first_values true xs ys e h = h
 first_values false xs ys e h = absurd (both_ways false refl e)
 
--- such a reach has the fault count of no process
+-- a reach `vs` of values alone has the fault count of no process `p`
 no_count : (vs : List ℕ) → AreValues vs → (p : ℕ) → p < 128 → is_in vs p ≡ false
 no_count vs h p l =
     list_any_false (λ u. u == p) vs (λ u k. ne_eqb u p (λ e. let high = h u k in omega (arith, high, e, l)))
 
 -- ---- sums
 
--- A sum over more numbers is no less.
--- By induction on how many more.
+-- The sum of `f` over the first `n + m` numbers is no less than over the first `n`. By induction on `m`.
 sums_grow : (f : ℕ → ℕ) (n m : ℕ) → sum_by f (numbers_below n) ≤ sum_by f (numbers_below (n + m))
 sums_grow f n zero = let e : n + 0 ≡ n = omega arith in
     subst (λ k. sum_by f (numbers_below n) ≤ sum_by f (numbers_below k)) (sym e) (omega arith)
@@ -117,11 +116,12 @@ bound_of_broadcast x l = cond-false (nat_lt x 60) 7564 (cond (nat_lt x 120) 8 30
 bounds : sum_by bound (numbers_below 122) ≡ 514832
 bounds = refl
 
--- a load that counts only if a test passes is no more than the load
+-- a load `n` that counts only if the test `b` passes is no more than `n`
 few_rows : (b : Bool) (n : ℕ) → cond b n 0 ≤ n
 few_rows true n = omega arith
 few_rows false n = omega arith
 
+-- given the number of a generated graph
 module _ (number : ℕ) where
   -- ---- views
 
@@ -173,9 +173,11 @@ module _ (number : ℕ) where
         let four = outcomes_few (condition_count (generated number)) (few_conditions number) in
         omega (arith, sum, fewer, four)
 
+  -- given an order, and what each item reaches under it
   module _ (order : List ℕ) (r : Reach) (is : IsReach (generated number) order r) where
     -- ---- messages
 
+    -- given an edge
     module _ (e : ℕ) (l : e < edge_count (generated number)) where
       -- the item is that message
       item : item_at (generated number) (message_item (generated number) e) ≡ Message e

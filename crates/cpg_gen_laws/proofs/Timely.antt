@@ -67,7 +67,7 @@ duration_few w a c m d (suc (suc zero)) lw la lc lm (suc (suc (suc zero))) some 
 duration_few w a c m d (suc (suc (suc f))) lw la lc lm (suc n) some few h lf = absurd (omega arith)
 duration_few w a c m d f lw la lc lm (suc (suc (suc (suc n)))) some few h lf = absurd (omega arith)
 
--- an execution of a process made of a draw lasts at most 166, with two faults at most
+-- an execution of process `i`, which is made of draw `x`, lasts at most 166 with `f` faults, at most two
 duration_from : (x i f : ℕ) → f ≤ 2 → duration_of (process_from x i) f ≤ 166
 duration_from x i f l =
     let w = draw-lt x 1 50 (omega arith) in
@@ -87,7 +87,8 @@ duration_from x i f l =
 abbrev count_before : (ℕ → ℕ) → ℕ → ℕ → ℕ
 count_before at n m = length (filter (λ x. nat_lt (at x) m) (numbers_below n))
 
--- if one element passes only the second test, more elements pass it
+-- if each `x` that passes `p` passes `q`, and `y` passes only `q`, at least one element more of `xs` passes `q` than
+-- `p`
 one_more : {X : Type 0} (p q : X → Bool) (xs : List X) (y : X) → ((x : X) → p x ≡ true → q x ≡ true) → Contains xs y →
     p y ≡ false → q y ≡ true →
     length (filter p xs) + 1 ≤ length (filter q xs)
@@ -97,14 +98,15 @@ one_more p q (x ∷ xs) y h k f t = ⊎_elim
     (λ (c : Contains xs y). there (p x) refl (q x) refl (one_more p q xs y h c f t))
     (Contains-cases x xs y k)
   where
-    -- at the element itself: only the second test counts it
+    -- at the element itself, of which the first test, `a`, is false and the second, `b`, is true: only the second
+    -- counts it
     here : (a : Bool) → a ≡ false → (b : Bool) → b ≡ true → length (filter p xs) ≤ length (filter q xs) →
         length (cond a (x ∷ filter p xs) (filter p xs)) + 1 ≤ length (cond b (x ∷ filter q xs) (filter q xs))
     here false e true g ih = omega (arith, ih)
     here true e b g ih = absurd (true≢false e)
     here false e false g ih = absurd (true≢false (sym g))
 
-    -- at another element: whatever the first test counts, the second counts too
+    -- at another element, of which the tests are `a` and `b`: whatever the first counts, the second counts too
     there : (a : Bool) → p x ≡ a → (b : Bool) → q x ≡ b → length (filter p xs) + 1 ≤ length (filter q xs) →
         length (cond a (x ∷ filter p xs) (filter p xs)) + 1 ≤ length (cond b (x ∷ filter q xs) (filter q xs))
     there true e true g ih = omega (arith, ih)
@@ -112,38 +114,39 @@ one_more p q (x ∷ xs) y h k f t = ⊎_elim
     there false e true g ih = omega (arith, ih)
     there false e false g ih = ih
 
--- a moment that comes before m comes before the next one
+-- if the moment of `x` comes before `m`, it comes before `m + 1`
 later_passes : (at : ℕ → ℕ) (m x : ℕ) → nat_lt (at x) m ≡ true → nat_lt (at x) (suc m) ≡ true
 later_passes at m x t = let l = ltb-true (at x) m t in lt-ltb (at x) (suc m) (omega (arith, l))
 
--- no fewer moments come before m + 1 than before m
+-- of the first `n` moments, no fewer come before `m + 1` than before `m`
 count_grows : (at : ℕ → ℕ) (n m : ℕ) → count_before at n m ≤ count_before at n (suc m)
 count_grows at n m =
     length-filter-le (λ x. nat_lt (at x) m) (λ x. nat_lt (at x) (suc m)) (numbers_below n) (later_passes at m)
 
--- and one more does if some moment is m
+-- of the first `n` moments, at least one more comes before `m + 1` than before `m`, if that of some `x` is `m`
 count_more : (at : ℕ → ℕ) (n m x : ℕ) → x < n → at x ≡ m → count_before at n m + 1 ≤ count_before at n (suc m)
 count_more at n m x l e = one_more (λ x. nat_lt (at x) m) (λ x. nat_lt (at x) (suc m)) (numbers_below n) x
     (later_passes at m) (Contains-numbers n x l)
     (le-ltb (at x) m (omega (arith, e))) (lt-ltb (at x) (suc m) (omega (arith, e)))
 
--- no more than all n moments come before one
+-- of the first `n` moments, at most `n` come before `m`
 count_few : (at : ℕ → ℕ) (n m : ℕ) → count_before at n m ≤ n
 count_few at n m = omega (arith, filter_long (λ x. nat_lt (at x) m) (numbers_below n), length-range_with_len 0 n)
 
--- a frozen time that is at most b, if there is one, is no greater in the list of it
+-- if no frozen time `o` is greater than `b`, neither is the greatest of the list of it
 frozen_le : (o : Option ℕ) (b : ℕ) → ((time : ℕ) → o ≡ Some time → time ≤ b) → greatest (option_to_list o) ≤ b
 frozen_le None b h = omega arith
 frozen_le (Some time) b h = let l = h time refl in omega (arith, greatest-cons time [])
 
--- an end is at most a bound of its start and one of its duration
+-- if a start `o` is at most `b`, and a duration `d` at most `c`, the end is at most `b + c`
 end_from : (o : Option ℕ) (d b c : ℕ) → unwrap_or o 0 ≤ b → d ≤ c →
     unwrap_or (option_map (λ start. start + d) o) 0 ≤ b + c
 end_from None d b c h l = omega arith
 end_from (Some n) d b c h l = omega arith
 
+-- given the number of a generated graph
 module _ (number : ℕ) where
-  -- an execution of a process with at most two faults lasts at most 166
+  -- an execution of process `p` with `f` faults, at most two, lasts at most 166
   duration_le : (p f : ℕ) → p < process_count (generated number) → f ≤ 2 → duration (generated number) p f ≤ 166
   duration_le p f l h =
       let within : p < 60 = omega (arith, l, processes_count number) in
@@ -166,6 +169,7 @@ module _ (number : ℕ) where
   round_is : round (generated number) ≡ 40
   round_is = refl
 
+  -- given an order in which each edge leads forward
   module _ (order : List ℕ) (topological : IsTopological (generated number) order) where
     -- the times that are settled before a moment are no later than this
     abbrev ended : ℕ → ℕ
@@ -217,6 +221,7 @@ module _ (number : ℕ) where
         let c = few_conditions number in
         omega (arith, a, b, p, e, c)
 
+    -- given the frozen times under this order
     module _ (frozen : List (Option ℕ)) (still : AreFrozenTimes (generated number) order frozen) where
       -- all times and ends before the moment m are at most its bound
       record SmallBefore (t : Times) (m : ℕ) : Type 0 where
@@ -240,6 +245,7 @@ module _ (number : ℕ) where
             let turn = round_is in
             omega (arith, early, slot, turn)
 
+        -- given a moment `m`, before which all times are small, and a process `p` whose place has come by then
         module _ (m p : ℕ) (a : SmallBefore t m) (at : place order p * phases (generated number) ≤ m) where
           -- an input of a process whose place has come is there by then, too
           input_le : (e : ℕ) → Contains (inputs (generated number) p) e →
@@ -441,7 +447,7 @@ module _ (number : ℕ) where
             ];
           }
 
-      -- no process ends later than 19,720
+      -- in a run of scenario `s` with times `t`, no process `p` ends later than 19,720
       pub ends_early : (s : Scenario) (t : Times) → IsScenario (generated number) s →
           IsRun (generated number) order frozen s t → (p : ℕ) → p < process_count (generated number) →
           end_in t p ≤ 19720

@@ -111,8 +111,8 @@ module _ (d : Data) (ms : Members) where
       )
       (ap (λ (r : RawGraph). Ok (record r { order = Some names })) (same_ok _ r rest))
 
--- The names of its processes are read as names.
--- The reader is opened step by step up to the rows of the processes.
+-- The names of the processes of `r`, which the document `ms` says, are read as names. The reader is opened step by step
+-- up to the rows of the processes.
 pub raw_processes : (ms : Members) (r : RawGraph) → read_raw ms ≡ Ok r →
     AllByRecursion IsRead (process_names r.processes)
 unfolding read_raw

@@ -87,6 +87,7 @@ module _ (g : Graph) (urgency : List ℕ) (guards : Guards) (c : Compiled) (is :
 
   -- ---- tables under one order
 
+  -- given what a build made under the order of the compile
   module _ (b : Built) (built : IsBuiltFor (with_order g c.order) urgency c.order b) where
     -- its frozen times are those of the compile
     same_frozen : c.built.frozen ≡ b.frozen
@@ -100,7 +101,7 @@ module _ (g : Graph) (urgency : List ℕ) (guards : Guards) (c : Compiled) (is :
         (subst (λ f. IsWorst g urgency c.order f b.worst b.worst_in b.worst_by) (sym same_frozen)
         (worst_back g (Some c.order) c.order b.frozen urgency b.worst b.worst_in b.worst_by built.worst))
 
-    -- each item has the same time in each scenario
+    -- each item `x` has the same time in each scenario `s`, by the tables of `c` and of `b`
     same_times : (x : ℕ) (s : Scenario) → IsScenario g s → at c.built.tables.nodes x s ≡ at b.tables.nodes x s
     same_times x s law =
         let run = a_run g c.order c.built.frozen s topological in

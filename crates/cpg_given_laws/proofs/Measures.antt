@@ -6,21 +6,21 @@ use Rattle.cpg_base.specs.Scenario.{Scenario, IsScenario}
 use Rattle.cpg_run.specs.Run.{Times, IsRun}
 use Rattle.cpg_run.specs.Frozen.{WouldHave, IsFrozenTime, AreFrozenTimes}
 use Rattle.cpg_run.specs.Finish.{IsWorst, IsExcess}
-use Rattle.cpg_expand.specs.Measured.{IsMeasured}
+use Rattle.cpg_core.specs.Measured.{IsMeasured}
 use Rattle.cpg_given_laws.proofs.Runs.{other, same_item_active, same_unfrozen, run_of_other}
 
--- a scenario of a graph is one of each
+-- a scenario `s` of a graph is one of the graph that gives an order
 pub scenario_of_other : (g : Graph) (given : Option (List ℕ)) (s : Scenario) → IsScenario g s →
     IsScenario (other g given) s
 scenario_of_other g given s is = record { values = is.values; faults = is.faults; budget = is.budget }
 
--- a run of a graph that gives an order is one of the graph
+-- a run of scenario `s`, with times `t`, of a graph that gives an order is one of the graph without it
 pub run_back : (g : Graph) (given : Option (List ℕ)) (order : List ℕ) (frozen : List (Option ℕ)) (s : Scenario)
     (t : Times) → IsRun (other g given) order frozen s t →
     IsRun g order frozen s t
 run_back g given order frozen s t = run_of_other (other g given) g.order order s t frozen
 
--- a scenario of a graph that gives an order is one of the graph without it
+-- a scenario `s` of a graph that gives an order is one of the graph without it
 pub scenario_back : (g : Graph) (given : Option (List ℕ)) (s : Scenario) → IsScenario (other g given) s → IsScenario g s
 scenario_back g given = scenario_of_other (other g given) g.order
 
@@ -54,8 +54,10 @@ module _ (g : Graph) (given : Option (List ℕ)) (order : List ℕ) (frozen : Li
   frozen_of_other are =
       record { count = are.count; each = λ x l f. frozen_time x (are.each x l f); others = are.others }
 
+  -- given an urgency order
   module _ (urgency : List ℕ) where
-    -- the greatest finish under an order is the same whatever order the graph gives
+    -- the greatest finish under an order, in scenario `s` and by process `by`, is the same whatever order the graph
+    -- gives
     pub worst_of_other : (worst : ℕ) (s : Scenario) (by : Option ℕ) → IsWorst g urgency order frozen worst s by →
         IsWorst (other g given) urgency order frozen worst s by
     worst_of_other worst s by is = record {
@@ -69,8 +71,8 @@ module _ (g : Graph) (given : Option (List ℕ)) (order : List ℕ) (frozen : Li
       by = λ t run. is.by t (run_back g given order frozen s t run);
     }
 
-    -- The greatest excess under an order is the same whatever order the graph gives.
-    -- Scenarios and runs are the same.
+    -- The greatest excess under an order, in scenario `s` and by process `by`, is the same whatever order the graph
+    -- gives. Scenarios and runs are the same.
     pub excess_of_other : (excess : ℕ) (s : Scenario) (by : Option ℕ) → IsExcess g urgency order frozen excess s by →
         IsExcess (other g given) urgency order frozen excess s by
     excess_of_other excess s by is = record {
@@ -90,7 +92,8 @@ pub frozen_back : (g : Graph) (given : Option (List ℕ)) (order : List ℕ) (fr
     AreFrozenTimes g order frozen
 frozen_back g given = frozen_of_other (other g given) g.order
 
--- the greatest finish of a graph that gives an order is that of the graph without it
+-- the greatest finish of a graph that gives an order, in scenario `s` and by process `by`, is that of the graph without
+-- it
 pub worst_back : (g : Graph) (given : Option (List ℕ)) (order : List ℕ) (frozen : List (Option ℕ)) (urgency : List ℕ)
     (worst : ℕ) (s : Scenario) (by : Option ℕ) →
     IsWorst (other g given) urgency order frozen worst s by → IsWorst g urgency order frozen worst s by

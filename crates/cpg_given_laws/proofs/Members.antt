@@ -24,12 +24,13 @@ Differs Greater = ⊤
 same_text : (text other : List ℕ) → slice_cmp nat_cmp text other ≡ Equal → text ≡ other
 same_text text other e = (bytes_eq-Decides text other).0 (sym (is_eq-slice_cmp text other) ∙ ap is_eq e)
 
--- a key that differs is passed over
+-- a key that compares by `o` as different is passed over: `found`, not `d`, is the answer
 passed : (o : Ordering) → Differs o → (found : Option Data) (d : Data) → match_ordering o found (Some d) found ≡ found
 passed Less h found d = refl
 passed Equal h found d = elim h [ ]
 passed Greater h found d = refl
 
+-- given a key and a value
 module _ (k : List ℕ) (d : Data) where
   -- a value that is put at a key leaves those at other keys
   pub other_key : (other : List ℕ) (ms : Members) → Differs (slice_cmp nat_cmp other k) →

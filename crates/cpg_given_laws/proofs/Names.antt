@@ -78,7 +78,7 @@ process_is_read row p h =
     (sym (process-parts row name node a b) ∙ h) λ work c last.
     subst IsRead (ap (λ (p : RawProcess). p.name) (same_ok (process_with name node work) p last)) (read_at row name a)
 
--- the names of processes that were read from a document are names
+-- the names of processes `ps` that were read from a document, numbered from `i`, are names
 pub read_processes : (i : ℕ) (members : List Members) (ps : List RawProcess) →
     each (λ i ms. read_process (record { table = tables.Process; index = i; members = ms })) i members ≡ Ok ps →
     AllByRecursion IsRead (process_names ps)
@@ -89,14 +89,14 @@ read_processes i (ms ∷ rest) ps h =
     subst (λ ps. AllByRecursion IsRead (process_names ps)) (sym p.2)
     (process_is_read _ p.0 p.3, read_processes (i + 1) rest p.1 p.4)
 
--- a process is called as the document calls it
+-- a process `p` is called as the document calls it
 called : (nodes : List (List ℕ)) (i : ℕ) (raw : RawProcess) (p : Process) → process_of nodes i raw ≡ Ok p →
     p.name ≡ raw.name
 unfolding process_of
 called nodes i raw p h = opened (number_of nodes (place tables.Process i Node) raw.node) _ p h
     λ node a last. sym (ap (λ (p : Process). p.name) (same_ok _ p last))
 
--- the processes of a graph that was read have the names of the document
+-- the processes `ps` that were read of `raws`, numbered from `i`, have the names of the document
 pub all_called : (nodes : List (List ℕ)) (i : ℕ) (raws : List RawProcess) (ps : List Process) →
     each (process_of nodes) i raws ≡ Ok ps →
     map (λ (p : Process). p.name) ps ≡ process_names raws

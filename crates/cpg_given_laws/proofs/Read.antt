@@ -63,8 +63,8 @@ are_numbered g order limited within =
           ∙ ap (λ (g : Graph). Ok g.order) (same_ok (graph_with raw slots processes edges found) h last);
     }
 
--- A graph is called as its document calls it.
--- Step by step of the reading: only the list of processes makes the names, and it keeps them.
+-- The processes of the graph `g` are called as in its document `r`. Step by step of the reading: only the list of
+-- processes makes the names, and it keeps them.
 same_names : (r : RawGraph) (g : Graph) → graph_of r ≡ Ok g → names_of g.processes ≡ process_names r.processes
 unfolding graph_of resolved
 same_names r g h =
@@ -79,8 +79,8 @@ same_names r g h =
     ap (λ (g : Graph). names_of g.processes) (sym (same_ok (graph_with r slots processes edges found) g last))
     ∙ all_called r.nodes 0 r.processes processes ps
 
--- With the names of an order a document says the graph that gives it.
--- Each step of the reading gives the same as before, and the last one finds the order's numbers by their names.
+-- With the names of the processes in `order`, the document `r` of the graph `g` says `g` with that order. Each step of
+-- the reading gives the same as before, and the last one finds the order's numbers by their names.
 graph_ordered : (r : RawGraph) (g : Graph) (order : List ℕ) → graph_of r ≡ Ok g →
     AreNumbered (process_names r.processes) order
     → graph_of (record r { order = Some (map (name_in (process_names r.processes)) order) }) ≡ Ok (with_order g order)

@@ -86,6 +86,7 @@ module _ (g : Graph) (given : Option (List ℕ)) where
 
   -- ---- bounds
 
+  -- given an order, a scenario and the times of a run
   module _ (order : List ℕ) (s : Scenario) (t : Times) where
     -- a start waits for the same
     same_start : (p : ℕ) → start_bounds other order s t p ≡ start_bounds g order s t p
@@ -101,7 +102,7 @@ module _ (g : Graph) (given : Option (List ℕ)) where
         ∷ map (λ y. time_in t y + round g) (filter f (queued_before g order x)))
         (fun_ext (λ y. same_item_active s.values (item_at g y)))
 
-    -- each item has the same bounds whatever order is given
+    -- item `it`, of number `x`, has the same bounds whatever order is given
     same_bounds : (x : ℕ) (it : Item) → bounds_of_item other order s t x it ≡ bounds_of_item g order s t x it
     same_bounds x (Start p) = same_start p
     same_bounds x (Message e) = same_send x

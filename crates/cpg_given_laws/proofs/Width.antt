@@ -27,6 +27,7 @@ module _ (g : Graph) (given : Option (List ℕ)) where
       (λ f p. filter (λ c. list_any (λ o. f o p c) (outcomes (condition_count g))) (numbers_below (condition_count g)))
       (same_decides g given)
 
+  -- given an order, and what the earlier items reach
   module _ (order : List ℕ) (r : Reach) where
     -- a start depends on the same variables
     same_start_reach : (p : ℕ) → start_reach (other g given) order r p ≡ start_reach g order r p
@@ -42,7 +43,7 @@ module _ (g : Graph) (given : Option (List ℕ)) where
         else end_reach r (producer g x) ++ flat_map (reach_of r) (queued_before g order x))
         ++ sent_value g (item_at g x)) same_conditions
 
-    -- each item has the same reach whatever order is given
+    -- item `it`, of number `x`, has the same reach whatever order is given
     same_reach : (x : ℕ) (it : Item) → reach_by_item (other g given) order r x it ≡ reach_by_item g order r x it
     same_reach x (Start p) = same_start_reach p
     same_reach x (Message e) = ap (λ vs. if is_sent_item g (Message e) then vs else []) (same_send_reach x)
@@ -64,7 +65,7 @@ module _ (g : Graph) (given : Option (List ℕ)) where
       && is_active (f s.values (process_of g c)))) (numbers_below (condition_count g)))
       (scenarios g))) (same_activations g given)
 
-  -- so the same items are too wide
+  -- so item `x` is too wide under both orders, or under neither
   same_too_wide : (r : Reach) (x : ℕ) → is_too_wide (other g given) r x ≡ is_too_wide g r x
   same_too_wide r x = ap {B = Bool} (λ f. nat_lt 0 (rows_of_item g (item_at g x))
       && (nat_lt most_views (f (reach_of r x)) || nat_lt most_loads

@@ -15,6 +15,7 @@ use Rattle.cpg_core.specs.Compiled.{IsShownLate}
 use Rattle.cpg_given_laws.specs.Without.{IsTrackOrderPreferred, IsBetterOfTwo, IsCompiledByTwo, IsLateByTwo}
 use Rattle.cpg_given_laws.specs.Without.{IsShownLateByUrgency, NothingChangesWithoutTheKey}
 
+-- given a graph that gives no order, and an urgency order
 module _ (g : Graph) (urgency : List ℕ) (none : g.order ≡ None) where
   -- the first order is the urgency order
   first : first_order g urgency ≡ urgency

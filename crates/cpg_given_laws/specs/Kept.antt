@@ -3,7 +3,7 @@ use Rattle.std.specs.Prelude.{ℕ, ◌≡◌, ◌↔◌, List, None, Some}
 use Rattle.cpg_base.specs.Graph.{Graph}
 use Rattle.cpg_rules.specs.Guards.{Guards}
 use Rattle.cpg_rules.specs.Admission.{IsAdmitted}
-use Rattle.cpg_expand.specs.Measured.{IsMeasured}
+use Rattle.cpg_core.specs.Measured.{IsMeasured}
 use Rattle.cpg_core.specs.declared.compiling.Compiled.{Compiled}
 use Rattle.cpg_core.specs.declared.fault.CompileFault.{CompileFault}
 use Rattle.cpg_core.specs.declared.fault.CompileFault.TheVariants.{OutOfMemory}

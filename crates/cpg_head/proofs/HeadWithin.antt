@@ -69,6 +69,7 @@ module _ (g : Graph) where
       ∙ ap length (same_filter (λ p. is_some (condition_of g p)) (is_disjunction g) (numbers_below (process_count g))
       (λ p c. has_condition p (numbers-Contains (process_count g) p c)))
 
+  -- given: the graph is within its limits
   module _ (w : IsWithinLimits g) where
     -- what the head says of a process is within the limits: its node is known, and its times are below 2 ^ 60
     process_within : (p : ℕ) → p < process_count g → IsHeadProcess g.faults (length g.nodes) (head_process g p)

@@ -1,4 +1,4 @@
-//! The parts of a pack's head that is made for a graph.
+//! The parts of the head that a pack for a graph has.
 ghost use Rattle.std.specs.Prelude.{◌≡◌, ◌<◌, ◌+◌, IfOk, map, option_map};
 ghost use Rattle.std.specs.List.{list_all};
 ghost use Rattle.cpg_base.specs.Numbers.{numbers_below};
@@ -10,7 +10,7 @@ use crate::{Durations, Extra, HeadProcess};
 use cpg_base::{Edge, Name, OutOfMemory, Problem, Process};
 use std::alloc::Global;
 
-/// Returns how long the executions of a process last.
+/// Returns how long an execution of a process lasts at most with 0, 1, .. faults, up to the most that the graph allows.
 fn durations_of(alloc: Global, problem: &Problem, process: u32) -> Result<Durations, OutOfMemory>
     requires { process < process_count problem.now }
     ensures { IfOk result (λ times. times ≡ map (duration problem.now process) (numbers_below (problem.now.faults + 1))) }
@@ -25,27 +25,28 @@ fn durations_of(alloc: Global, problem: &Problem, process: u32) -> Result<Durati
     Ok(Durations::new(times))
 }
 
-/// Returns what a head says of a process.
+/// Returns what the head for a graph says of one of its processes.
 fn head_process(alloc: Global, problem: &Problem, process: u32) -> Result<HeadProcess, OutOfMemory>
     requires { process < process_count problem.now }
     ensures { IfOk result (λ p. p ≡ head_process problem.now process) }
 {
-    let given = &problem.processes()[process as usize];
+    let in_graph = &problem.processes()[process as usize];
     Ok(HeadProcess {
-        name: given.name.copy()?,
-        node: given.node,
+        name: in_graph.name.copy()?,
+        node: in_graph.node,
         condition: problem.condition_of(process).is_some(),
         times: durations_of(alloc, problem, process)?,
     })
 }
 
-/// Returns what a head says of each process, by number. The one error is `OutOfMemory`.
+/// Returns what the head for a graph says of each process, by number. The one error is `OutOfMemory`.
 pub fn head_processes(alloc: Global, problem: &Problem) -> Result<Vec<HeadProcess>, OutOfMemory>
     ensures { IfOk result (λ v. v.items ≡ map (head_process problem.now) (numbers_below (process_count problem.now))) }
 {
     let count = problem.processes().len();
     let mut processes = Vec::new(alloc);
     processes.reserve(count)?;
+    // there are at most 128 processes, so the cast keeps their count
     for process in 0..count as u32 {
         processes.push(head_process(alloc, problem, process)?)?;
     }
@@ -78,7 +79,7 @@ fn are_plain(processes: &[Process]) -> bool
     processes.iter().all(|process| process.release == 0 && process.deadline.is_none())
 }
 
-/// Returns what version 2 adds for each process. The one error is `OutOfMemory`.
+/// Returns what version 2 adds for each of these processes, in their order. The one error is `OutOfMemory`.
 fn extras_of(alloc: Global, processes: &[Process]) -> Result<Vec<Extra>, OutOfMemory>
     ensures { IfOk result (λ v. v.items ≡ map extra_of processes.now) }
 {

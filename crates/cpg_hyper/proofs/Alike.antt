@@ -26,7 +26,7 @@ use Rattle.cpg_order.proofs.Acyclic.{edge_goes_up}
 use Rattle.cpg_base.proofs.Places.{position-place, place-lt, get_or-place}
 use Rattle.cpg_hyper.specs.declared.part.Part.{Part}
 use Rattle.cpg_hyper.specs.Unrolled.{copied_edge, size_of, unrolled, first_graph}
-use Rattle.cpg_hyper.specs.Instances.{part_at, IsInstance, first_of, first_edge_of, scenario_of, copied_activation}
+use Rattle.cpg_hyper.specs.Instances.{part_at, IsInstance, first_process_of, first_edge_of, scenario_of, copied_activation}
 use Rattle.cpg_hyper.specs.Laws.{AreWithinLimits, InstancesHaveConditions, InstancesAreActivatedAlike}
 use Rattle.cpg_hyper.specs.Laws.{InstancesAreActiveAlike, InstancesAreLiveAlike}
 use Rattle.cpg_hyper.proofs.Copies.{are_copies, within_whole}
@@ -96,7 +96,7 @@ module _ (whole : ℕ) (parts : List Part) (p i : ℕ) (values : List Bool) (wit
 
   -- the instance's first process
   abbrev first : ℕ
-  first = first_of whole parts p i
+  first = first_process_of whole parts p i
 
   -- the instance's first edge
   abbrev first_edge : ℕ
@@ -180,6 +180,7 @@ module _ (whole : ℕ) (parts : List Part) (p i : ℕ) (values : List Bool) (wit
       let inside = (inputs_parts part q e c).0 in
       live_by depth e inside (within_alike depth (source part e) (edge_there e inside).from))
 
+  -- given: a topological order of the whole
   module _ (order : List ℕ) (topological : IsTopological g order) where
     -- in the whole's order, the source of a copied edge comes before its target
     up : (e : ℕ) → e < edge_count part → place order (first + source part e) < place order (first + target part e)
@@ -211,7 +212,7 @@ module _ (whole : ℕ) (parts : List Part) (p i : ℕ) (values : List Bool) (wit
 pub have_conditions : InstancesHaveConditions
 have_conditions whole parts p i q within h l =
     copied_condition (unrolled whole parts) (part_at parts p).problem (first_edge_of whole parts p i)
-    (first_of whole parts p i) (size_of (part_at parts p)) (around whole parts p i [] within h)
+    (first_process_of whole parts p i) (size_of (part_at parts p)) (around whole parts p i [] within h)
     (copies whole parts p i [] within h) q l
 
 -- a process of an instance is activated as its part's process is

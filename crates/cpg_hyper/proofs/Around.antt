@@ -1,4 +1,5 @@
--- The edges of the whole around those of an instance: no other edge begins or ends at one of its processes.
+-- The edges of the whole around those of an instance: no other edge begins or ends at one of its processes. In the
+-- lemmas `first` is the number of a part's first process, p is a part, i an instance of it, and e an edge.
 use Rattle.std.proofs.Common.{◌≡◌, ℕ, zero, suc, ◌+◌, ◌-◌, ◌*◌, ◌/◌, ◌<◌, ◌≤◌, List, [], ◌∷◌, ◌++◌, length}
 use Rattle.std.proofs.Common.{length-append, append_assoc, map, flat_map, Contains, sym, ap, ◌∙◌, subst, arith, ⊎_elim}
 use Rattle.std.specs.List.{range_with_len}
@@ -14,7 +15,7 @@ use Rattle.cpg_base.proofs.Lists.{Contains-flat_map_parts, from_range}
 use Rattle.cpg_table.proofs.GraphItems.{range-append}
 use Rattle.cpg_hyper.specs.declared.part.Part.{Part}
 use Rattle.cpg_hyper.specs.Unrolled.{copied_edge, size_of, first_in, after_part, edges_in, edges_of, edges_from}
-use Rattle.cpg_hyper.specs.Instances.{part_at, IsInstance, before, first_of, edges_before, first_edge_of}
+use Rattle.cpg_hyper.specs.Instances.{part_at, IsInstance, processes_before, first_process_of, edges_before, first_edge_of}
 use Rattle.cpg_hyper.proofs.Counted.{constant_pieces, edges_size}
 use Rattle.cpg_hyper.proofs.Copies.{product_le}
 use Rattle.cpg_hyper.proofs.CopiedEdges.{next_first, same_first}
@@ -168,7 +169,7 @@ AreAroundAt whole first parts p n begin = AreAround n begin (size_of (part_at pa
 pub are_around : (whole first : ℕ) (parts : List Part) →
     ((part : Part) → Contains parts part → IsWithinLimits part.problem) → (p i : ℕ) →
     IsInstance whole parts p i
-    → AreAroundAt whole first parts p (first_edge_of whole parts p i) (first + first_of whole parts p i)
+    → AreAroundAt whole first parts p (first_edge_of whole parts p i) (first + first_process_of whole parts p i)
 -- by induction on the parts: the instance is one of the first part, or one of a later part, with the first part's
 -- edges in front
 are_around whole first [] h p i is = absurd (omega (arith, is.part))
@@ -184,7 +185,7 @@ are_around whole first (part ∷ parts) h zero i is =
 are_around whole first (part ∷ parts) h (suc p) i is =
     -- an instance of a later part: the first part's edges are in front too
     let next = after_part whole first part in
-    let begin = next + first_of whole parts p i in
+    let begin = next + first_process_of whole parts p i in
     let own = whole / part.period * length part.problem.edges in
     let rest = are_around whole next parts (λ other k. h other (Contains-rest part parts other k)) p i
     (record { part = omega (arith, is.part); instance = is.instance }) in
@@ -196,6 +197,6 @@ are_around whole first (part ∷ parts) h (suc p) i is =
     (omega (arith, b.from_ends), omega (arith, b.to_ends)))
     rest in
     subst (AreAroundAt whole first (part ∷ parts) (suc p) (first_edge_of whole (part ∷ parts) (suc p) i))
-    (next_first first (whole / part.period * size_of part) (before whole parts p) (i * size_of (part_at parts p)))
+    (next_first first (whole / part.period * size_of part) (processes_before whole parts p) (i * size_of (part_at parts p)))
     (subst (λ n. AreAroundAt whole first (part ∷ parts) (suc p) n begin)
     (next_edges own (edges_before whole parts p) (i * length (part_at parts p).problem.edges)) here)

@@ -1,4 +1,5 @@
--- Where the copies of an edge stand.
+-- Where the copies of an edge stand. In the lemmas `whole` is the hyperperiod, p a part, i an instance of it, e an edge
+-- of it, and `first` the number of the first process of all.
 use Rattle.std.proofs.Common.{◌≡◌, ℕ, zero, suc, ◌+◌, ◌*◌, ◌/◌, ◌<◌, false, List, [], ◌∷◌, ◌++◌, length, get_or, take}
 use Rattle.std.proofs.Common.{flat_map, None, sym, ap, ◌∙◌, arith}
 use Rattle.std.proofs.lemmas.List.{length-map, get_or-map, get_or_append_left, get_or-append-add}
@@ -9,7 +10,7 @@ use Rattle.cpg_base.specs.declared.process.Edge.{Edge}
 use Rattle.cpg_hyper.specs.declared.part.Part.{Part}
 use Rattle.cpg_hyper.specs.Unrolled.{copied_edge, size_of, instances, first_in, after_part, edges_in, edges_of}
 use Rattle.cpg_hyper.specs.Unrolled.{edges_from}
-use Rattle.cpg_hyper.specs.Instances.{part_at, IsInstance, before, first_of, edges_before, first_edge_of}
+use Rattle.cpg_hyper.specs.Instances.{part_at, IsInstance, processes_before, first_process_of, edges_before, first_edge_of}
 use Rattle.cpg_hyper.specs.Laws.{InstancesHaveEdges}
 use Rattle.cpg_hyper.proofs.Counted.{constant_pieces, edges_size}
 use Rattle.cpg_hyper.proofs.Copies.{within_pieces, take_count}
@@ -59,7 +60,7 @@ next_first first own b a = omega arith
 pub edge_copy_at : (whole first : ℕ) (parts : List Part) (p i e : ℕ) → IsInstance whole parts p i →
     e < length (part_at parts p).problem.edges
     → get_or (edges_from whole first parts) (first_edge_of whole parts p i + e) no_edge
-    ≡ copied_edge (first + first_of whole parts p i) (get_or (part_at parts p).problem.edges e no_edge)
+    ≡ copied_edge (first + first_process_of whole parts p i) (get_or (part_at parts p).problem.edges e no_edge)
 -- by induction on the parts
 edge_copy_at whole first [] p i e h l = absurd (omega (arith, h.part))
 edge_copy_at whole first (part ∷ parts) zero i e h l =
@@ -82,9 +83,9 @@ edge_copy_at whole first (part ∷ parts) (suc p) i e h l =
     ∙ edge_copy_at whole (after_part whole first part) parts p i e
     (record { part = omega (arith, h.part); instance = h.instance }) l
     ∙ ap (λ m. copied_edge m (get_or (part_at parts p).problem.edges e no_edge))
-    (next_first first (whole / part.period * size_of part) (before whole parts p) (i * size_of (part_at parts p)))
+    (next_first first (whole / part.period * size_of part) (processes_before whole parts p) (i * size_of (part_at parts p)))
 
 -- each edge of an instance is the copy of its part's edge
 pub have_edges : InstancesHaveEdges
 have_edges whole parts p i e h l = edge_copy_at whole 0 parts p i e h l
-    ∙ ap (λ n. copied_edge n (edge_at (part_at parts p).problem e)) (nothing_before (first_of whole parts p i))
+    ∙ ap (λ n. copied_edge n (edge_at (part_at parts p).problem e)) (nothing_before (first_process_of whole parts p i))

@@ -1,4 +1,5 @@
--- Where the copies of a process stand.
+-- Where the copies of a process stand. In the lemmas `whole` is the hyperperiod, p a part, i an instance of it, q a
+-- process of it, and `first` the number of the list's first part.
 use Rattle.std.proofs.Common.{◌≡◌, ℕ, zero, suc, ◌+◌, ◌*◌, ◌/◌, ◌<◌, ◌≤◌, false, List, [], ◌∷◌, ◌++◌, length}
 use Rattle.std.proofs.Common.{length-append, get_or, take, flat_map, None, sym, ap, ◌∙◌, arith}
 use Rattle.std.proofs.lemmas.List.{length-take, length-map, get_or-map, get_or_append_left, get_or-append-add}
@@ -9,7 +10,7 @@ use Rattle.cpg_base.specs.Graph.{process_at}
 use Rattle.cpg_base.specs.declared.process.Process.{Process}
 use Rattle.cpg_hyper.specs.declared.part.Part.{Part}
 use Rattle.cpg_hyper.specs.Unrolled.{copied_process, size_of, instances, processes_in, processes_of, processes_from}
-use Rattle.cpg_hyper.specs.Instances.{part_at, IsInstance, before, first_of}
+use Rattle.cpg_hyper.specs.Instances.{part_at, IsInstance, processes_before, first_process_of}
 use Rattle.cpg_hyper.specs.Laws.{InstancesAreCopies}
 use Rattle.cpg_hyper.proofs.Counted.{constant_pieces, processes_size}
 
@@ -69,7 +70,7 @@ in_part whole p i q part l h =
 -- the copy of a part's process stands at its place after the instance's first process
 pub copy_at : (whole first : ℕ) (parts : List Part) (p i q : ℕ) → IsInstance whole parts p i →
     q < size_of (part_at parts p)
-    → get_or (processes_from whole first parts) (before whole parts p + i * size_of (part_at parts p) + q) none
+    → get_or (processes_from whole first parts) (processes_before whole parts p + i * size_of (part_at parts p) + q) none
     ≡ copied_process (first + p) i (part_at parts p)
     (get_or (part_at parts p).problem.processes q none)
 copy_at whole first [] p i q h l = absurd (omega (arith, h.part))
@@ -91,9 +92,9 @@ copy_at whole first (part ∷ parts) zero i q h l =
     same_sum n = omega arith
 copy_at whole first (part ∷ parts) (suc p) i q h l =
     let size = processes_size whole first part in
-    let n = before whole parts p + i * size_of (part_at parts p) + q in
+    let n = processes_before whole parts p + i * size_of (part_at parts p) + q in
     ap (λ m. get_or (processes_of whole first part ++ processes_from whole (first + 1) parts) m none)
-    (moved (whole / part.period * size_of part) (before whole parts p) (i * size_of (part_at parts p)) q
+    (moved (whole / part.period * size_of part) (processes_before whole parts p) (i * size_of (part_at parts p)) q
     (length (processes_of whole first part)) size)
     ∙ get_or-append-add (processes_of whole first part) (processes_from whole (first + 1) parts) n none
     ∙ copy_at whole (first + 1) parts p i q (record { part = omega (arith, h.part); instance = h.instance }) l
@@ -110,7 +111,7 @@ copy_at whole first (part ∷ parts) (suc p) i q h l =
 
 -- an instance lies within the whole
 pub within_whole : (whole first : ℕ) (parts : List Part) (p i : ℕ) → IsInstance whole parts p i →
-    first_of whole parts p i + size_of (part_at parts p) ≤ length (processes_from whole first parts)
+    first_process_of whole parts p i + size_of (part_at parts p) ≤ length (processes_from whole first parts)
 -- by induction on the parts
 within_whole whole first [] p i h = absurd (omega (arith, h.part))
 -- an instance of the first part: its number is below the number of instances

@@ -1,4 +1,5 @@
--- How many processes and edges there are in all instances.
+-- How many processes and edges there are in all instances. In the lemmas `whole` is the hyperperiod, p a part, and
+-- `first` the number of a part's first process.
 use Rattle.std.proofs.Common.{◌≡◌, ℕ, ◌+◌, ◌*◌, ◌/◌, ◌<◌, ◌≤◌, Bool, true, false, List, [], ◌∷◌, ◌++◌, length}
 use Rattle.std.proofs.Common.{length-append, append-nil, append_assoc, get_or, drop, filter, refl, sym, ap, ◌∙◌, arith}
 use Rattle.std.specs.Prelude.{All}
@@ -54,7 +55,7 @@ same_length whole a b (part ∷ parts) = omega (
   same_length whole (after_part whole a part) (after_part whole b part) parts,
 )
 
--- a product of greater factors is greater
+-- a product of factors that are no less is no less
 product_le : (a b c d : ℕ) → a ≤ b → c ≤ d → a * c ≤ b * d
 product_le a b c d h k = grind (arith, common_steps)
 

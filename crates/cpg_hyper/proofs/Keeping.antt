@@ -21,7 +21,7 @@ use Rattle.cpg_table.specs.Valid.{IsValid, breaks, breaks_present, breaks_inputs
 use Rattle.cpg_table.specs.declared.rule.Rule.TheVariants.{Present, Inputs, Due}
 use Rattle.cpg_hyper.specs.declared.part.Part.{Part}
 use Rattle.cpg_hyper.specs.Unrolled.{size_of, unrolled, first_graph}
-use Rattle.cpg_hyper.specs.Instances.{part_at, first_of, scenario_of}
+use Rattle.cpg_hyper.specs.Instances.{part_at, first_process_of, scenario_of}
 use Rattle.cpg_hyper.specs.Laws.{InstancesHaveScenarios, InstancesLastAsLong, ValidTablesStartInstances}
 use Rattle.cpg_hyper.specs.Laws.{ValidTablesKeepPeriods}
 use Rattle.cpg_hyper.proofs.Copies.{are_copies, within_whole}
@@ -35,7 +35,7 @@ pub have_scenarios : InstancesHaveScenarios
 -- the values are as many as the part has conditions, the counts as many as it has processes, and these are some of all faults
 have_scenarios whole parts p i s over h is =
     let part = part_at parts p in
-    let first = first_of whole parts p i in
+    let first = first_process_of whole parts p i in
     let inside = within_whole whole 0 parts p i h in
     record {
       values = length-map (disjunctions part.problem) _;
@@ -51,10 +51,10 @@ have_scenarios whole parts p i s over h is =
 
 -- a process of an instance has as many faults as in the scenario of the instance
 fault_same : (whole : ℕ) (parts : List Part) (p i q : ℕ) (s : Scenario) → q < size_of (part_at parts p) →
-    fault_of (scenario_of whole parts p i s) q ≡ fault_of s (first_of whole parts p i + q)
+    fault_of (scenario_of whole parts p i s) q ≡ fault_of s (first_process_of whole parts p i + q)
 fault_same whole parts p i q s l =
-    get_or-take (size_of (part_at parts p)) (drop (first_of whole parts p i) s.faults) q 0 l
-    ∙ get_or-drop (first_of whole parts p i) s.faults q 0
+    get_or-take (size_of (part_at parts p)) (drop (first_process_of whole parts p i) s.faults) q 0 l
+    ∙ get_or-drop (first_process_of whole parts p i) s.faults q 0
 
 -- an execution in an instance lasts as long as its part's in that scenario
 pub last_as_long : InstancesLastAsLong
@@ -123,7 +123,7 @@ pub keep_periods : ValidTablesKeepPeriods
 keep_periods whole parts p i q s tables time h l is valid among =
     let g = unrolled whole parts in
     let part = part_at parts p in
-    let x = first_of whole parts p i + q in
+    let x = first_process_of whole parts p i + q in
     let below : x < process_count g = omega (arith, within_whole whole 0 parts p i h, l) in
     -- the column of the start, which matches in the scenario
     let (c, passed, at_time) = Contains-map_parts (λ (d : Column). d.time)
@@ -167,7 +167,7 @@ start_at g x l = rw (lt-ltb x (process_count g) l) refl
 pub start_instances : ValidTablesStartInstances
 start_instances whole parts p i q s tables h l is valid alive =
     let g = unrolled whole parts in
-    let x = first_of whole parts p i + q in
+    let x = first_process_of whole parts p i + q in
     let below : x < process_count g = omega (arith, within_whole whole 0 parts p i h, l) in
     let rule : breaks_present g tables s x ≡ false = valid.rules Present x None s is (omega (arith, below)) in
     let acting : item_active g s.values (item_at g x) ≡ true = rw (start_at g x below) alive in

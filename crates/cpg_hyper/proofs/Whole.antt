@@ -1,4 +1,5 @@
--- The graph of all instances is within the limits.
+-- The graph of all instances is within the limits. In the lemmas `whole` is the hyperperiod, p a part or the number of
+-- the list's first part, i an instance, x a process, and e an edge.
 use Rattle.std.proofs.Common.{◌≡◌, ◌≢◌, ℕ, suc, ◌+◌, ◌*◌, ◌/◌, ◌^◌, ◌<◌, ◌≤◌, List, [], ◌∷◌, ◌++◌, length}
 use Rattle.std.proofs.Common.{length-append, get_or, Option, Some, None, AllPairs, Contains, refl, sym, ap, ◌∙◌, subst}
 use Rattle.std.proofs.Common.{arith, ⊎_elim}

@@ -18,17 +18,17 @@ pub record IsInstance (whole : ℕ) (parts : List Part) (p i : ℕ) : Type 0 whe
   pub instance : i < whole / (part_at parts p).period
 
 -- how many processes of the whole graph come before those of part p: those of all instances of the parts before it
-abbrev pub before : ℕ → List Part → ℕ → ℕ
+abbrev pub processes_before : ℕ → List Part → ℕ → ℕ
 -- behind the last part nothing more is counted
-before whole [] p = 0
+processes_before whole [] p = 0
 -- part p itself
-before whole (part ∷ parts) zero = 0
+processes_before whole (part ∷ parts) zero = 0
 -- a part before it: each of its instances has all its processes
-before whole (part ∷ parts) (suc p) = whole / part.period * size_of part + before whole parts p
+processes_before whole (part ∷ parts) (suc p) = whole / part.period * size_of part + processes_before whole parts p
 
 -- the number in the whole graph of the first process of instance i of part p
-abbrev pub first_of : ℕ → List Part → ℕ → ℕ → ℕ
-first_of whole parts p i = before whole parts p + i * size_of (part_at parts p)
+abbrev pub first_process_of : ℕ → List Part → ℕ → ℕ → ℕ
+first_process_of whole parts p i = processes_before whole parts p + i * size_of (part_at parts p)
 
 -- how many edges of the whole graph come before those of part p
 abbrev pub edges_before : ℕ → List Part → ℕ → ℕ
@@ -49,9 +49,9 @@ abbrev pub scenario_of : ℕ → List Part → ℕ → ℕ → Scenario → Scen
 scenario_of whole parts p i s =
     record {
       values = map (λ q.
-          value_of (unrolled whole parts) s.values (first_of whole parts p i + q))
+          value_of (unrolled whole parts) s.values (first_process_of whole parts p i + q))
           (disjunctions (part_at parts p).problem);
-      faults = take (size_of (part_at parts p)) (drop (first_of whole parts p i) s.faults);
+      faults = take (size_of (part_at parts p)) (drop (first_process_of whole parts p i) s.faults);
     }
 
 -- how a copy of a process is activated, given how the process is in its part; `first` is the number of the instance's first

@@ -12,13 +12,13 @@ use Rattle.cpg_table.specs.Valid.{IsValid}
 use Rattle.cpg_hyper.specs.declared.part.Part.{Part}
 use Rattle.cpg_hyper.specs.Unrolled.{size_of, copied_process, copied_edge, unrolled}
 use Rattle.cpg_hyper.specs.Refusals.{HoldsOfEach, AreOver}
-use Rattle.cpg_hyper.specs.Instances.{part_at, IsInstance, first_of, first_edge_of, scenario_of, copied_activation}
+use Rattle.cpg_hyper.specs.Instances.{part_at, IsInstance, first_process_of, first_edge_of, scenario_of, copied_activation}
 
 -- the processes of an instance are the copies of its part's processes
 abbrev pub InstancesAreCopies : Type 0
 InstancesAreCopies =
     (whole : ℕ) (parts : List Part) (p i q : ℕ) → IsInstance whole parts p i → q < size_of (part_at parts p)
-    → process_at (unrolled whole parts) (first_of whole parts p i + q)
+    → process_at (unrolled whole parts) (first_process_of whole parts p i + q)
     ≡ copied_process p i (part_at parts p) (process_at (part_at parts p).problem q)
 
 -- a scenario of the whole graph, seen on an instance, is a scenario of its part
@@ -32,7 +32,7 @@ InstancesHaveScenarios =
 abbrev pub InstancesLastAsLong : Type 0
 InstancesLastAsLong = (whole : ℕ) (parts : List Part) (p i q : ℕ) (s : Scenario) → IsInstance whole parts p i →
     q < size_of (part_at parts p) → IsScenario (unrolled whole parts) s
-    → duration (unrolled whole parts) (first_of whole parts p i + q) (fault_of s (first_of whole parts p i + q))
+    → duration (unrolled whole parts) (first_process_of whole parts p i + q) (fault_of s (first_process_of whole parts p i + q))
     ≡ duration (part_at parts p).problem q (fault_of (scenario_of whole parts p i s) q)
 
 -- the edges of an instance are the copies of its part's edges, with the ends counted from the instance's first process
@@ -40,7 +40,7 @@ abbrev pub InstancesHaveEdges : Type 0
 InstancesHaveEdges = (whole : ℕ) (parts : List Part) (p i e : ℕ) → IsInstance whole parts p i →
     e < length (part_at parts p).problem.edges
     → edge_at (unrolled whole parts) (first_edge_of whole parts p i + e)
-    ≡ copied_edge (first_of whole parts p i) (edge_at (part_at parts p).problem e)
+    ≡ copied_edge (first_process_of whole parts p i) (edge_at (part_at parts p).problem e)
 
 -- each part is within the limits of graph files; so its edges lead between its own processes
 abbrev pub AreWithinLimits : List Part → Type 0
@@ -50,7 +50,7 @@ AreWithinLimits parts = HoldsOfEach (λ p part. IsWithinLimits part.problem) par
 abbrev pub InstancesHaveConditions : Type 0
 InstancesHaveConditions = (whole : ℕ) (parts : List Part) (p i q : ℕ) → AreWithinLimits parts →
     IsInstance whole parts p i → q < size_of (part_at parts p)
-    → is_disjunction (unrolled whole parts) (first_of whole parts p i + q) ≡ is_disjunction (part_at parts p).problem q
+    → is_disjunction (unrolled whole parts) (first_process_of whole parts p i + q) ≡ is_disjunction (part_at parts p).problem q
 
 -- If the parts are within the limits and the graph of all instances has a topological order, a process of an instance is
 -- activated as it is in its part, in what the scenario is for the instance.
@@ -58,7 +58,7 @@ abbrev pub InstancesAreActivatedAlike : Type 0
 InstancesAreActivatedAlike =
     (whole : ℕ) (parts : List Part) (p i q : ℕ) (s : Scenario) (order : List ℕ) → AreWithinLimits parts →
     IsInstance whole parts p i → q < size_of (part_at parts p) → IsTopological (unrolled whole parts) order
-    → activation (unrolled whole parts) s.values (first_of whole parts p i + q)
+    → activation (unrolled whole parts) s.values (first_process_of whole parts p i + q)
     ≡ copied_activation (first_edge_of whole parts p i)
     (activation (part_at parts p).problem (scenario_of whole parts p i s).values q)
 
@@ -68,7 +68,7 @@ abbrev pub InstancesAreActiveAlike : Type 0
 InstancesAreActiveAlike =
     (whole : ℕ) (parts : List Part) (p i q : ℕ) (s : Scenario) (order : List ℕ) → AreWithinLimits parts →
     IsInstance whole parts p i → q < size_of (part_at parts p) → IsTopological (unrolled whole parts) order
-    → active (unrolled whole parts) s.values (first_of whole parts p i + q)
+    → active (unrolled whole parts) s.values (first_process_of whole parts p i + q)
     ≡ active (part_at parts p).problem (scenario_of whole parts p i s).values q
 
 -- If the parts are within the limits and the graph of all instances has a topological order, an edge of an instance is live
@@ -91,8 +91,8 @@ abbrev pub ValidTablesStartInstances : Type 0
 ValidTablesStartInstances = (whole : ℕ) (parts : List Part) (p i q : ℕ) (s : Scenario) (tables : List NodeTable) →
     IsInstance whole parts p i → q < size_of (part_at parts p) → IsScenario (unrolled whole parts) s →
     IsValid (unrolled whole parts) tables
-    → active (unrolled whole parts) s.values (first_of whole parts p i + q) ≡ true →
-    (start : ℕ) × Contains (at tables (first_of whole parts p i + q) s) start
+    → active (unrolled whole parts) s.values (first_process_of whole parts p i + q) ≡ true →
+    (start : ℕ) × Contains (at tables (first_process_of whole parts p i + q) s) start
 
 -- in valid tables each execution in an instance keeps to its period
 abbrev pub ValidTablesKeepPeriods : Type 0
@@ -100,6 +100,6 @@ ValidTablesKeepPeriods =
     (whole : ℕ) (parts : List Part) (p i q : ℕ) (s : Scenario) (tables : List NodeTable) (start : ℕ) →
     IsInstance whole parts p i → q < size_of (part_at parts p) → IsScenario (unrolled whole parts) s →
     IsValid (unrolled whole parts) tables
-    → Contains (at tables (first_of whole parts p i + q) s) start
+    → Contains (at tables (first_process_of whole parts p i + q) s) start
     → KeepsPeriod (part_at parts p) i q start
-    (start + duration (unrolled whole parts) (first_of whole parts p i + q) (fault_of s (first_of whole parts p i + q)))
+    (start + duration (unrolled whole parts) (first_process_of whole parts p i + q) (fault_of s (first_process_of whole parts p i + q)))

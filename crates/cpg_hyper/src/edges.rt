@@ -63,11 +63,13 @@ fn add_part(out: &mut Vec<Edge>, whole: u64, part: &Part, first: u32) -> Result<
     requires few { first + whole / part.now.period * size_of part.now ≤ MOST_PROCESSES }
     ensures { OnOk result (out.new.items ≡ out.old.items ++ edges_of whole first part.now) }
 {
+    // a graph has at most 128 processes, so their number fits a `u32`
     let size = part.problem.processes().len() as u32;
     // without processes the part has no edges, and its instances may be too many to count in a `u32`
     if size == 0 {
         return Ok(());
     }
+    // each instance has at least one process, and there are at most 128 in all
     let count = (whole / part.period) as u32;
     for instance in 0..count {
         add_instance(out, part, first + instance * size)?;
@@ -86,7 +88,8 @@ pub fn unrolled_edges(alloc: Global, whole: u64, parts: &[Part]) -> Result<Vec<E
     let mut first = 0u32;
     for part in parts {
         add_part(&mut edges, whole, part, first)?;
-        // the next part's processes are numbered behind those of all its instances
+        // the next part's processes are numbered behind those of all instances of this one; the whole is at most 10^9, so
+        // both factors fit a `u32`
         first += (whole / part.period) as u32 * part.problem.processes().len() as u32;
     }
     Ok(edges)

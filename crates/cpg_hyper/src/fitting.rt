@@ -22,6 +22,7 @@ pub fn first_out_of_range(parts: &[Part]) -> Option<u32>
 {
     for place in 0..parts.len() {
         if !is_in_range(&parts[place]) {
+            // there are at most 4 parts, so the place fits a `u32`
             return Some(place as u32);
         }
     }
@@ -71,6 +72,7 @@ pub fn first_different(first: &Problem, parts: &[Part]) -> Option<u32>
 {
     for place in 0..parts.len() {
         if !is_alike(first, &parts[place]) {
+            // there are at most 4 parts, so the place fits a `u32`
             return Some(place as u32);
         }
     }
@@ -104,6 +106,7 @@ pub fn first_over(parts: &[Part]) -> Option<u32>
 {
     for place in 0..parts.len() {
         if !fits_period(&parts[place]) {
+            // there are at most 4 parts, so the place fits a `u32`
             return Some(place as u32);
         }
     }
@@ -125,6 +128,7 @@ pub fn first_with_order(parts: &[Part]) -> Option<u32>
 {
     for place in 0..parts.len() {
         if !gives_no_order(&parts[place]) {
+            // there are at most 4 parts, so the place fits a `u32`
             return Some(place as u32);
         }
     }

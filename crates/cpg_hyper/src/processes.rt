@@ -145,6 +145,7 @@ pub fn unrolled_processes(
     ensures { ShowsProcesses whole parts.now result }
 {
     let mut processes = Vec::new(alloc);
+    // there are at most 4 parts, so a place fits a `u32`
     for place in 0..parts.len() {
         if !add_part(alloc, &mut processes, whole, place as u32, &parts[place])? {
             return Err(HyperFault::LongName(place as u32));

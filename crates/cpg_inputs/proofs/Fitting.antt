@@ -23,12 +23,12 @@ abbrev IsValueOf : Log → Value → Type 0
 IsValueOf l (log_value m) = m ≡ l
 IsValueOf l v = Unit {0}
 
--- the scenario that a file says for a graph is one of that graph
+-- the scenario `p` that `bytes`, as a scenario file, say for graph `g` is one of `g`
 played_fits : (g : Graph) (bytes : Text) (p : Played) → Says (Some g) ScenarioFile bytes (played_value p) → IsPlayed g p
 played_fits g bytes p (q, e, are) =
     let same : q ≡ p = subst (IsAlike (played_value p)) e refl in subst (IsPlayed g) same are.lawful
 
--- the log that a file says for a graph is one of that graph
+-- the log `l` that `bytes`, as a log file, say for graph `g` is one of `g`
 log_fits : (g : Graph) (bytes : Text) (l : Log) → Says (Some g) LogFile bytes (log_value l) → IsLog g l
 log_fits g bytes l (m, e, are) =
     let same : m ≡ l = subst (IsValueOf l) e refl in subst (IsLog g) same are.lawful

@@ -38,6 +38,6 @@ keeps_same s = record {
   rose = λ fetch past is failed. inl refl;
 }
 
--- the same names may be fetched after two steps
+-- if the same names may be fetched by `a` and `b`, and by `b` and `c`, the same may be by `a` and `c`
 pub access_on : (a b c : List ℕ → Type 0) → SameAccess a b → SameAccess b c → SameAccess a c
 access_on a b c x y = λ name. (λ may. (y name).0 ((x name).0 may), λ may. (x name).1 ((y name).1 may))

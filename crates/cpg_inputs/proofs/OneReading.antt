@@ -33,7 +33,7 @@ abbrev value_or : {T E : Type 0} → T → Result T E → T
 value_or d (Ok x) = x
 value_or d (Err e) = d
 
--- values of one result are equal
+-- values `x` and `y` of one result `r` are equal
 pub same_value : {T E : Type 0} (r : Result T E) (x y : T) → r ≡ Ok x → r ≡ Ok y → x ≡ y
 same_value r x y a b = ap (value_or x) (sym a ∙ b)
 
@@ -42,7 +42,7 @@ abbrev is_fault : {T E : Type 0} → Result T E → Bool
 is_fault (Ok x) = false
 is_fault (Err e) = true
 
--- a result isn't both a value and an error
+-- a result `r` isn't both a value `x` and an error `e`
 pub not_both : {T E : Type 0} (r : Result T E) (x : T) (e : E) → r ≡ Ok x → r ≡ Err e → ⊥
 not_both r x e a b = both_ways _ refl (ap is_fault (sym a ∙ b) ∙ refl)
 
@@ -53,7 +53,7 @@ pub record AreAlike (a b : Admission) : Type 0 where
   pub graph : b.graph ≡ a.graph
   pub order : b.order ≡ a.order
 
--- admissions of graphs that the same bytes say have one graph and one order
+-- if the admissions `a` and `b` are both of the graph that `bytes` say, they have one graph and one order
 pub admitted_alike : (bytes : Text) (a b : Admission) → AreAdmitted bytes a → AreAdmitted bytes b → AreAlike a b
 admitted_alike bytes a b x y =
     let same : b.graph ≡ a.graph = same_value (problem_of bytes) b.graph a.graph y.says x.says in
@@ -63,7 +63,7 @@ admitted_alike bytes a b x y =
           (subst (λ g. IsUrgencyOrder g b.order) same y.admitted.urgency) x.admitted.urgency;
     }
 
--- what holds of the graph and the order of one of two alike admissions holds of those of the other
+-- if admissions `a` and `b` are alike, what holds of the graph and order of `b` holds of those of `a`
 pub moved : (a b : Admission) → AreAlike a b → (P : Graph → List ℕ → Type 0) → P b.graph b.order → P a.graph a.order
 moved a b same P p = subst (P a.graph) same.order (subst (λ g. P g b.order) same.graph p)
 
@@ -86,12 +86,12 @@ AllAlike [] (w ∷ ws) = ⊥
 AllAlike (v ∷ vs) [] = ⊥
 AllAlike (v ∷ vs) (w ∷ ws) = IsAlike v w × AllAlike vs ws
 
--- values are alike if they equal values that are alike
+-- values `v` and `w` are alike if they equal values `x` and `y` that are alike
 as_known : (v w x y : Value) → v ≡ x → w ≡ y → IsAlike x y → IsAlike v w
 as_known v w x y e f k = subst (λ u. IsAlike u w) (sym e) (subst (IsAlike x) (sym f) k)
 
--- The values that the same bytes say as a file of one kind are alike. By the kind: bytes say one graph, one scenario,
--- and spell one list of tables.
+-- The values `v` and `w` that the same bytes say as a file of kind `k` are alike. By the kind: bytes say one graph, one
+-- scenario, and spell one list of tables.
 pub says_alike : (g : Option Graph) (k : FileKind) (bytes : Text) (v w : Value) → Says g k bytes v → Says g k bytes w →
     IsAlike v w
 says_alike g GraphFile bytes v w (a, e, x) (b, f, y) =
@@ -106,7 +106,7 @@ says_alike (Some g) LogFile bytes v w (l, e, x) (m, f, y) = as_known v w (log_va
 says_alike None ScenarioFile bytes v w x y = absurd x
 says_alike None LogFile bytes v w x y = absurd x
 
--- after two values that the same bytes say, later files are read for the same graph
+-- after two values `v` and `w` that the same bytes say as a file of kind `k`, later files are read for the same graph
 pub says_after : (g : Option Graph) (k : FileKind) (bytes : Text) (v w : Value) → Says g k bytes v → Says g k bytes w →
     graph_after g w ≡ graph_after g v
 says_after g GraphFile bytes v w (a, e, x) (b, f, y) =
@@ -122,8 +122,8 @@ says_after None LogFile bytes v w x y = absurd x
 
 -- ---- no file that is read stops a run
 
--- Bytes that say a value aren't rejected, unless memory runs out. By the kind: they would both give a value and an
--- error, or an admitted graph would break a rule.
+-- Bytes that say a value `v` as a file of kind `k` aren't rejected, unless memory runs out. By the kind: they would
+-- both give a value and an error, or an admitted graph would break a rule.
 pub not_refused : (g : Option Graph) (k : FileKind) (bytes : Text) (v : Value) (h : Halt) → Says g k bytes v →
     Refuses g k bytes h → h ≡ Memory
 not_refused g GraphFile bytes v h (a, e, x) (inl faulty) =
@@ -140,7 +140,7 @@ not_refused (Some g) LogFile bytes v h (l, e, x) none = absurd (no_bad_line g by
 not_refused None ScenarioFile bytes v h x none = absurd x
 not_refused None LogFile bytes v h x none = absurd x
 
--- a file that was read doesn't stop the run, unless memory runs out
+-- a file `f` that was read, with value `v`, doesn't stop the run, unless memory runs out
 not_stopped : (g : Option Graph) (f : File) (fetch : Fetch) (v : Value) (h : Halt) → IsRead g f fetch v →
     StopsAt g f fetch h → h ≡ Memory
 not_stopped g f fetch v h r (inl unread) = absurd (true≢false (sym unread.failed ∙ r.whole.sound))
@@ -161,7 +161,7 @@ grown_on : (fetch : Fetch) (past now : List Fetch) → HasGrown (fetch ∷ past)
 grown_on fetch past now g =
     record { fetches = g.fetches ++ fetch ∷ []; is = g.is ∙ sym (append_assoc g.fetches (fetch ∷ []) past) }
 
--- reading files makes a history grow
+-- if reading `files` leads from the history `past` to `now`, then `now` has grown from `past`
 pub reads_grown : (g : Option Graph) (files : List File) (past now : List Fetch) (vs : List Value) →
     Reads g files past now vs →
     HasGrown past now
@@ -171,7 +171,8 @@ reads_grown g (f ∷ fs) past now [] r = absurd r
 reads_grown g (f ∷ fs) past now (v ∷ vs) r =
     grown_on r.0 past now (reads_grown (graph_after g v) fs (r.0 ∷ past) now vs r.2)
 
--- reading that one of the files stops makes a history grow
+-- if the halt `h` stops the reading of `files`, between the histories `past` and `now`, then `now` has grown from
+-- `past`
 pub stops_grown : (g : Option Graph) (files : List File) (past now : List Fetch) (h : Halt) →
     StopsReading g files past now h →
     HasGrown past now
@@ -190,25 +191,26 @@ abbrev tail_of : List Fetch → List Fetch
 tail_of [] = []
 tail_of (f ∷ fs) = fs
 
--- a history with one more fetch isn't the same history with at least two more
+-- a history with one more fetch, `x`, isn't the same history with `z`, then `xs`, then `y` more
 too_long : (x y z : Fetch) (past xs : List Fetch) → x ∷ past ≡ y ∷ (xs ++ z ∷ past) → ⊥
 too_long x y z past xs e = let l = ap length e in let k = length-append xs (z ∷ past) in omega (arith, l, k)
 
--- if two equal histories have the same past, the fetches right after it are equal
+-- if two equal histories have the same past, the fetches `f` and `e` right after it are equal
 same_fetch : (xs ys : List Fetch) (f e : Fetch) (past : List Fetch) → xs ++ f ∷ past ≡ ys ++ e ∷ past → f ≡ e
 same_fetch [] [] f e past is = ap (head_or f) is
 same_fetch [] (y ∷ ys) f e past is = absurd (too_long f y e past ys is)
 same_fetch (x ∷ xs) [] f e past is = absurd (too_long e x f past xs (sym is))
 same_fetch (x ∷ xs) (y ∷ ys) f e past is = same_fetch xs ys f e past (ap tail_of is)
 
--- if a history has grown from a past with one fetch more, and from it with another, the two are equal
+-- if `now` has grown from `past` with the fetch `f`, and from `past` with the fetch `e`, then `f` is `e`
 one_fetch : (past now : List Fetch) (f e : Fetch) → HasGrown (f ∷ past) now → HasGrown (e ∷ past) now → f ≡ e
 one_fetch past now f e x y = same_fetch x.fetches y.fetches f e past (sym x.is ∙ y.is)
 
 -- ---- one reading
 
--- Two readings of files between the same histories say values that are alike. By induction on the files: for the first,
--- both have the same fetch, so its bytes say values that are alike, and the later files are read for the same graph.
+-- Two readings of files between the same histories say values `vs` and `ws` that are alike. By induction on the files:
+-- for the first, both have the same fetch, so its bytes say values that are alike, and the later files are read for the
+-- same graph.
 pub reads_alike : (g : Option Graph) (files : List File) (past now : List Fetch) (vs ws : List Value) →
     Reads g files past now vs → Reads g files past now ws → AllAlike vs ws
 reads_alike g [] past now [] [] r s = tt
@@ -226,8 +228,9 @@ reads_alike g (f ∷ fs) past now (v ∷ vs) (w ∷ ws) r s =
           (subst (λ e. Reads (graph_after g w) fs (e ∷ past) now ws) same s.2)),
     )
 
--- If all files were read between two histories, what stops a reading of them between the same is that memory ran out.
--- By induction on the files: the file that stops it was read in the same fetch, so it isn't rejected.
+-- If all files were read between two histories, with values `vs`, what stops a reading of them between the same (`h`)
+-- is that memory ran out. By induction on the files: the file that stops it was read in the same fetch, so it isn't
+-- rejected.
 pub stops_memory : (g : Option Graph) (files : List File) (past now : List Fetch) (vs : List Value) (h : Halt) →
     Reads g files past now vs → StopsReading g files past now h → h ≡ Memory
 stops_memory g [] past now vs h r s = absurd s
@@ -259,7 +262,7 @@ abbrev pub AllLawful : List Value → Type 0
 AllLawful [] = Unit {0}
 AllLawful (v ∷ vs) = IsLawfulValue v × AllLawful vs
 
--- what bytes say as a file of some kind is lawful
+-- what bytes say as a file of kind `k`, the value `v`, is lawful
 value_lawful : (g : Option Graph) (k : FileKind) (bytes : Text) (v : Value) → Says g k bytes v → IsLawfulValue v
 value_lawful g GraphFile bytes v (a, e, x) = subst IsLawfulValue (sym e) x.admitted
 value_lawful g PartFile bytes v (a, e, x) = subst IsLawfulValue (sym e) tt
@@ -269,7 +272,7 @@ value_lawful (Some g) LogFile bytes v (l, e, x) = subst IsLawfulValue (sym e) tt
 value_lawful None ScenarioFile bytes v x = absurd x
 value_lawful None LogFile bytes v x = absurd x
 
--- the values of files that were read are lawful
+-- if reading `files` gives the values `vs`, all of them are lawful
 pub values_lawful : (g : Option Graph) (files : List File) (past now : List Fetch) (vs : List Value) →
     Reads g files past now vs → AllLawful vs
 values_lawful g [] past now [] r = tt

@@ -20,17 +20,17 @@ use Rattle.cpg_inputs.proofs.Readings.{graph_behind, reads_more, reads_one, stop
 
 -- ---- lists of parts
 
--- the files of two lists of pairs together are those of the first and then those of the second
+-- the files of the pairs `ps` and then `qs` are those of `ps` and then those of `qs`
 files_more : (ps qs : List Pair) → part_files (ps ++ qs) ≡ part_files ps ++ part_files qs
 files_more [] qs = refl
 files_more (p ∷ ps) qs = ap (λ fs. file PartFile p.graph ∷ fs) (files_more ps qs)
 
--- the values of two lists of parts together are those of the first and then those of the second
+-- the values of the parts `ps` and then `qs` are those of `ps` and then those of `qs`
 values_more : (ps qs : List Part) → part_values (ps ++ qs) ≡ part_values ps ++ part_values qs
 values_more [] qs = refl
 values_more (p ∷ ps) qs = ap (λ vs. part_value p.problem ∷ vs) (values_more ps qs)
 
--- parts with their pairs' periods stay so if a pair and a part with its period are added
+-- if parts `ds` have the periods of pairs `ps`, they have with part `d` and its pair `p` at the ends
 periods_more : (ps : List Pair) (ds : List Part) (p : Pair) (d : Part) → HavePeriods ps ds → d.period ≡ p.period →
     HavePeriods (ps ++ p ∷ []) (ds ++ d ∷ [])
 periods_more [] [] p d have e = (e, tt)
@@ -43,7 +43,7 @@ behind_parts : (ds : List Part) → graph_behind None (part_values ds) ≡ None
 behind_parts [] = refl
 behind_parts (d ∷ ds) = behind_parts ds
 
--- there are as many parts as pairs of a period and a file
+-- if the parts `ds` have the periods of the pairs `ps`, there are as many parts as pairs
 pub periods_length : (ps : List Pair) (ds : List Part) → HavePeriods ps ds → length ds ≡ length ps
 periods_length [] [] have = refl
 periods_length [] (d ∷ ds) have = absurd have
@@ -136,7 +136,7 @@ pub periods_all : (pairs : List Pair) (i : ℕ) (parts : List Part) → length p
     HavePeriods pairs parts
 periods_all pairs i parts l have = subst (λ ps. HavePeriods ps parts) (take_all i pairs l) have
 
--- if the files of all pairs may be fetched, so may the file of each
+-- if the files of all `pairs` may be fetched, so may that of `pair`, which is pair `i`
 pub may_at : (may : Text → Type 0) (pairs : List Pair) (i : ℕ) (pair : Pair) → i < length pairs →
     pair ≡ get_or pairs i pair → All may (map (λ (p : Pair). p.graph) pairs) → may pair.graph
 may_at may pairs i pair l is all =

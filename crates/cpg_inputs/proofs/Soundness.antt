@@ -27,7 +27,7 @@ sound_on fetch past now one s = record {
   sound = All-push IsSound s.fetches fetch s.sound one;
 }
 
--- if all files were read, no fetch failed
+-- if reading all `files` led from `past` to `now`, no fetch in between failed
 pub reads_sound : (g : Option Graph) (files : List File) (past now : List Fetch) (vs : List Value) →
     Reads g files past now vs →
     AreSound past now
@@ -37,14 +37,14 @@ reads_sound g (f ∷ fs) past now [] r = absurd r
 reads_sound g (f ∷ fs) past now (v ∷ vs) r =
     sound_on r.0 past now r.1.whole.sound (reads_sound (graph_after g v) fs (r.0 ∷ past) now vs r.2)
 
--- if a file stops the run, its fetch didn't fail, or the halt says that it did
+-- if file `f` stops the run with halt `h`, its fetch didn't fail, or the halt says that it did
 stop_sound : (g : Option Graph) (f : File) (fetch : Fetch) (h : Halt) → StopsAt g f fetch h → IsSound fetch ⊎ (h ≡ Read)
 stop_sound g f fetch h (inl unread) = inr unread.halt_is
 stop_sound g f fetch h (inr (inl long)) = inl long.sound
 stop_sound g f fetch h (inr (inr (inl refused))) = inl refused.whole.sound
 stop_sound g f fetch h (inr (inr (inr wanting))) = inl wanting.sound
 
--- if a file stops the run, a fetch failed only if the halt is a read fault
+-- if the halt `h` stops the reading of `files`, no fetch between `past` and `now` failed, or `h` is a read fault
 pub stops_sound : (g : Option Graph) (files : List File) (past now : List Fetch) (h : Halt) →
     StopsReading g files past now h →
     AreSound past now ⊎ (h ≡ Read)

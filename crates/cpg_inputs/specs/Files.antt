@@ -14,7 +14,9 @@ use Rattle.cpg_inputs.specs.declared.kind.TheConstants.{GRAPH_LIMIT, SCENARIO_LI
 
 -- a file: the kind that it is read as, and its name
 pub record File : Type 0 where
+  -- what it is read as
   pub kind : FileKind
+  -- the word that names it
   pub name : Text
 
 -- the file of a kind and a name

@@ -1,4 +1,4 @@
--- The halt of a run whose log can't be read.
+-- The halt of a run whose log is rejected, or whose memory runs out as the log is read.
 use Rattle.cpg_log.specs.declared.fault.LogFault.{LogFault}
 use Rattle.cpg_refusal.specs.declared.halt.Refusal.TheVariants.{BadLog}
 use Rattle.cpg_refusal.specs.declared.halt.Halt.{Halt}

@@ -24,20 +24,26 @@ pub record IsWhole (file : File) (fetch : Fetch) : Type 0 where
 
 -- the fetch gave the whole file, and its bytes say the value; `g` is the graph that was read before, if any
 pub record IsRead (g : Option Graph) (file : File) (fetch : Fetch) (value : Value) : Type 0 where
+  -- the fetch gave the whole file
   pub whole : IsWhole file fetch
+  -- its bytes say the value
   pub says : Says g file.kind fetch.given value
 
 -- the shelf failed in fetching or reading the file, before it gave more than the limit
 pub record IsUnread (file : File) (fetch : Fetch) (halt : Halt) : Type 0 where
+  -- the fetch is of the file
   pub of : IsFetchOf file fetch
   -- it gave no more bytes than the limit
   pub few : length fetch.given ≤ limit_of file.kind
+  -- the shelf met a fault in it
   pub failed : fetch.failed ≡ true
   pub halt_is : halt ≡ Read
 
 -- the file gave one byte more than the limit, and no more was read
 pub record IsLong (file : File) (fetch : Fetch) (halt : Halt) : Type 0 where
+  -- the fetch is of the file
   pub of : IsFetchOf file fetch
+  -- the shelf met no fault in it
   pub sound : fetch.failed ≡ false
   -- one byte more than the limit shows that the file is too long
   pub over : length fetch.given ≡ limit_of file.kind + 1
@@ -45,14 +51,18 @@ pub record IsLong (file : File) (fetch : Fetch) (halt : Halt) : Type 0 where
 
 -- the file was read whole, and its bytes are rejected for this halt
 pub record IsRefused (g : Option Graph) (file : File) (fetch : Fetch) (halt : Halt) : Type 0 where
+  -- the fetch gave the whole file
   pub whole : IsWhole file fetch
   -- read as a file of its kind, the bytes give this halt
   pub refuses : Refuses g file.kind fetch.given halt
 
 -- memory ran out in reading the file; the shelf met no fault, and gave at most a byte more than the limit
 pub record IsWanting (file : File) (fetch : Fetch) (halt : Halt) : Type 0 where
+  -- the fetch is of the file
   pub of : IsFetchOf file fetch
+  -- the shelf met no fault in it
   pub sound : fetch.failed ≡ false
+  -- it gave at most a byte more than the limit
   pub few : length fetch.given ≤ limit_of file.kind + 1
   pub halt_is : halt ≡ Memory
 
@@ -81,5 +91,7 @@ StopsReading g (file ∷ files) past now halt = (fetch : Fetch)
 pub record AreSound (past now : List Fetch) : Type 0 where
   -- the fetches between the two histories, the newest first
   pub fetches : List Fetch
+  -- they lead from the one history to the other
   pub history : now ≡ fetches ++ past
+  -- none of them failed
   pub sound : All (λ fetch. fetch.failed ≡ false) fetches

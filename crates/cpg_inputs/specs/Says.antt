@@ -48,12 +48,14 @@ pub record AreAdmitted (bytes : Text) (a : Admission) : Type 0 where
 
 -- the bytes spell tables
 pub record AreSpelled (bytes : Text) (t : Tables) : Type 0 where
+  -- they are the spelling of the tables
   pub spelled : bytes ≡ spelling t
   -- their head allows each row
   pub lawful : AreLawful t
 
 -- the bytes say a scenario of the graph, with lengths of its executions
 pub record ArePlayed (bytes : Text) (g : Graph) (p : Played) : Type 0 where
+  -- read as a scenario file of the graph, they give this
   pub says : file_of g bytes ≡ Ok p
   -- the scenario is one of the graph, and the lengths are possible in it
   pub lawful : IsPlayed g p
@@ -78,12 +80,15 @@ Says None LogFile bytes value = ⊥
 
 -- the bytes say no graph, and this is the first fault
 pub record AreFaulty (bytes : Text) (halt : Halt) : Type 0 where
+  -- the first fault of the bytes
   pub fault : ReadFault
+  -- reading them as a graph gives it
   pub first : problem_of bytes ≡ Err fault
   pub halt_is : halt ≡ halt_of_reading fault
 
 -- the graph breaks a rule of graphs, and the halt says the first; or memory ran out
 pub record BreaksRule (g : Graph) (halt : Halt) : Type 0 where
+  -- the fault, or that memory ran out
   pub fault : RuleFault
   -- the graph has this fault and keeps the rules before it, or memory ran out
   pub shows : ShowsFault g fault
@@ -91,20 +96,25 @@ pub record BreaksRule (g : Graph) (halt : Halt) : Type 0 where
 
 -- the bytes say a graph that isn't admitted, for a broken rule or since memory ran out
 pub record AreOfNone (bytes : Text) (halt : Halt) : Type 0 where
+  -- the graph that the bytes say
   pub graph : Graph
   pub says : problem_of bytes ≡ Ok graph
+  -- why it isn't admitted
   pub breaks : BreaksRule graph halt
 
 -- the bytes are no pack from this place on
 pub record AreNoPack (bytes : Text) (halt : Halt) : Type 0 where
   -- how many of the bytes, at most, some pack begins with
   pub length : ℕ
+  -- no pack begins with more of them
   pub bad : IsBadPack bytes length
   pub halt_is : halt ≡ Refused (BadPack length)
 
 -- the bytes say no scenario of the graph, and this is the first cause
 pub record AreNoScenario (bytes : Text) (g : Graph) (halt : Halt) : Type 0 where
+  -- the first cause
   pub fault : ScenarioFault
+  -- reading the bytes as a scenario file of the graph gives it
   pub first : file_of g bytes ≡ Err fault
   pub halt_is : halt ≡ halt_of_scenario fault
 
@@ -112,6 +122,7 @@ pub record AreNoScenario (bytes : Text) (g : Graph) (halt : Halt) : Type 0 where
 pub record AreNoLog (bytes : Text) (g : Graph) (halt : Halt) : Type 0 where
   -- the first line to blame
   pub line : ℕ
+  -- it is the first line that makes the bytes no log
   pub bad : IsBadLine g (lines bytes) line
   pub halt_is : halt ≡ Refused (BadLog line)
 

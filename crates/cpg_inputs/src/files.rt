@@ -20,8 +20,8 @@ use cpg_scenario::{Played, read_scenario};
 use cpg_table::Tables;
 use std::alloc::Global;
 
-/// Returns the bytes of a whole file. A halt says that the shelf failed, that the file is too long for its kind, or
-/// that memory ran out.
+/// Returns the bytes of the whole file that has this name. A halt says that the shelf failed, that the file is too long
+/// for its kind, or that memory ran out.
 fn read_file<S: Shelf>(
     alloc: Global,
     shelf: &mut S,
@@ -87,7 +87,7 @@ pub fn read_graph<S: Shelf>(alloc: Global, shelf: &mut S, name: &str) -> Result<
     Ok(admitted)
 }
 
-/// Returns the tables of a pack. A halt says why the file can't be read or is rejected.
+/// Returns the tables of the pack with this name. A halt says why the file can't be read or is rejected.
 pub fn read_tables<S: Shelf>(alloc: Global, shelf: &mut S, name: &str) -> Result<Tables, Halt>
     requires { S.may_fetch shelf.old name.now }
     ensures keeps { KeepsShelf (S.state shelf.old) (S.state shelf.new) }

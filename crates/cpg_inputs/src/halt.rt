@@ -1,4 +1,4 @@
-//! The halt of a run whose log is rejected.
+//! The halt of a run whose log is rejected, or whose memory runs out as the log is read.
 ghost use Rattle.std.specs.Prelude.{◌≡◌};
 ghost use Rattle.cpg_inputs.specs.Halts.{halt_of_log};
 

@@ -1,13 +1,14 @@
-//! The parts of a graph of several periods.
+//! The parts from which `hyper` makes one graph: graphs with their periods.
 ghost use Rattle.std.specs.Prelude.{◌≡◌, ◌<◌, ◌≤◌, length};
 
 use cpg_hyper::Part;
 use std::marker::Model;
 
-/// One to four parts, in the order of the words, each a graph with a period. Their graphs aren't admitted.
+/// Between one and four graphs with their periods, in the order of the words. The rules of admission haven't been asked
+/// of the graphs.
 #[derive(Drop)]
 pub struct Parts {
-    // between one and four of them
+    // each with its graph and its period
     parts: Vec<Part>,
 }
 
@@ -23,7 +24,7 @@ impl Model for Parts {
 }
 
 impl Parts {
-    /// Makes one to four parts of a list.
+    /// Takes a list of one to four parts as it is.
     pub(crate) fn new(parts: Vec<Part>) -> Parts
         requires some { 0 < length parts.items }
         requires few { length parts.items ≤ 4 }
@@ -32,7 +33,7 @@ impl Parts {
         Parts { parts }
     }
 
-    /// Returns the list of the parts.
+    /// Returns the list of the parts, in the order of the words.
     pub fn as_slice(&self) -> &[Part]
         ensures parts { result.now ≡ self.now }
         ensures some { 0 < length self.now }

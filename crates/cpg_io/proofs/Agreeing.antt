@@ -49,6 +49,7 @@ end_kept whole given None rest came kept end = absurd came
 end_kept whole given (Some ys) None came kept end = absurd kept
 end_kept whole given (Some ys) (Some zs) came kept end = kept ∙ end
 
+-- given: a shelf before and after a step, which reports the same bytes for each name
 module _ (old new : ShelfState) (names : SameNames old new) where
   -- A piece is given: what is left is the rest of the newest fetch again. The bytes that it has given and the piece are a
   -- longer prefix, and it is at its end if the piece is empty or it was so before.

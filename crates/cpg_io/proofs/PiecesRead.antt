@@ -44,12 +44,12 @@ read_on (Some whole) left left' old new n came read =
     subst (λ (bs : List ℕ). Consumes (Some whole) left' bs) (joined left left' old new n read)
     (Consumes-trans (Some whole) left left' old (drop (length old) new) came read.taken)
 
--- a piece of some bytes isn't the end
+-- a piece of at least one byte isn't found to be empty
 some_bytes : (piece : List ℕ) → 0 < length piece → is_none piece ≡ false
 some_bytes [] some = absurd (omega (arith, some))
 some_bytes (x ∷ xs) some = refl
 
--- the newest fetch has given the bytes that were read, if a piece of some bytes more is read
+-- if n more bytes are read, at least one, the newest fetch has given all bytes that were read
 pub given_on : (name : List ℕ) (left left' : Option (List ℕ)) (past mid now : List Fetch) (old new : List ℕ) (n : ℕ) →
     mid ≡ record { name = name; given = old; ended = false; failed = false } ∷ past →
     ReadsOn left left' old new n → now ≡ gave (drop (length old) new) mid → 0 < n →

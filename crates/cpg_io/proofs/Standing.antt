@@ -11,10 +11,13 @@ use Rattle.cpg_io.specs.MemoryShelf.{File, stands_in, bytes_at, is_named, PutsUn
 
 -- ---- a place where the first file with the name stands
 
--- the file at the place has the name, and no file before it does; d is the default of `get_or`, which isn't used
+-- at the place is the first file with the name; d is what `get_or` answers behind the last file, so it plays no part
 pub record IsFirst (name : List ℕ) (files : List File) (place : ℕ) (d : File) : Type 0 where
+  -- there is a file at the place
   pub within : place < length files
+  -- it has the name
   pub named : is_named name (get_or files place d) ≡ true
+  -- no file before it has the name
   pub before : (k : ℕ) → k < place → is_named name (get_or files k d) ≡ false
 
 -- if the first file with the name isn't the first of all, it is the first with the name of the files behind

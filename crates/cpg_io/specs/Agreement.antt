@@ -21,9 +21,9 @@ Agrees stands f = IfSome (stands f.name) (λ whole. IsFrontOf whole f)
 pub record AreFetched (old new : ShelfState) : Type 0 where
   -- the fetches between the states, newest first
   pub fetches : List Fetch
-  -- they are added to the history
+  -- these fetches are added to the history
   pub history : new.history ≡ fetches ++ old.history
-  -- each gave a prefix of what stands under its name, if the shelf reports that
+  -- each of them gave a prefix of what stands under its name, if the shelf reports that
   pub agree : All (Agrees old.stands) fetches
 
 -- what is left is the rest of the bytes `whole` after what the fetch gave, and nothing if a read came to the end

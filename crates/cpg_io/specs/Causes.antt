@@ -3,14 +3,17 @@ use Rattle.std.specs.Prelude.{ℕ, ◌≡◌, ◌+◌, ◌-◌, ◌^◌, ◌≤�
 
 -- a count of 64 bits after n more; it stops at its greatest number
 abbrev pub counted : ℕ → ℕ → ℕ
-counted before n = min (before + n) (2 ^ 64 - 1)
+counted count n = min (count + n) (2 ^ 64 - 1)
 
--- the count rose from `before` to `now`, or has come to its greatest number
+-- the count rose from `old` to `new`, or has come to its greatest number
 abbrev pub Rose : ℕ → ℕ → Type 0
-Rose before now = counted before 1 ≤ now
+Rose old new = counted old 1 ≤ new
 
--- from before the call to now the count didn't fall; it rose if the call failed, and else is the same
-pub record HasCause {T E : Type 0} (before now : ℕ) (result : Result T E) : Type 0 where
-  pub later : before ≤ now
-  pub kept : OnOk result (now ≡ before)
-  pub failed : OnErr result (Rose before now)
+-- in a call with this result the count of faults went from `old` to `new`, and it rose if the call failed
+pub record HasCause {T E : Type 0} (old new : ℕ) (result : Result T E) : Type 0 where
+  -- the count didn't fall
+  pub later : old ≤ new
+  -- if the call succeeded, the count is the same
+  pub kept : OnOk result (new ≡ old)
+  -- if the call failed, the count rose
+  pub failed : OnErr result (Rose old new)

@@ -5,13 +5,16 @@ use Rattle.std.specs.Str.{bytes_eq}
 use Rattle.cpg_history.specs.Fetch.{Fetch}
 use Rattle.cpg_io.specs.State.{ShelfState}
 
--- a name, and the bytes that stand under it
+-- a file of a shelf in memory
 pub record File : Type 0 where
+  -- its name
   pub name : List ℕ
+  -- the bytes that stand under the name
   pub bytes : List ℕ
 
 -- a shelf in memory
 pub record MemoryShelfState : Type 0 where
+  -- the files, each name once
   pub files : List File
   -- the bytes that are left of the fetched file; none if no file is fetched
   pub left : List ℕ

@@ -17,13 +17,13 @@ pub record ReadsOn (left left' : Option (List ℕ)) (old new : List ℕ) (n : �
   -- if none came, nothing is left
   pub end : n ≡ 0 → IsAtEnd left'
 
--- the shelf gave a piece of this many bytes, which isn't among the bytes that were read
+-- the shelf gave a piece of `count` bytes, which isn't among the bytes that were read
 pub record IsLost (past now : List Fetch) (count : ℕ) : Type 0 where
   -- the piece that the read gave
   pub piece : List ℕ
   -- the history notes it
   pub gave : now ≡ gave piece past
-  -- it has this many bytes
+  -- it has `count` bytes
   pub long : length piece ≡ count
 
 -- what one read of `read_piece` gave, by its result: the bytes that were added; nothing, as the shelf failed; a piece that
@@ -38,11 +38,14 @@ GivesPiece limit past now old new (Err OutOfMemory) = (n : ℕ) × (length old +
 pub record IsFetch (past now : List Fetch) (name given : List ℕ) (fails : Bool) : Type 0 where
   -- whether a read came to the end
   pub ended : Bool
+  -- the history has this fetch more
   pub is : now ≡ record { name = name; given = given; ended = ended; failed = fails } ∷ past
 
 -- the history has one fetch more, of the name, which gave these bytes to their end, at most as many as the limit
 pub record IsReadWhole (past now : List Fetch) (name : List ℕ) (limit : ℕ) (bytes : List ℕ) : Type 0 where
+  -- there are at most as many bytes as the limit
   pub short : length bytes ≤ limit
+  -- the history has this fetch more, to the end of which these bytes were given
   pub is : now ≡ record { name = name; given = bytes; ended = true; failed = false } ∷ past
 
 -- the history has one fetch more, of the name, which isn't read whole, by the error: it failed, gave one byte more than the

@@ -17,7 +17,9 @@ pub record ShelfState : Type 0 where
 abbrev pub given_count : ShelfState → ℕ
 given_count s = length (newest_given s.history)
 
--- what a sink reports: the bytes that it took, and the count of faults
+-- what a sink reports
 pub record SinkState : Type 0 where
+  -- the bytes that it took
   pub taken : List ℕ
+  -- the count of faults
   pub faults : ℕ

@@ -60,10 +60,10 @@ impl<R: Files> FileShelf<R> {
         self.history = self.history.after(event);
     }
 
-    /// Counts a fault and notes it in the history. Returns the error of the call.
+    /// Counts a fault and notes it in the history. Returns the error that the shelf then answers.
     fn count_fault(&mut self) -> Failed
-        ensures same { self.new ≡ record self.old { faults = counted self.old.faults 1; history = failed self.old.history } }
-        ensures later { self.old.faults ≤ self.new.faults }
+        ensures counted { self.new ≡ record self.old { faults = counted self.old.faults 1; history = failed self.old.history } }
+        ensures no_fewer { self.old.faults ≤ self.new.faults }
     {
         self.faults = self.faults.saturating_add(1);
         self.note(&ShelfEvent::Failed);

@@ -1,4 +1,5 @@
 -- Lines of a column's literals with a literal more (`line_added`) and with fewer (`line_kept`), and lists that are alike.
+-- In the lemmas ls and xs are literals, l is one, and n says how many of the first ones count.
 use Rattle.std.proofs.Common.{◌≡◌, ◌==◌, false, ℕ, ◌+◌, ◌-◌, ◌*◌, suc, ◌<◌, ◌≤◌, List, [], ◌∷◌, ◌++◌, inl, inr, refl}
 use Rattle.std.proofs.Common.{zero}
 use Rattle.std.proofs.Common.{append-nil, arith, drop, get_or, length, replicate, set, sym, take, ap, ap₂, ◌∙◌}
@@ -99,20 +100,20 @@ line_short labels ls text ends h =
     let few = h.short (length ls) (omega arith) in
     omega (arith, all, few)
 
--- a line with the text that one literal adds, at most 84 bytes, and its end is the line of one literal more. The ends
--- up to the last are those of the line before; the last is the length of the whole text
-pub line_more : (labels : Labels) (ls : List Literal) (text ends : List ℕ) (l : Literal) (now : List ℕ) →
+-- A line with the text that one literal adds, at most 84 bytes, and its end is the line of one literal more. The ends
+-- up to the last are those of the line before; the last is the length of the whole text.
+pub line_more : (labels : Labels) (ls : List Literal) (text ends : List ℕ) (l : Literal) (longer : List ℕ) →
     AreLine labels ls text ends →
-    now ≡ text ++ added_text labels ls l →
-    length now ≤ length text + 84 → AreLine labels (ls ++ l ∷ []) now (ends ++ length now ∷ [])
-line_more labels ls text ends l now h is few =
+    longer ≡ text ++ added_text labels ls l →
+    length longer ≤ length text + 84 → AreLine labels (ls ++ l ∷ []) longer (ends ++ length longer ∷ [])
+line_more labels ls text ends l longer h is few =
     record {
       text = text_is;
-      count = omega (arith, length-append ends (length now ∷ []), long, h.count);
+      count = omega (arith, length-append ends (length longer ∷ []), long, h.count);
       ends = λ n le. elim (cases_lt (length ls) n) [ inl lt ↦ last n le lt | inr ge ↦ before n ge ];
       short = λ n le. elim (cases_lt (length ls) n) [
         | inl lt ↦ last_short n le lt
-        | inr ge ↦ rw (get_or-append ends (length now ∷ []) 0 n (omega (arith, h.count))) (h.short n ge)
+        | inr ge ↦ rw (get_or-append ends (length longer ∷ []) 0 n (omega (arith, h.count))) (h.short n ge)
       ];
     }
   where
@@ -121,29 +122,29 @@ line_more labels ls text ends l now h is few =
     long = length-append ls (l ∷ [])
 
     -- the text with one literal more
-    text_is : now ≡ front_text labels (ls ++ l ∷ [])
+    text_is : longer ≡ front_text labels (ls ++ l ∷ [])
     text_is = is ∙ ap (λ t. t ++ added_text labels ls l) h.text ∙ sym (front_more labels ls l)
 
     -- the ends before the new one are as they were
     before : (n : ℕ) → n ≤ length ls →
-        get_or (ends ++ length now ∷ []) n 0 ≡ length (front_text labels (take n (ls ++ l ∷ [])))
-    before n le = get_or-append ends (length now ∷ []) 0 n (omega (arith, h.count)) ∙ h.ends n le
+        get_or (ends ++ length longer ∷ []) n 0 ≡ length (front_text labels (take n (ls ++ l ∷ [])))
+    before n le = get_or-append ends (length longer ∷ []) 0 n (omega (arith, h.count)) ∙ h.ends n le
         ∙ ap (λ xs. length (front_text labels xs)) (sym (take-append-le n ls (l ∷ []) le))
 
     -- the new end is within the room for n literals
-    last_short : (n : ℕ) → n ≤ length (ls ++ l ∷ []) → length ls < n → get_or (ends ++ length now ∷ []) n 0 ≤ 84 * n
+    last_short : (n : ℕ) → n ≤ length (ls ++ l ∷ []) → length ls < n → get_or (ends ++ length longer ∷ []) n 0 ≤ 84 * n
     last_short n le lt =
-        let at : get_or (ends ++ length now ∷ []) n 0 ≡ length now =
-        ap (λ i. get_or (ends ++ length now ∷ []) i 0) (omega (arith, long, h.count))
-        ∙ get_or-append_seam ends (length now) [] 0 in
+        let at : get_or (ends ++ length longer ∷ []) n 0 ≡ length longer =
+        ap (λ i. get_or (ends ++ length longer ∷ []) i 0) (omega (arith, long, h.count))
+        ∙ get_or-append_seam ends (length longer) [] 0 in
         let whole : length text ≤ 84 * length ls = line_short labels ls text ends h in
         omega (arith, at, whole, few, le, lt, long)
 
     -- the new end is where the text with the literal ends
     last : (n : ℕ) → n ≤ length (ls ++ l ∷ []) → length ls < n →
-        get_or (ends ++ length now ∷ []) n 0 ≡ length (front_text labels (take n (ls ++ l ∷ [])))
-    last n le lt = ap (λ i. get_or (ends ++ length now ∷ []) i 0) (omega (arith, long, h.count))
-        ∙ get_or-append_seam ends (length now) [] 0 ∙ ap length text_is
+        get_or (ends ++ length longer ∷ []) n 0 ≡ length (front_text labels (take n (ls ++ l ∷ [])))
+    last n le lt = ap (λ i. get_or (ends ++ length longer ∷ []) i 0) (omega (arith, long, h.count))
+        ∙ get_or-append_seam ends (length longer) [] 0 ∙ ap length text_is
         ∙ ap (λ xs. length (front_text labels xs))
         (sym (ap (λ i. take i (ls ++ l ∷ [])) (omega (arith, long)) ∙ take-length (ls ++ l ∷ [])))
 
@@ -192,7 +193,7 @@ pub line_new : (labels : Labels) (ls : List Literal) (text ends : List ℕ) → 
     AreLine labels (take 0 ls) (take (get_or ends 0 0) text) (take (0 + 1) ends)
 line_new labels ls text ends e = rw e (line_none labels)
 
--- given lists that begin with the line of `count` literals, and have more after it
+-- given: lists that begin with the line of `count` literals, and have more after it
 module _ (labels : Labels) (ls : List Literal) (text ends : List ℕ) (count : ℕ)
     (h : AreLine labels (take count ls) (take (get_or ends count 0) text) (take (count + 1) ends))
     (room : count ≤ length ls) where
@@ -230,7 +231,7 @@ module _ (labels : Labels) (ls : List Literal) (text ends : List ℕ) (count : �
       (omega (arith, le, long))))))
 
   -- with the next literal, its text and its end in their places, the lists begin with the line of one literal more: each is
-  -- what the line had and the new part after it (`front`, `now`, `all`), as in `line_more`
+  -- what the line had and the new part after it (`front`, `longer`, `all`), as in `line_more`
   pub line_added : (new_literals : List Literal) (new_text new_ends : List ℕ) (l : Literal) (end : ℕ) →
       new_literals ≡ set ls count l →
       new_ends ≡ set ends (count + 1) end →
@@ -241,19 +242,19 @@ module _ (labels : Labels) (ls : List Literal) (text ends : List ℕ) (count : �
       AreLine labels (take (count + 1) new_literals) (take (get_or new_ends (count + 1) 0) new_text)
       (take (count + 1 + 1) new_ends)
   line_added new_literals new_text new_ends l end literals_are ends_are some fits is few within =
-      let now : List ℕ = take end new_text in
-      let now_long : length now ≡ end = length-take-le end new_text within in
-      let told : now ≡ take (get_or ends count 0) text ++ added_text labels (take count ls) l =
+      let longer : List ℕ = take end new_text in
+      let longer_length : length longer ≡ end = length-take-le end new_text within in
+      let told : longer ≡ take (get_or ends count 0) text ++ added_text labels (take count ls) l =
       is ∙ ap (λ t. take (get_or ends count 0) text ++ t) (after_is labels (take count ls) count l long) in
-      let made = line_more labels (take count ls) (take (get_or ends count 0) text) (take (count + 1) ends) l now h told
-      (omega (arith, now_long, text_long, few)) in
+      let made = line_more labels (take count ls) (take (get_or ends count 0) text) (take (count + 1) ends) l longer h told
+      (omega (arith, longer_length, text_long, few)) in
       let front : take (count + 1) new_literals ≡ take count ls ++ l ∷ [] =
       ap (take (count + 1)) literals_are ∙ take_more_set ls count l some in
       let last : get_or new_ends (count + 1) 0 ≡ end =
       ap (λ es. get_or es (count + 1) 0) ends_are ∙ get_or-set_same ends (count + 1) end 0 fits in
-      let all : take (count + 1 + 1) new_ends ≡ take (count + 1) ends ++ length now ∷ [] =
+      let all : take (count + 1 + 1) new_ends ≡ take (count + 1) ends ++ length longer ∷ [] =
       ap (take (count + 1 + 1)) ends_are ∙ take_more_set ends (count + 1) end fits
-      ∙ ap (λ e. take (count + 1) ends ++ e ∷ []) (sym now_long) in
+      ∙ ap (λ e. take (count + 1) ends ++ e ∷ []) (sym longer_length) in
       rw front (rw all (rw last made))
 
 -- if `put` is as long as the room, the room with `put` written over it is `put`

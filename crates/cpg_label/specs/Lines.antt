@@ -55,7 +55,7 @@ pub record IsLine (labels : Labels) (line : Line) : Type 0 where
   pub text : length line.text.items ≡ 256 * 84
   pub ends : length line.ends.items ≡ 256 + 1
 
--- a line is one of these literals
+-- a line has the text of just these literals, in their order
 pub record IsLineOf (labels : Labels) (ls : List Literal) (made : Line) : Type 0 where
   pub line : IsLine labels made
   pub literals : take made.count made.literals.items ≡ ls

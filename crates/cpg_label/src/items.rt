@@ -21,11 +21,12 @@ pub fn item_among(processes: usize, edges: usize, number: u32) -> Item
     if place < processes {
         return Item::Start(number);
     }
-    let edge = place - processes;
-    if edge < edges {
-        return Item::Message(edge as u32);
+    // what is left of the number is no greater than it, so it fits a `u32` again
+    let beyond = place - processes;
+    if beyond < edges {
+        return Item::Message(beyond as u32);
     }
-    Item::Broadcast((edge - edges) as u32)
+    Item::Broadcast((beyond - edges) as u32)
 }
 
 /// Writes the names of an edge's source and target.

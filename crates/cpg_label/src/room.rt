@@ -21,11 +21,13 @@ fn append_decimal(out: &mut Vec<u8>, number: u64)
     ensures len { vec_len out.new ≡ vec_len out.old + length (decimal number) }
     ensures room { vec_capacity out.old ≤ vec_capacity out.new }
 {
+    // a number below 10 is one digit, so it fits a byte
     if number < 10 {
         out.push_reserved(b'0' + number as u8);
         return;
     }
     append_decimal(out, number / 10);
+    // the last digit is below 10
     out.push_reserved(b'0' + (number % 10) as u8);
 }
 

@@ -19,7 +19,7 @@ use Rattle.cpg_latest.proofs.LateTimes.{late_active, late_end_active}
 use Rattle.cpg_latest.proofs.RunsGrow.{time_inactive, end_inactive}
 use Rattle.cpg_latest.proofs.Rests.{Cause, Cause.fixed, Cause.item, Cause.ended, IsBefore, value_in, unfrozen_grows}
 
--- given: a run of an outcome, and the latest times of that outcome
+-- given: the run t of a scenario, and the latest times of its outcome: `late n` are those with n faults
 module _ (g : Graph) (order : List ℕ) (frozen : List (Option ℕ)) (s : Scenario) (t : Times) (late : ℕ → Times)
     (topological : IsTopological g order)
     (run : IsRun g order frozen s t) (are : AreLatest g order frozen s.values late) where

@@ -34,7 +34,7 @@ pub record AreActiveAlike (g : Graph) (s u : Scenario) : Type 0 where
       get_or s.values c false ≡ get_or u.values c false
   pub faults : (p : ℕ) → p < process_count g → active g s.values p ≡ true → fault_of s p ≡ fault_of u p
 
--- given: two scenarios that agree on what is active in the first
+-- given: two scenarios s and u that agree on what is active in s (`alike`), and the urgency order, which is topological
 module _ (g : Graph) (urgency : List ℕ) (urgent : IsUrgencyOrder g urgency) (lawful : IsTopological g urgency)
     (s u : Scenario) (alike : AreActiveAlike g s u) where
   -- each process has the same activation in both scenarios

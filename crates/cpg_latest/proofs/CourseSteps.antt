@@ -16,7 +16,7 @@ use Rattle.cpg_order.specs.Urgency.{IsTopological}
 use Rattle.cpg_run.specs.Run.{Times, time_in, end_in, input_bounds}
 use Rattle.cpg_run.specs.Known.{AreEarly, frozen_in}
 use Rattle.cpg_run.specs.Progress.{HasSent, IsAt, ProgressState}
-use Rattle.cpg_latest.specs.Latest.{AreLatest, with_faults, latest_end, again}
+use Rattle.cpg_latest.specs.Latest.{AreLatest, with_faults, latest_end, fault_delay}
 use Rattle.cpg_latest.specs.Timed.{IsTimed}
 use Rattle.cpg_latest.specs.Course.{ForLatest, GoesOn, HasGone, IsCourse, IsSending, IsReadyFor, last_end, end_after}
 use Rattle.cpg_latest.proofs.AreTimed.{latest_is_timed}
@@ -31,7 +31,7 @@ use Rattle.cpg_latest.proofs.TimedSends.{nothing_sent, sent_active, sent_idle, h
 pub not_sooner : (g : Graph) (p n start last : ℕ) → start ≤ end_after g p n start last
 not_sooner g p zero start last = omega arith
 not_sooner g p (suc n) start last = let is = cond-false (suc n == 0) (start + duration g p 0)
-    (max (start + duration g p 0) (last + again g p)) (some_faults n) in
+    (max (start + duration g p 0) (last + fault_delay g p)) (some_faults n) in
     omega (arith, is)
 
 -- the latest end with one fault less than none is taken as 0
@@ -48,7 +48,8 @@ last_at g late n m p e = subst (λ i. latest_end g late n p ≡ last_end g late 
 pub last_next : (g : Graph) (late : ℕ → Times) (n p : ℕ) → latest_end g late n p ≡ last_end g late (n + 1) p
 last_next g late n p = last_at g late n (n + 1) p (omega arith)
 
--- given: an active process, early frozen times, and a graph within its limits
+-- given: a process p that is active in an outcome (`values`), frozen times below 2 ^ 58 (`early`), and a graph within its
+-- limits; `Done` says which items are done
 module _ (g : Graph) (order : List ℕ) (topological : IsTopological g order) (Done : ℕ → Type 0)
     (frozen : List (Option ℕ)) (values : List Bool)
     (limits : IsWithinLimits g) (long : length values ≡ condition_count g) (early : AreEarly frozen) (p : ℕ)
@@ -87,7 +88,7 @@ sent c x node time free = record {
   free = set c.free node free;
 }
 
--- given: a process, and a number of faults
+-- given: a process p of an outcome (`values`), and a number n of faults; `Done` says which items are done
 module _ (g : Graph) (order : List ℕ) (topological : IsTopological g order) (Done : ℕ → Type 0)
     (frozen : List (Option ℕ)) (values : List Bool)
     (p : ℕ) (l : p < process_count g) (on : node_of g p < length g.nodes) (n : ℕ) (few : n < g.faults + 1) where
@@ -147,7 +148,7 @@ module _ (g : Graph) (order : List ℕ) (topological : IsTopological g order) (D
         gone : ForLatest g order Done frozen values
             (λ late. HasGone g order (with_faults values []) (late n) p 0 (begun c p (node_of g p) start end))
         gone more goes late are =
-            -- in the run with the latest times, the start that is found is the start of the process
+            -- in the latest times, the start that is found is the start of the process
             let s = with_faults values [] in
             let t = late n in
             let run : IsTimed g order more s t = latest_is_timed g order more s late are n (omega arith) in
@@ -280,31 +281,31 @@ module _ (g : Graph) (order : List ℕ) (topological : IsTopological g order) (D
           ready_count = sending.places.ready_count;
           free_count = length-set c.free (node_of g p) free ∙ sending.places.free_count;
         };
-        -- the item is active: in the run it has this time, and the slots are free a round later
+        -- the item is active: in the latest times it has this time, and the slots are free a round later
         acts = λ a more goes late are.
             let s = with_faults values [] in
             let h = sending.acts acts more goes late are in
             let run : IsTimed g order more s (late n) = latest_is_timed g order more s late are n (omega arith) in
             let q = in_queue g p x (here_sent g order topological s p l k inside) in
-            let there : node_of g p < length c.free = omega (arith, on, sending.places.free_count) in
-            let now = get_or-set_same c.free (node_of g p) free 0 there in
+            let node_inside : node_of g p < length c.free = omega (arith, on, sending.places.free_count) in
+            let is_set = get_or-set_same c.free (node_of g p) free 0 node_inside in
             let next = sent c x (node_of g p) time free in
             let long : node_of g p < length h.frees = omega
-            (arith, there, ap length h.free, length-set h.frees (node_of g p) (get_or c.free (node_of g p) 0)) in
+            (arith, node_inside, ap length h.free, length-set h.frees (node_of g p) (get_or c.free (node_of g p) 0)) in
             -- one item more is sent; the start, the end and other times stay
             record {
               begun = h.begun;
               frees = h.frees;
               ended = h.ended;
               none = h.none;
-              sent = subst (HasSent g order s (late n) p (k + 1) h.begun next.known) (sym (now ∙ is))
+              sent = subst (HasSent g order s (late n) p (k + 1) h.begun next.known) (sym (is_set ∙ is))
                   (sent_active g order topological s p l more (late n) run h.begun c.known k
                   (get_or c.free (node_of g p) 0) inside h.sent next.known time
                   (omega (arith, q.within, sending.places.times)) refl on_item (time_there more goes late are));
               keeps = record { times = length-set c.known.times x (Some time) ∙ h.keeps.times; ends = h.keeps.ends };
               free = ap (λ fs. set fs (node_of g p) free) h.free
                   ∙ set_twice h.frees (node_of g p) (get_or c.free (node_of g p) 0) free long
-                  ∙ ap (λ v. set h.frees (node_of g p) v) (sym now);
+                  ∙ ap (λ v. set h.frees (node_of g p) v) (sym is_set);
               next = h.next;
             };
         idle = λ off. absurd (apart (sym acts ∙ off));

@@ -36,7 +36,7 @@ set_twice xs i a b l = ext_get_or 0 (set (set xs i a) i b) (set xs i b)
           ∙ sym (get_or-set_other xs i j b 0 other)
     ])
 
--- given: an outcome, and frozen times so far
+-- given: an outcome (`values`), and the frozen times so far
 module _ (g : Graph) (order : List ℕ) (topological : IsTopological g order) (Done : ℕ → Type 0)
     (frozen : List (Option ℕ)) (values : List Bool) where
   -- a fact that holds whatever frozen times follow holds of the latest times under those so far

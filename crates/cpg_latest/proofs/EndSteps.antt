@@ -7,11 +7,11 @@ use Rattle.cpg_base.specs.Numbers.{numbers_below}
 use Rattle.cpg_base.proofs.Lists.{Contains-map, Contains-map_parts, Contains-numbers, numbers-Contains, greatest_above}
 use Rattle.cpg_base.proofs.Lists.{greatest-le}
 use Rattle.cpg_run.specs.Run.{Times, time_in}
-use Rattle.cpg_latest.specs.Latest.{again, end_with, latest_end}
+use Rattle.cpg_latest.specs.Latest.{fault_delay, end_with, latest_end}
 
 -- one fault more makes an execution longer by the same time
-pub duration_suc : (g : Graph) (p j : ℕ) → duration g p (suc j) ≡ duration g p j + again g p
-duration_suc g p j = omega (arith, suc-mul j (again g p))
+pub duration_suc : (g : Graph) (p j : ℕ) → duration g p (suc j) ≡ duration g p j + fault_delay g p
+duration_suc g p j = omega (arith, suc-mul j (fault_delay g p))
 
 module _ (g : Graph) (late : ℕ → Times) (p : ℕ) where
   -- an end with j of n faults of its own is no later than the latest end with n
@@ -40,32 +40,32 @@ module _ (g : Graph) (late : ℕ → Times) (p : ℕ) where
       below (suc j) l = absurd (omega (arith, l))
 
   -- one fault more, and that an own one, makes an execution end later by what each fault adds
-  later_by : (n j : ℕ) → j ≤ n → end_with g late (suc n) p (suc j) ≡ end_with g late n p j + again g p
+  later_by : (n j : ℕ) → j ≤ n → end_with g late (suc n) p (suc j) ≡ end_with g late n p j + fault_delay g p
   later_by n j l = let e : suc n - suc j ≡ n - j = omega arith in
       omega (arith, ap (λ m. time_in (late m) p) e, duration_suc g p j)
 
   -- The latest end with n + 1 faults is the later of the end without own faults, and of the latest end with n and one fault
   -- more. It is no later, since each end is one of these (`whole`), and no earlier (`others` and the end without own faults).
   pub end_suc : (n : ℕ) →
-      latest_end g late (suc n) p ≡ max (time_in (late (suc n)) p + duration g p 0) (latest_end g late n p + again g p)
+      latest_end g late (suc n) p ≡ max (time_in (late (suc n)) p + duration g p 0) (latest_end g late n p + fault_delay g p)
   end_suc n = omega (arith, none_of_it (suc n), among (suc n) 0 (omega arith), others, whole)
     where
       -- each end with n + 1 faults is that without own faults, or has one own fault more than an end with n
       whole : latest_end g late (suc n) p
-          ≤ max (time_in (late (suc n)) p + duration g p 0) (latest_end g late n p + again g p)
+          ≤ max (time_in (late (suc n)) p + duration g p 0) (latest_end g late n p + fault_delay g p)
       whole =
-          no_more (suc n) (max (time_in (late (suc n)) p + duration g p 0) (latest_end g late n p + again g p)) below
+          no_more (suc n) (max (time_in (late (suc n)) p + duration g p 0) (latest_end g late n p + fault_delay g p)) below
         where
           -- by whether the end has own faults
           below : (j : ℕ) → j ≤ suc n →
               end_with g late (suc n) p j
-              ≤ max (time_in (late (suc n)) p + duration g p 0) (latest_end g late n p + again g p)
+              ≤ max (time_in (late (suc n)) p + duration g p 0) (latest_end g late n p + fault_delay g p)
           below zero l = omega (arith, none_of_it (suc n))
           below (suc j) l = omega (arith, later_by n j (omega (arith, l)), among n j (omega (arith, l)))
 
       -- the latest end with n + 1 faults is later than that with n by at least what one fault adds
-      others : latest_end g late n p + again g p ≤ latest_end g late (suc n) p
+      others : latest_end g late n p + fault_delay g p ≤ latest_end g late (suc n) p
       others =
-          let bound = no_more n (latest_end g late (suc n) p - again g p)
+          let bound = no_more n (latest_end g late (suc n) p - fault_delay g p)
           (λ j l. omega (arith, later_by n j l, among (suc n) (suc j) (omega (arith, l)))) in
           omega (arith, bound, later_by n 0 (omega arith), among (suc n) 1 (omega arith))

@@ -18,7 +18,7 @@ use Rattle.cpg_latest.proofs.Settling.{send_one}
 use Rattle.cpg_latest.proofs.Halves.{half_first, half_all}
 use Rattle.cpg_latest.proofs.Settling.{for_more}
 
--- what follows from a fact of each course holds of the whole lane
+-- if each course with fact P has fact Q, a lane of courses with P is one of courses with Q
 pub lane_map : (g : Graph) (P Q : ℕ → ProgressState → Type 0) (courses : List ProgressState) →
     ((n : ℕ) (c : ProgressState) → n < g.faults + 1 → P n c → Q n c) →
     IsLane g P courses →
@@ -26,7 +26,7 @@ pub lane_map : (g : Graph) (P Q : ℕ → ProgressState → Type 0) (courses : L
 lane_map g P Q courses f lane =
     record { count = lane.count; each = λ n d l. f n (get_or courses n d) l (lane.each n d l) }
 
--- what follows from a fact of each course holds of the lanes of all tracks
+-- if each course with fact P has fact Q, lanes of courses with P are lanes of courses with Q, for all tracks
 pub lanes_map : (g : Graph) (P Q : List Bool → ℕ → ProgressState → Type 0) (tracks : List (List Bool))
     (lanes : List (List ProgressState))
     → ((values : List Bool) (n : ℕ) (c : ProgressState) → n < g.faults + 1 → P values n c → Q values n c) →
@@ -62,6 +62,7 @@ abbrev pub LaneHas : Graph → (List Bool → ℕ → ProgressState → Type 0) 
     Type 0
 LaneHas g P tracks i lane = IsLane g (P (track_at tracks i)) lane
 
+-- given: the facts P and Q, which courses have before and after a loop over the lanes, and the number of tracks (`count`)
 module _ (g : Graph) (P Q : List Bool → ℕ → ProgressState → Type 0) (tracks : List (List Bool)) (count : ℕ)
     (long : length tracks ≡ count) where
   -- before the first track all lanes have the old fact
@@ -80,7 +81,9 @@ module _ (g : Graph) (P Q : List Bool → ℕ → ProgressState → Type 0) (tra
         λ i d l. half_all (LaneHas g P tracks) (LaneHas g Q tracks) count m lanes half e i d (omega (arith, l, long));
   }
 
--- given: an active item that is the next to be sent in a course
+-- given: a course c with n faults, in which p has sent the items before the place `at` of its queue (`s`), and the item
+-- at that place, whose frozen time is set if it has one
+-- `acts`, `sent`: p and this item are active in the outcome
 module _ (g : Graph) (order : List ℕ) (topological : IsTopological g order) (frozen : List (Option ℕ))
     (values : List Bool) (p : ℕ) (l : p < process_count g) (on : node_of g p < length g.nodes)
     (at : ℕ) (inside : at < length (queue_of g p))

@@ -13,7 +13,7 @@ use Rattle.cpg_latest.specs.Latest.{AreLatest, with_faults, latest_end_by}
 use Rattle.cpg_latest.specs.Laws.{AreReached}
 use Rattle.cpg_latest.proofs.Reached.{are_reached}
 
--- given: the latest times of an outcome under early frozen times
+-- given: the latest times of an outcome with n faults (`late n`), under frozen times below 2 ^ 58 (`early`)
 module _ (g : Graph) (order : List ℕ) (frozen : List (Option ℕ)) (values : List Bool) (late : ℕ → Times)
     (within : IsWithinLimits g) (topological : IsTopological g order)
     (long : length values ≡ condition_count g) (early : AreEarly frozen) (are : AreLatest g order frozen values late)

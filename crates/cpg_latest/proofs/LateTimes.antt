@@ -10,7 +10,7 @@ use Rattle.cpg_base.proofs.Lists.{get_or-map-below}
 use Rattle.cpg_run.specs.Run.{Times, time_in, end_in, time_by, unfrozen_time}
 use Rattle.cpg_latest.specs.Latest.{AreLatest, latest_end, latest_end_by}
 
--- given: the latest times of a scenario's outcome, and a number of faults
+-- given: the latest times of a scenario's outcome (`late`), and a number n of faults
 module _ (g : Graph) (order : List ℕ) (frozen : List (Option ℕ)) (s : Scenario) (late : ℕ → Times)
     (are : AreLatest g order frozen s.values late) (n : ℕ) (few : n ≤ g.faults) where
   -- the latest time of each item is the one that the rules make

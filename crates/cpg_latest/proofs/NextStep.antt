@@ -9,7 +9,7 @@ use Rattle.cpg_order.proofs.Moments.{moment}
 use Rattle.cpg_run.specs.Progress.{ProgressState}
 use Rattle.cpg_run.specs.declared.setting.Setting.{Setting}
 use Rattle.cpg_latest.specs.Course.{AreLanes, IsDone, IsEarlier}
-use Rattle.cpg_latest.specs.Lanes.{AreKnown, AreSending, CanBegin, HasSentTo, IsBefore, IsSettledBy, queued}
+use Rattle.cpg_latest.specs.Lanes.{AreLanesBefore, AreSending, CanBegin, HasSentTo, IsBefore, IsSettledBy, queued}
 use Rattle.cpg_latest.proofs.CourseSteps.{sent_all}
 use Rattle.cpg_latest.proofs.LaneSteps.{course_more, lanes_map, sending_more}
 use Rattle.cpg_latest.proofs.Settling.{next_done, next_earlier, own_place, send_grows, send_later, settled_as}
@@ -59,7 +59,7 @@ module _ (setting : Setting) (topological : IsTopological setting.problem.now se
       IsWithinLimits setting.problem.now →
       (frozen : List (Option ℕ)) (lanes : List (List ProgressState))
       → AreSending setting tracks p (length (queue_of setting.problem.now p)) frozen lanes →
-      AreKnown setting tracks (place setting.order.now p + 1) frozen lanes
+      AreLanesBefore setting tracks (place setting.order.now p + 1) frozen lanes
   next_known on limits frozen lanes s = record {
     settled = settled_as setting.problem.now setting.order.now topological limits
         (IsDone setting.problem.now setting.order.now p (length (queue_of setting.problem.now p)))

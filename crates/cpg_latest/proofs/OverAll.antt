@@ -36,7 +36,7 @@ use Rattle.cpg_latest.proofs.TimedSends.{here_sent, send_is}
 
 -- ---- one track after another
 
--- two numbers are equal if they are so as options
+-- a and b are equal if they are so as options
 some_same : (a b : ℕ) → Some a ≡ Some b → a ≡ b
 some_same a b e = ap (λ o. unwrap_or o 0) e
 
@@ -214,10 +214,10 @@ module _ (g : Graph) (urgency order : List ℕ) (frozen : List (Option ℕ)) (tr
             let course = lane.each g.faults
             (record { known = record { times = []; ends = []; finish = 0 }; ready = []; free = [] })
             (omega arith) in
-            let there = ap (item_active g (track_at tracks i)) (item_at-start g p l) ∙ acts in
+            let start_acts = ap (item_active g (track_at tracks i)) (item_at-start g p l) ∙ acts in
             -- its frozen time isn't set, so its time is its unfrozen one
-            let zero_is = no_frozen i p (omega arith) there unset in
-            let time_is = unfrozen_is_time i p (omega arith) there unset in
+            let zero_is = no_frozen i p (omega arith) start_acts unset in
+            let time_is = unfrozen_is_time i p (omega arith) start_acts unset in
             -- the start follows from what the course has before the place of p
             let start = start_right g order topological frozen s (lates i g.faults)
             (latest_is_timed g order frozen s (lates i) (latest_exist g order frozen (track_at tracks i) topological)

@@ -29,7 +29,7 @@ use Rattle.cpg_latest.proofs.Above.{no_later}
 use Rattle.cpg_latest.proofs.Reached.{are_reached}
 use Rattle.cpg_latest.proofs.TrackOf.{HasTrack, has_track}
 
--- given: the latest times of all tracks
+-- given: the latest times of all tracks: `lates i n` are those of the i-th track with n faults
 module _ (g : Graph) (urgency order : List ℕ) (frozen : List (Option ℕ)) (tracks : List (List Bool))
     (lates : ℕ → ℕ → Times)
     (urgent : IsUrgencyOrder g urgency) (lawful : IsTopological g urgency) (topological : IsTopological g order)

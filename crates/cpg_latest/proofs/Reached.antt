@@ -21,7 +21,7 @@ use Rattle.cpg_latest.proofs.LateTimes.{late_active, late_inactive, late_end_act
 use Rattle.cpg_latest.proofs.RunsGrow.{times_grow, duration_grows}
 use Rattle.cpg_latest.proofs.Rests.{Cause, Cause.fixed, Cause.item, Cause.ended, IsBefore, value_in, rests}
 
--- given: the latest times of an outcome
+-- given: the latest times of an outcome: `late n` are those with n faults
 module _ (g : Graph) (order : List ℕ) (frozen : List (Option ℕ)) (values : List Bool) (late : ℕ → Times)
     (topological : IsTopological g order)
     (long : length values ≡ condition_count g) (are : AreLatest g order frozen values late) where

@@ -44,12 +44,12 @@ more_turns : (j k turn off : ℕ) → j ≤ k → j * turn + off ≤ k * turn + 
 more_turns j k turn off l = omega (arith, mul-le-mul_right turn l)
 
 -- the next slot after a later time is no earlier; without slots the round is 0, and so is their number
-pub next_slot_later : (g : Graph) (node first second : ℕ) → first ≤ second →
-    next_slot g node first ≤ next_slot g node second
-next_slot_later g node first second l = elim (cases_lt 0 (round g)) [
-  | inl h ↦ more_turns (first_from g node first) (first_from g node second) (round g) (offset g node)
-      (first_from_least g node first h (first_from g node second) (omega (arith, l, next_slot_above g node second h)))
-  | inr z ↦ no_turn (first_from g node first) (first_from g node second) (round g) (offset g node)
+pub next_slot_later : (g : Graph) (node earlier later : ℕ) → earlier ≤ later →
+    next_slot g node earlier ≤ next_slot g node later
+next_slot_later g node earlier later l = elim (cases_lt 0 (round g)) [
+  | inl h ↦ more_turns (first_from g node earlier) (first_from g node later) (round g) (offset g node)
+      (first_from_least g node earlier h (first_from g node later) (omega (arith, l, next_slot_above g node later h)))
+  | inr z ↦ no_turn (first_from g node earlier) (first_from g node later) (round g) (offset g node)
       (let e : round g ≡ 0 = omega (arith, z) in e)
 ]
 

@@ -26,7 +26,7 @@ duration_grows g p m n h =
     ((process_at g p).mu + div_ceil (process_at g p).wcet (process_at g p).parts + (process_at g p).alpha) h in
     omega arith
 
--- given: a run of one scenario
+-- given: the run t of a scenario s
 module _ (g : Graph) (order : List ℕ) (frozen : List (Option ℕ)) (s : Scenario) (t : Times)
     (run : IsRun g order frozen s t) where
   -- an item that isn't active has no time, so its time counts as 0
@@ -39,12 +39,13 @@ module _ (g : Graph) (order : List ℕ) (frozen : List (Option ℕ)) (s : Scenar
       ∙ ap (λ o. option_map (λ start. start + duration g p (fault_of s p)) o)
       (time_is g order frozen s t run p (omega arith) ∙ cond-false _ _ _ a))
 
--- given: two runs of an outcome, in the second of which each process has as many faults or more
+-- given: two runs of an outcome, t with the fault counts `fs` and u with the counts `hs`; in u each process has as many
+-- faults as in t, or more (`more`)
 module _ (g : Graph) (order : List ℕ) (frozen : List (Option ℕ)) (values : List Bool) (fs hs : List ℕ)
     (topological : IsTopological g order)
     (more : (q : ℕ) → get_or fs q 0 ≤ get_or hs q 0) (t u : Times) (run : IsRun g order frozen
     (with_faults values fs) t) (other : IsRun g order frozen (with_faults values hs) u) where
-  -- before moment m no time of the first run is later than that of the second
+  -- before moment m no time of t is later than that of u
   record GrowBefore (m : ℕ) : Type 0 where
     items : (x : ℕ) → x < item_count g → moment g order x < m → time_in t x ≤ time_in u x
     ends : (p : ℕ) → p < process_count g → moment_of_end g order p < m → end_in t p ≤ end_in u p

@@ -97,7 +97,8 @@ module _ (g : Graph) (order : List ℕ) (topological : IsTopological g order) (w
         };
       }
 
--- what holds of the latest times whatever frozen times follow still does if more items are done under the same frozen times
+-- P holds of the latest times whatever frozen times follow for the items that aren't `Done`. If more items are done (`More`)
+-- and `new` has the frozen times of those that were, it holds whatever follows for the items that aren't `More`.
 pub for_more : (g : Graph) (order : List ℕ) (Done More : ℕ → Type 0) (frozen new : List (Option ℕ)) (values : List Bool)
     (P : (ℕ → Times) → Type 0) →
     ((y : ℕ) → y < item_count g → Done y → More y)

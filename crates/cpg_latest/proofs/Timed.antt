@@ -25,7 +25,7 @@ use Rattle.cpg_latest.specs.Timed.{IsTimed, end_where}
 use Rattle.cpg_run.specs.Run.{Times, time_in, end_in, time_by, unfrozen_time, bounds_of_item, start_bounds}
 use Rattle.cpg_run.specs.Run.{input_bounds, processor_bounds, hearing_bounds, send_bounds, input_there, heard_there}
 
--- given: times that keep the rules of a run
+-- given: times t that keep the rules of a run but for the ends
 module _ (g : Graph) (order : List ℕ) (frozen : List (Option ℕ)) (s : Scenario) (t : Times)
     (run : IsTimed g order frozen s t) where
   -- the item is active in the scenario

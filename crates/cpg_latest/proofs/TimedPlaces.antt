@@ -1,5 +1,5 @@
--- From all that holds before a place, times, ends, ready nodes and free slots, and what is found of the process there, follows
--- the same before the next place.
+-- For times that keep the rules of a run but for the ends: from all that holds before a place, times, ends, ready nodes and
+-- free slots, and what is found of the process there, follows the same before the next place.
 use Rattle.std.proofs.Common.{◌≡◌, ◌∙◌, ℕ, ◌+◌, ◌≤◌, ◌<◌, max, true, false, List, length, get_or, set, Option, Some}
 use Rattle.std.proofs.Common.{None, unwrap_or, arith, sym, ap, inl, inr, subst, get_or-set_same}
 use Rattle.std.proofs.Common.{get_or-set_other}

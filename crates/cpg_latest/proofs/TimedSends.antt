@@ -62,7 +62,7 @@ pub Contains-take : (n : ℕ) (xs : List ℕ) (x : ℕ) → Contains (take n xs)
 Contains-take n xs x c =
     subst (λ ys. Contains ys x) (take-append-drop n xs) (Contains-append_left (take n xs) (drop n xs) x c)
 
--- given: a process of an order, in one scenario
+-- given: a process p of a topological order, and a scenario s
 module _ (g : Graph) (order : List ℕ) (topological : IsTopological g order) (s : Scenario) (p : ℕ)
     (l : p < process_count g) where
   -- ---- what a node has sent before an item
@@ -108,10 +108,10 @@ module _ (g : Graph) (order : List ℕ) (topological : IsTopological g order) (s
           | inl less ↦ or_left _ _ (comes_before_from_places order (producer g y) (producer g here)
               (Contains-order (process_count g) order topological.all (producer g y)
               (producer_in_range g order topological y h.0.within)) (omega (arith, ap (place order) x.by)))
-          | inr first ↦
-              let inq : Contains (queue_of g p) y = Contains-take k (queue_of g p) y first in
+          | inr among ↦
+              let inq : Contains (queue_of g p) y = Contains-take k (queue_of g p) y among in
               or_right _ _ (and_from _ _ (eq-eqb _ _ ((in_queue g p y inq).by ∙ sym x.by))
-              (lt-ltb _ _ (below_first (rank_at g) (queue_of g p) (queue_rises g p) k inside y first)))
+              (lt-ltb _ _ (below_first (rank_at g) (queue_of g p) (queue_rises g p) k inside y among)))
         ]))
 
     -- the item at place k is not among the first k
@@ -164,7 +164,7 @@ module _ (g : Graph) (order : List ℕ) (topological : IsTopological g order) (s
         above = λ y h. elim h.1 [
           | inl less ↦ omega (arith, free_by, is_free.above y (h.0, inl less))
           | inr c ↦ elim (take_next (queue_of g p) k y inside c) [
-            | inl first ↦ omega (arith, free_by, is_free.above y (h.0, inr first))
+            | inl among ↦ omega (arith, free_by, is_free.above y (h.0, inr among))
             | inr e ↦ omega (arith, ap (time_in t) e)
           ]
         ];
@@ -185,7 +185,7 @@ module _ (g : Graph) (order : List ℕ) (topological : IsTopological g order) (s
           elim h.1 [
             | inl less ↦ inl less
             | inr c ↦ elim (take_next (queue_of g p) k y inside c) [
-              | inl first ↦ inr first
+              | inl among ↦ inr among
               | inr e ↦ absurd (true≢false (sym h.0.active ∙ ap (λ z. item_active g s.values (item_at g z)) e ∙ idle))
             ]
           ],
@@ -225,11 +225,11 @@ module _ (g : Graph) (order : List ℕ) (topological : IsTopological g order) (s
         time_is g order frozen s t run item x.within ∙ cond-false _ _ _ idle in
         record {
           sent = λ y c. elim (take_next (queue_of g p) k y inside c) [
-            | inl first ↦ has.sent y first
+            | inl among ↦ has.sent y among
             | inr e ↦ subst (λ z. get_or known.times z None ≡ get_or t.times z None) (sym e)
                 (has.others item (not_among k inside) ∙ none item (here_sent k inside) ∙ sym no_time)
           ];
-          others = λ y c. has.others y (λ first. c (in_next (queue_of g p) k y inside (inl first)));
+          others = λ y c. has.others y (λ among. c (in_next (queue_of g p) k y inside (inl among)));
           slots_free = free_same k inside t free idle has.slots_free;
         }
 
@@ -250,14 +250,14 @@ module _ (g : Graph) (order : List ℕ) (topological : IsTopological g order) (s
                 ∙ ap Some right ∙ sym (has_time g order frozen s t run item x.within acts))
             | inr other ↦ ap (λ ts. get_or ts y None) is ∙ get_or-set_other known.times item y (Some time) None other
                 ∙ elim (take_next (queue_of g p) k y inside c) [
-                  | inl first ↦ has.sent y first
+                  | inl among ↦ has.sent y among
                   | inr e ↦ absurd (other e)
                 ]
           ];
           others = λ y c. ap (λ ts. get_or ts y None) is
               ∙ get_or-set_other known.times item y (Some time) None
               (λ e. c (in_next (queue_of g p) k y inside (inr e)))
-              ∙ has.others y (λ first. c (in_next (queue_of g p) k y inside (inl first)));
+              ∙ has.others y (λ among. c (in_next (queue_of g p) k y inside (inl among)));
           -- the item is the last that was sent, so the slots are free a round after it
           slots_free = subst (IsMost (IsSentBy g order s p (k + 1)) (free_after g t))
               (ap (λ n. n + round g) (sym right)) (free_next k inside frozen t run free has.slots_free acts);

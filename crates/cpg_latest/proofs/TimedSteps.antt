@@ -63,7 +63,7 @@ message_start e q h = true≢false (sym (ap starts_one h))
 broadcast_start : (c q : ℕ) → Broadcast c ≡ Start q → ⊥
 broadcast_start c q h = true≢false (sym (ap starts_one h))
 
--- given: times that keep the rules of a run, and the process at a place
+-- given: times t that keep the rules of a run but for the ends (`run`), and the process p at the place i
 module _ (g : Graph) (order : List ℕ) (topological : IsTopological g order) (frozen : List (Option ℕ)) (s : Scenario)
     (t : Times) (run : IsTimed g order frozen s t)
     (i p : ℕ) (l : p < process_count g) (at : place order p ≡ i) where

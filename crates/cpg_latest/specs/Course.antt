@@ -17,7 +17,7 @@ use Rattle.cpg_run.specs.Most.{IsMost}
 use Rattle.cpg_run.specs.Run.{Times, end_in, heard_there}
 use Rattle.cpg_order.specs.Deciding.{decides}
 use Rattle.cpg_run.proofs.Rising.{AreLow}
-use Rattle.cpg_latest.specs.Latest.{AreLatest, with_faults, latest_end, again}
+use Rattle.cpg_latest.specs.Latest.{AreLatest, with_faults, latest_end, fault_delay}
 use Rattle.cpg_latest.specs.Tracks.{track_at}
 use Rattle.cpg_latest.specs.declared.asking.Asked.{Asked}
 
@@ -38,7 +38,8 @@ abbrev pub ForLatest : Graph → List ℕ → (ℕ → Type 0) → List (Option 
 ForLatest g order Done frozen values P = (more : List (Option ℕ)) → GoesOn g Done frozen more → (late : ℕ → Times) →
     AreLatest g order more values late → P late
 
--- the course c has the latest times of an outcome with n faults before the place i
+-- the course c has the latest times of an outcome with n faults before the place i, under any frozen times that are those of
+-- `frozen` for each item that is Done
 pub record IsCourse (g : Graph) (order : List ℕ) (Done : ℕ → Type 0) (frozen : List (Option ℕ)) (values : List Bool)
     (i n : ℕ) (c : ProgressState) : Type 0 where
   -- its lists have a place for each item, process and node
@@ -47,7 +48,8 @@ pub record IsCourse (g : Graph) (order : List ℕ) (Done : ℕ → Type 0) (froz
   pub at : ForLatest g order Done frozen values
       (λ late. IsAt g order (with_faults values []) (late n) i c.known c.ready c.free)
 
--- in the course c the process p has begun and sent the first k of its items
+-- in the course c the process p has begun and sent the first k of its items; t are the times that are found, and
+-- s is their scenario
 pub record HasGone (g : Graph) (order : List ℕ) (s : Scenario) (t : Times) (p k : ℕ) (c : ProgressState) : Type 0 where
   -- the times when p had begun, and sent nothing
   pub begun : Times
@@ -153,7 +155,7 @@ last_end g late (suc n) p = latest_end g late n p
 -- The latest end of p with n faults, given the latest start with n faults and the latest end `last` with one less: the
 -- process has no fault itself, or one more than in the execution that ended at `last`.
 abbrev pub end_after : Graph → ℕ → ℕ → ℕ → ℕ → ℕ
-end_after g p n start last = if n == 0 then start + duration g p 0 else max (start + duration g p 0) (last + again g p)
+end_after g p n start last = if n == 0 then start + duration g p 0 else max (start + duration g p 0) (last + fault_delay g p)
 
 -- ---- frozen times along an order
 

@@ -56,7 +56,7 @@ pub record IsUnfrozenStart (g : Graph) (values : List Bool) (p : ℕ) (c : Progr
   -- when the node is ready for p
   pub ready : ℕ
   pub is_ready : IsReadyFor g values p c ready
-  -- and the release and the live inputs are waited for
+  -- the latest of that, the release, and when the live inputs are there
   pub is : time ≡ max (max ready (process_at g p).release) (greatest (input_bounds g (with_faults values []) c.known p))
 
 -- when the next item of p could be sent in the course c if it were not frozen: in the first slot from the end of p on,
@@ -80,8 +80,9 @@ course_sent g frozen p x c = record {
 abbrev pub queued : Graph → ℕ → ℕ → ℕ
 queued g p at = get_or (queue_of g p) at 0
 
--- before the place i the frozen items so far have their frozen times, and each track's courses their latest times
-pub record AreKnown (setting : Setting) (tracks : List (List Bool)) (i : ℕ) (frozen : List (Option ℕ))
+-- the frozen items from processes before the place i have their frozen times, and each course of each track has its latest
+-- times before i
+pub record AreLanesBefore (setting : Setting) (tracks : List (List Bool)) (i : ℕ) (frozen : List (Option ℕ))
     (lanes : List (List ProgressState)) : Type 0 where
   -- the frozen items from processes before the place have their frozen times
   pub settled : AreSettledOf setting.problem.now setting.order.now
@@ -89,7 +90,8 @@ pub record AreKnown (setting : Setting) (tracks : List (List Bool)) (i : ℕ) (f
   -- each course of each track has its latest times before the place
   pub known : AreLanes setting.problem.now (IsBefore setting frozen i) tracks lanes
 
--- p has sent the first k of its items in each course of each track, and the frozen items so far have their frozen times
+-- in each course of each track in which p is active p has sent the first k of its items; these, the start of p and the items
+-- from earlier processes have their frozen times, if they are frozen
 pub record AreSending (setting : Setting) (tracks : List (List Bool)) (p k : ℕ) (frozen : List (Option ℕ))
     (lanes : List (List ProgressState)) : Type 0 where
   -- the frozen items from earlier processes, the start of p and its first k items have their frozen times
@@ -98,16 +100,16 @@ pub record AreSending (setting : Setting) (tracks : List (List Bool)) (p k : ℕ
   -- in each course of each track p has sent its first k items, if it is active
   pub known : AreLanes setting.problem.now (HasSentTo setting frozen p k k) tracks lanes
 
--- from `old` to `new` no frozen time but that of the item x is changed
-pub record IsSettledBy (x : ℕ) (old new : List (Option ℕ)) : Type 0 where
-  pub others : (y : ℕ) → (y ≡ x → ⊥) → get_or new y None ≡ get_or old y None
-  pub count : length new ≡ length old
+-- from `frozen_old` to `frozen_new` no frozen time but that of the item x is changed
+pub record IsSettledBy (x : ℕ) (frozen_old frozen_new : List (Option ℕ)) : Type 0 where
+  pub others : (y : ℕ) → (y ≡ x → ⊥) → get_or frozen_new y None ≡ get_or frozen_old y None
+  pub count : length frozen_new ≡ length frozen_old
 
 -- the greatest end in a course, or 0 if there is none
 abbrev pub finish_of : Graph → ProgressState → ℕ
 finish_of g c = greatest (map (λ p. end_in c.known p) (numbers_below (process_count g)))
 
--- how far an end in a course is past its due at most: 0 if none is
+-- how far an end in a course is past its due at most, or 0 if none is
 abbrev pub excess_of_course : Graph → ProgressState → ℕ
 excess_of_course g c = greatest (map (λ p. end_in c.known p - due g p) (numbers_below (process_count g)))
 

@@ -27,8 +27,8 @@ abbrev pub latest_end_by : Graph → (ℕ → Times) → ℕ → ℕ → Option 
 latest_end_by g late n p = option_map (λ start. latest_end g late n p) (get_or (late n).times p None)
 
 -- what each fault adds to an execution: a recovery, one part once more and its detection
-abbrev pub again : Graph → ℕ → ℕ
-again g p = (process_at g p).mu + div_ceil (process_at g p).wcet (process_at g p).parts + (process_at g p).alpha
+abbrev pub fault_delay : Graph → ℕ → ℕ
+fault_delay g p = (process_at g p).mu + div_ceil (process_at g p).wcet (process_at g p).parts + (process_at g p).alpha
 
 -- `late n` are the latest times of an outcome with n faults
 pub record AreLatest (g : Graph) (order : List ℕ) (frozen : List (Option ℕ)) (values : List Bool)

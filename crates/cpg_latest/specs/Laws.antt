@@ -52,7 +52,7 @@ pub record AreReached (g : Graph) (order : List ℕ) (frozen : List (Option ℕ)
   -- the end of each process
   pub ends : (p : ℕ) → p < process_count g → IsReached g order frozen values n (λ t. end_in t p) (end_in (late n) p)
 
--- the latest times of an outcome are all reached
+-- the latest times of an outcome with n faults are all reached, in runs of it with at most n faults
 abbrev pub LatestAreReached : Type 0
 LatestAreReached =
     (g : Graph) (order : List ℕ) (frozen : List (Option ℕ)) (values : List Bool) (late : ℕ → Times) (n : ℕ) →
@@ -62,7 +62,8 @@ LatestAreReached =
 
 -- ---- of all tracks
 
--- the frozen times that the latest times of all tracks give are those of the graph
+-- the frozen times that the latest times of all tracks give are those of the graph; `lates i n` are the latest times of track
+-- i with n faults
 abbrev pub LatestAreFrozen : Type 0
 LatestAreFrozen = (g : Graph) (urgency order : List ℕ) (frozen : List (Option ℕ)) (tracks : List (List Bool))
     (lates : ℕ → ℕ → Times) →
@@ -70,19 +71,20 @@ LatestAreFrozen = (g : Graph) (urgency order : List ℕ) (frozen : List (Option 
     AreLatestOf g order frozen tracks lates →
     AreLatestFrozen g order tracks lates frozen → AreFrozenTimes g order frozen
 
--- `v` is the greatest value of the number `of` over all runs
+-- `v` is the greatest value of the number `of` over all runs under an order and these frozen times
 pub record IsGreatest (g : Graph) (order : List ℕ) (frozen : List (Option ℕ)) (of : Times → ℕ) (v : ℕ) : Type 0 where
   -- no run has a greater one
   pub above : (s : Scenario) (t : Times) → IsScenario g s → IsRun g order frozen s t → of t ≤ v
   -- some run has it
   pub reached : (s : Scenario) × (t : Times) × IsScenario g s × IsRun g order frozen s t × (of t ≡ v)
 
--- these are the greatest excess and the greatest finish of all runs
+-- these are the greatest excess and the greatest finish of all runs under an order and these frozen times
 pub record HasGreatest (g : Graph) (order : List ℕ) (frozen : List (Option ℕ)) (excess worst : ℕ) : Type 0 where
   pub is_excess : IsGreatest g order frozen (excess_in_run g) excess
   pub is_worst : IsGreatest g order frozen (λ t. t.finish) worst
 
--- the greatest excess and the greatest finish of all runs are those of the latest times of all tracks
+-- the greatest excess and the greatest finish of all runs under an order and frozen times are those of the latest times of all
+-- tracks; `lates i n` are those of track i with n faults
 abbrev pub LatestAreGreatest : Type 0
 LatestAreGreatest = (g : Graph) (urgency order : List ℕ) (frozen : List (Option ℕ)) (tracks : List (List Bool))
     (lates : ℕ → ℕ → Times) →

@@ -24,11 +24,13 @@ pub record AreLatestOf (g : Graph) (order : List ℕ) (frozen : List (Option ℕ
 abbrev pub acts_in : Graph → List (List Bool) → ℕ → ℕ → Bool
 acts_in g tracks x i = item_active g (track_at tracks i) (item_at g x)
 
--- the latest time that x would have in the i-th track, with all the faults, if it were not frozen
+-- the latest time that x would have in the i-th track, with all the faults, if it were not frozen; `lates i n` are the latest
+-- times of that track with n faults
 abbrev pub unfrozen_in : Graph → List ℕ → List (List Bool) → (ℕ → ℕ → Times) → ℕ → ℕ → ℕ
 unfrozen_in g order tracks lates x i = unfrozen_time g order (with_faults (track_at tracks i) []) (lates i g.faults) x
 
--- `frozen` is the latest of these times over the tracks in which x is active, or None if there is none
+-- `frozen` is the latest time that x would have over the tracks in which it is active if it were not frozen, or None if there
+-- is no such track; `lates i n` are the latest times of track i with n faults
 pub record IsLatestFrozen (g : Graph) (order : List ℕ) (tracks : List (List Bool)) (lates : ℕ → ℕ → Times) (x : ℕ)
     (frozen : Option ℕ) : Type 0 where
   -- in some track x has this time
@@ -41,7 +43,7 @@ pub record IsLatestFrozen (g : Graph) (order : List ℕ) (tracks : List (List Bo
   pub none : frozen ≡ None → (i : ℕ) → i < length tracks → acts_in g tracks x i ≡ false
 
 -- Each frozen item has the latest of its times, and no other item has a frozen time. Latest times depend on frozen times of
--- earlier items alone, so both are found along the order together.
+-- earlier items alone, so both are found along the order together. `lates i n` are the latest times of track i with n faults.
 pub record AreLatestFrozen (g : Graph) (order : List ℕ) (tracks : List (List Bool)) (lates : ℕ → ℕ → Times)
     (frozen : List (Option ℕ)) : Type 0 where
   pub count : length frozen ≡ item_count g
@@ -51,10 +53,10 @@ pub record AreLatestFrozen (g : Graph) (order : List ℕ) (tracks : List (List B
   -- no other item has one
   pub others : (x : ℕ) → is_frozen g x ≡ false → get_or frozen x None ≡ None
 
--- the greatest finish of the tracks' latest times with all the faults
+-- the greatest finish of `lates i g.faults`, the latest times of the tracks i with all the faults
 abbrev pub latest_finish : Graph → List (List Bool) → (ℕ → ℕ → Times) → ℕ
 latest_finish g tracks lates = greatest (map (λ i. (lates i g.faults).finish) (numbers_below (length tracks)))
 
--- the greatest excess of the tracks' latest times with all the faults
+-- the greatest excess of `lates i g.faults`, the latest times of the tracks i with all the faults
 abbrev pub latest_excess : Graph → List (List Bool) → (ℕ → ℕ → Times) → ℕ
 latest_excess g tracks lates = greatest (map (λ i. excess_in_run g (lates i g.faults)) (numbers_below (length tracks)))

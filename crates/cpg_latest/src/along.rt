@@ -5,7 +5,7 @@ ghost use Rattle.cpg_base.specs.Order.{place};
 ghost use Rattle.cpg_bus.specs.Plan.{queue_of};
 ghost use Rattle.cpg_order.specs.Track.{AreTracks};
 ghost use Rattle.cpg_latest.specs.Course.{AreAsked, AreLanes, AreSettledOf, HaveValues, IsDone, outcomes_asked, outcomes_of};
-ghost use Rattle.cpg_latest.specs.Lanes.{AreKnown, AreSending, CanBegin, HasSentTo, IsSettledBy, queued};
+ghost use Rattle.cpg_latest.specs.Lanes.{AreLanesBefore, AreSending, CanBegin, HasSentTo, IsSettledBy, queued};
 ghost use Rattle.cpg_latest.specs.Over.{IsLatestSend, IsLatestStart, TellSends, TellStarts};
 ghost use Rattle.cpg_run.specs.Known.{AreEarly};
 ghost use Rattle.cpg_run.specs.Latest.{later};
@@ -18,19 +18,19 @@ use cpg_run::{FrozenTimes, Setting};
 use std::alloc::Global;
 
 /// Returns the later of two times, the one that there is if there is only one, and `None` if there is none.
-fn later(first: Option<u64>, second: Option<u64>) -> Option<u64>
-    ensures { result ≡ later first second }
+fn later(one: Option<u64>, other: Option<u64>) -> Option<u64>
+    ensures { result ≡ later one other }
 {
-    let Some(time) = first else {
-        return second;
+    let Some(time) = one else {
+        return other;
     };
-    match second {
-        Some(other) => Some(time.max(other)),
+    match other {
+        Some(other_time) => Some(time.max(other_time)),
         None => Some(time),
     }
 }
 
-/// Sets the frozen time of an item to its latest time, if it has one.
+/// Sets the frozen time of an item to `latest`, its latest time. With `None` it gets none.
 fn settle(frozen: &mut FrozenTimes, item: u32, latest: Option<u64>)
     requires item { item < length frozen.old }
     requires unset { get_or frozen.old item None ≡ None }
@@ -43,6 +43,7 @@ fn settle(frozen: &mut FrozenTimes, item: u32, latest: Option<u64>)
 }
 
 /// Returns the latest start of a process over all tracks as if it were not frozen. `None` exactly if it is active in none.
+/// `asked` is what each track says of the process, and `lanes` has the lane of each track.
 fn latest_start(
     setting: &Setting<'_>,
     asked: &[Asked<'_>],
@@ -63,7 +64,8 @@ fn latest_start(
     latest
 }
 
-/// Sets the frozen time of a process's start, if it is frozen and active in some track.
+/// Sets the frozen time of a process's start, if it is frozen and active in some track. `asked` is what each track says of
+/// the process, and `lanes` has the lane of each track.
 fn settle_start(
     setting: &Setting<'_>,
     frozen: &mut FrozenTimes,
@@ -75,7 +77,7 @@ fn settle_start(
     requires process { process < process_count setting.now.problem.now }
     requires tracks { AreTracks setting.now.problem.now (outcomes_asked asked.now) }
     requires asked { AreAsked setting.now.problem.now setting.now.guards.now process asked.now }
-    requires known { AreKnown setting.now (outcomes_asked asked.now) (place setting.now.order.now process) frozen.old lanes.now }
+    requires known { AreLanesBefore setting.now (outcomes_asked asked.now) (place setting.now.order.now process) frozen.old lanes.now }
     ensures settled { AreSettledOf setting.now.problem.now setting.now.order.now (IsDone setting.now.problem.now setting.now.order.now process 0) frozen.new }
     ensures others { IsSettledBy process frozen.old frozen.new }
 {
@@ -87,8 +89,8 @@ fn settle_start(
     settle(frozen, process, latest);
 }
 
-/// Returns the latest time over all tracks at which a process could send an item as if it were not frozen. `None` exactly
-/// if the item is active in none.
+/// Returns the latest time over all tracks at which a process could send an item if that were not frozen. `None` exactly if
+/// the item is active in none. `asked` is what each track says of the process, and `lanes` has the lane of each track.
 fn latest_send(
     setting: &Setting<'_>,
     asked: &[Asked<'_>],
@@ -112,6 +114,7 @@ fn latest_send(
 }
 
 /// Sets the frozen time of the item at the place `at` in the queue of a process, if it is frozen and active in some track.
+/// `asked` is what each track says of the process, and `lanes` has the lane of each track.
 fn settle_send(
     setting: &Setting<'_>,
     frozen: &mut FrozenTimes,
@@ -139,6 +142,7 @@ fn settle_send(
 }
 
 /// Starts a process in each course of each track in which it is active; in the others its node waits for what decides it.
+/// `asked` is what each track says of the process.
 fn begin_each(
     setting: &Setting<'_>,
     frozen: &FrozenTimes,
@@ -159,7 +163,8 @@ fn begin_each(
     }
 }
 
-/// Sends the item at the place `at` in the queue of a process, in each course of each track in which it is active.
+/// Sends the item at the place `at` in the queue of a process, in each course of each track in which the item is active.
+/// `asked` is what each track says of the process.
 fn send_each(
     setting: &Setting<'_>,
     frozen: &FrozenTimes,
@@ -182,7 +187,8 @@ fn send_each(
     }
 }
 
-/// Sends all items of a process in each track, and sets the frozen times of those that are frozen.
+/// Sends all items of a process in each track in which they are active, and sets the frozen times of those that are frozen.
+/// `asked` is what each track says of the process.
 fn send_all(
     setting: &Setting<'_>,
     frozen: &mut FrozenTimes,
@@ -205,7 +211,7 @@ fn send_all(
 }
 
 /// Goes on by one process: finds the latest times of its start, its end and all that it sends in each track, and the frozen
-/// times of those that are frozen.
+/// times of those that are frozen. `frozen` and `lanes` have what was found for the processes before it in the order.
 pub(crate) fn step(
     alloc: Global,
     setting: &Setting<'_>,
@@ -218,8 +224,8 @@ pub(crate) fn step(
     requires process { process < process_count setting.now.problem.now }
     requires tracks { AreTracks setting.now.problem.now (outcomes_of tracks.now) }
     requires values { HaveValues setting.now.problem.now tracks.now }
-    requires known { AreKnown setting.now (outcomes_of tracks.now) (place setting.now.order.now process) frozen.old lanes.old.items }
-    ensures { OnOk result (AreKnown setting.now (outcomes_of tracks.now) (place setting.now.order.now process + 1) frozen.new lanes.new.items) }
+    requires known { AreLanesBefore setting.now (outcomes_of tracks.now) (place setting.now.order.now process) frozen.old lanes.old.items }
+    ensures { OnOk result (AreLanesBefore setting.now (outcomes_of tracks.now) (place setting.now.order.now process + 1) frozen.new lanes.new.items) }
 {
     // the frozen time of the start is set before it is used
     let asked = ask_each(alloc, setting, tracks, process)?;

@@ -31,7 +31,7 @@ pub(crate) struct Asked<'a> {
     pub(crate) inputs: SmallVec<u32, INPUTS_IN_PLACE>,
 }
 
-/// Whether a process is active in an outcome. Only the contract names `problem`, whose guards these are.
+/// Whether a process is active in the outcome of a scenario. Only the contract names `problem`, whose guards these are.
 fn is_active(problem: &Problem, guards: &GuardTrees, scenario: &Scenario, process: u32) -> bool
     requires admitted { AreAdmitted problem.now guards.now }
     requires values { length scenario.now.values ≡ condition_count problem.now }
@@ -42,7 +42,7 @@ fn is_active(problem: &Problem, guards: &GuardTrees, scenario: &Scenario, proces
     active
 }
 
-/// Whether an edge is live in an outcome. Only the contract names `problem`, whose guards these are.
+/// Whether an edge is live in the outcome of a scenario. Only the contract names `problem`, whose guards these are.
 fn is_live(problem: &Problem, guards: &GuardTrees, scenario: &Scenario, edge: u32) -> bool
     requires admitted { AreAdmitted problem.now guards.now }
     requires values { length scenario.now.values ≡ condition_count problem.now }
@@ -53,7 +53,8 @@ fn is_live(problem: &Problem, guards: &GuardTrees, scenario: &Scenario, edge: u3
     live
 }
 
-/// Returns the conditions that decide a process in an outcome. Only the contract names `problem`, whose guards these are.
+/// Returns the conditions that decide a process in the outcome of a scenario, in the urgency order of their processes. Only
+/// the contract names `problem`, whose guards these are.
 fn deciding(
     alloc: Global,
     problem: &Problem,
@@ -71,8 +72,8 @@ fn deciding(
     Ok(conditions)
 }
 
-/// Whether an item in the queue of an active process is active: a broadcast always is, and a message is if its edge is
-/// live. Only the contract names `process`.
+/// Whether an item in the queue of a process that is active in the outcome of a scenario is active too: a broadcast always
+/// is, and a message is if its edge is live. `guards` are those of the graph. Only the contract names `process`.
 pub(crate) fn is_item_active(
     problem: &Problem,
     guards: &GuardTrees,
@@ -96,7 +97,7 @@ pub(crate) fn is_item_active(
     is_live(problem, guards, scenario, item - processes)
 }
 
-/// Returns the edges to a process that are live in an outcome.
+/// Returns the edges to a process that are live in the outcome of a scenario.
 fn live_inputs(
     alloc: Global,
     setting: &Setting<'_>,
@@ -117,7 +118,7 @@ fn live_inputs(
     Ok(edges)
 }
 
-/// Returns what an outcome says of a process.
+/// Returns what the outcome of a scenario says of a process.
 fn ask<'a>(
     alloc: Global,
     setting: &Setting<'_>,

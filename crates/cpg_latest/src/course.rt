@@ -46,7 +46,7 @@ impl LatestCourse {
         })
     }
 
-    /// Returns the time of an item, or 0 if none is known.
+    /// Returns the time of an item, or 0 if it is inactive or not known yet.
     pub(crate) fn time(&self, item: u32) -> u64
         ensures { result ≡ time_in self.now.known item }
     {
@@ -56,7 +56,7 @@ impl LatestCourse {
         }
     }
 
-    /// Returns the end of a process, or 0 if none is known.
+    /// Returns the end of a process, or 0 if it is inactive or not known yet.
     pub(crate) fn end(&self, process: u32) -> u64
         ensures { result ≡ end_in self.now.known process }
     {
@@ -82,7 +82,7 @@ impl LatestCourse {
         self.free[node as usize]
     }
 
-    /// Sets the start and the end of a process. Its node is ready for the next one at the end.
+    /// Sets the start and the end of a process. `node` is its node, which is ready for the next process at that end.
     pub(crate) fn begin(&mut self, process: u32, node: u32, start: u64, end: u64)
         requires start { process < length self.old.known.times }
         requires end { process < length self.old.known.ends }

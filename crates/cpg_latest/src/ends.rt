@@ -21,12 +21,12 @@ pub(crate) fn latest_end(
     requires last { last < 2 ^ 60 }
     ensures { result ≡ end_after problem.now process faults start last }
 {
-    let first = problem.duration(process, 0);
+    let faultless = problem.duration(process, 0);
     // there is no end with one fault less than none
     if faults == 0 {
-        return start + first;
+        return start + faultless;
     }
     // how much longer an execution is for each fault
-    let more = problem.duration(process, 1) - first;
-    (start + first).max(last + more)
+    let per_fault = problem.duration(process, 1) - faultless;
+    (start + faultless).max(last + per_fault)
 }

@@ -1,4 +1,4 @@
-//! How late ends are at most under an order.
+//! How late ends are at most under an order, read off the lanes of all tracks.
 ghost use Rattle.std.specs.Prelude.{◌≡◌, ◌+◌, ◌<◌, ℕ, List, get_or, length, map};
 ghost use Rattle.cpg_base.specs.Numbers.{greatest};
 ghost use Rattle.cpg_latest.specs.Lanes.{excess_of_course, finish_of, last_course};
@@ -16,8 +16,8 @@ pub struct Figures {
     pub worst: u64,
 }
 
-/// Returns the greatest excess and the greatest finish of these lanes, those with all the faults. Both are 0 if there are
-/// no lanes.
+/// Returns the greatest excess and the greatest finish of these lanes, in their courses with all the faults. Both are 0 if
+/// there are no lanes.
 pub(crate) fn greatest_figures(problem: &Problem, lanes: &[Lane]) -> Figures
     requires { (i : ℕ) (d : List ProgressState) → i < length lanes.now → length (get_or lanes.now i d) ≡ problem.now.faults + 1 }
     ensures excess { result.excess ≡ greatest (map (λ l. excess_of_course problem.now (last_course problem.now l)) lanes.now) }

@@ -34,7 +34,7 @@ impl Model for Lane {
     ghost view = { λ l. l.courses.items };
 }
 
-/// Whether an item in the queue of a process is sent in a track.
+/// Whether an item in the queue of a process is sent in a track. `asked` is what the track says of the process.
 fn is_sent(setting: &Setting<'_>, asked: &Asked<'_>, process: u32, item: u32) -> bool
     requires setting { IsSetting setting.now }
     requires process { process < process_count setting.now.problem.now }
@@ -72,7 +72,7 @@ impl Lane {
     }
 
     /// Returns when a process could start at the latest, with all the faults, if it were not frozen. `None` exactly if it is
-    /// inactive.
+    /// inactive. `asked` is what the track says of the process.
     pub(crate) fn start(
         &self,
         setting: &Setting<'_>,
@@ -99,7 +99,7 @@ impl Lane {
     }
 
     /// Returns when an item of a process could be sent at the latest, with all the faults, if it were not frozen. `None`
-    /// exactly if it is inactive.
+    /// exactly if the item is inactive. `asked` is what the track says of the process.
     pub(crate) fn send_time(
         &self,
         setting: &Setting<'_>,
@@ -129,7 +129,8 @@ impl Lane {
         Some(unfrozen_send(setting, course, process))
     }
 
-    /// Starts a process in each course, if it is active. Otherwise lets its node wait in each for what decides it.
+    /// Starts a process in each course, if it is active. Otherwise lets its node wait in each for what decides it. `asked` is
+    /// what the track says of the process, and `frozen` has the frozen time of its start, if that is frozen.
     pub(crate) fn begin(
         &mut self,
         setting: &Setting<'_>,
@@ -153,7 +154,8 @@ impl Lane {
         }
     }
 
-    /// Sends the item at the place `at` in the queue of a process in each course, if it is active.
+    /// Sends the item at the place `at` in the queue of a process in each course, if the item is active. `asked` is what the
+    /// track says of the process, and `frozen` has the frozen time of the item, if that is frozen.
     pub(crate) fn send(
         &mut self,
         setting: &Setting<'_>,

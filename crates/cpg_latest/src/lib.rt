@@ -15,7 +15,7 @@ mod stepping;
 mod waiting;
 
 pub use figures::Figures;
-pub use measuring::latest;
+pub use measuring::figures_under;
 
 /// A run with at most n faults is no later than the latest times of its outcome with n faults.
 pub fn runs_are_no_later()

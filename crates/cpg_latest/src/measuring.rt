@@ -17,7 +17,8 @@ use cpg_rules::Admitted;
 use cpg_run::{FrozenTimes, Setting};
 use std::alloc::Global;
 
-/// Returns a lane for each of `count` tracks, in whose courses nothing is known.
+/// Returns a lane for each of `count` tracks. In its courses nothing is known, and all nodes are ready and their slots free
+/// at 0.
 fn beginnings(alloc: Global, problem: &Problem, count: usize) -> Result<Vec<Lane>, OutOfMemory>
     ensures { IfOk result (λ lanes. lanes.items ≡ replicate count (no_lane problem.now)) }
 {
@@ -29,10 +30,10 @@ fn beginnings(alloc: Global, problem: &Problem, count: usize) -> Result<Vec<Lane
     Ok(lanes)
 }
 
-/// Returns the greatest excess and the greatest finish of all scenarios under a topological order, in time units, given
-/// the outcomes of a graph's tracks. No scenario is run: for each track and number of faults, the latest times of a
-/// process and what it sends follow from those of earlier processes.
-pub fn latest(
+/// Returns the greatest excess and the greatest finish of all scenarios under a topological order, in time units. The
+/// outcomes of `tracks` are those of all tracks of the graph. No scenario is run: for each track and number of faults, the
+/// latest times of a process and of what it sends follow from those of earlier processes.
+pub fn figures_under(
     alloc: Global,
     admitted: &Admitted,
     order: &Order,

@@ -1,4 +1,4 @@
-//! Starts a process in a course, and sends its items.
+//! One process in one course: when it starts and ends there, and when its items are sent.
 ghost use Rattle.std.specs.Prelude.{◌≡◌, ◌<◌, ◌+◌, ◌^◌, true, length};
 ghost use Rattle.cpg_base.specs.Graph.{process_count, item_count, node_of};
 ghost use Rattle.cpg_bus.specs.Share.{HasSlot};
@@ -23,8 +23,9 @@ fn frozen_time(frozen: &FrozenTimes, item: u32) -> u64
 }
 
 /// Starts a process in the course with a number of faults, if it is active, and otherwise lets its node wait for what
-/// decides it. `last` is the latest end of the process with one fault less, and any number if `faults` is 0. Returns the
-/// latest end with this number of faults, or 0 if the process is inactive.
+/// decides it. `asked` is what the course's track says of the process. `last` is the latest end of the process with one
+/// fault less, and any number if `faults` is 0. Returns the latest end with this number of faults, or 0 if the process is
+/// inactive.
 pub(crate) fn begin(
     setting: &Setting<'_>,
     frozen: &FrozenTimes,
@@ -78,7 +79,8 @@ pub(crate) fn unfrozen_send(setting: &Setting<'_>, course: &LatestCourse, proces
     next.max(course.free(node))
 }
 
-/// Sends an active item of a process in a course: sets its time, and when the slots of the node are free after it.
+/// Sends an active item of a process in a course: sets its time, and when the slots of the node are free after it. The item
+/// isn't sent before its frozen time, if `frozen` has one.
 pub(crate) fn send_item(
     setting: &Setting<'_>,
     frozen: &FrozenTimes,

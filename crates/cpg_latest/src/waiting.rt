@@ -19,7 +19,7 @@ use cpg_base::Problem;
 use cpg_bus::Plan;
 use cpg_run::Setting;
 
-/// Returns when a frame that a node sends arrives: at the end of its slot.
+/// Returns when the frame of an item arrives, at the end of its slot. `node` is the node that sends it.
 fn frame_there(problem: &Problem, plan: &Plan, course: &LatestCourse, node: u32, item: u32) -> u64
     requires plan { plan.now ≡ plan_of problem.now }
     requires node { node < length problem.now.nodes }
@@ -124,7 +124,8 @@ fn latest_heard(
     latest
 }
 
-/// Returns when the node of a process has heard each condition that decides the process, or 0 if none does.
+/// Returns when the node of a process has heard each condition that decides the process, or 0 if none does. `asked` is what
+/// the course's track says of the process.
 fn heard(setting: &Setting<'_>, course: &LatestCourse, asked: &Asked<'_>, process: u32) -> u64
     requires setting { IsSetting setting.now }
     requires process { process < process_count setting.now.problem.now }
@@ -146,7 +147,8 @@ fn heard(setting: &Setting<'_>, course: &LatestCourse, asked: &Asked<'_>, proces
 }
 
 /// Returns when the node of a process is ready for it: its active earlier processes have ended, and it has heard each
-/// condition that decides this process or an earlier one of the node.
+/// condition that decides this process or an earlier one of the node. `asked` is what the course's track says of the
+/// process.
 pub(crate) fn ready(
     setting: &Setting<'_>,
     course: &LatestCourse,
@@ -160,12 +162,12 @@ pub(crate) fn ready(
     requires small { AreSmall course.now.known }
     ensures { IsReadyFor setting.now.problem.now asked.now.scenario.now.values process course.now result }
 {
-    let before = course.ready(setting.problem.node_of(process));
-    before.max(heard(setting, course, asked, process))
+    let was_ready = course.ready(setting.problem.node_of(process));
+    was_ready.max(heard(setting, course, asked, process))
 }
 
 /// Returns when an active process could start if it were not frozen, given when its node is ready for it: not before its
-/// release and its live inputs.
+/// release and its live inputs. `asked` is what the course's track says of the process.
 pub(crate) fn unfrozen_start(
     setting: &Setting<'_>,
     course: &LatestCourse,

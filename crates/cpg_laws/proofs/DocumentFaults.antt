@@ -26,6 +26,7 @@ use Rattle.cpg_laws.proofs.NameFaults.{IsTwice, doubles_stand, double_there, IsN
 
 -- ---- one document
 
+-- given a document, as its members
 module _ (ms : Members) where
   -- if its fields are good, it is read as the graph of its values
   read_is : HasGoodFields ms → read_raw ms ≡ Ok (graph_in ms)
@@ -106,7 +107,7 @@ file_faults_are : (bytes : List ℕ) (fault : ReadFault) → Contains (faults_of
 unfolding document_of
 file_faults_are bytes fault = faults_are (document bytes) fault
 
--- the first of some faults is the first of the same faults said otherwise
+-- if `P` and `Q` hold of the same faults, the first fault of which `P` holds is the first of which `Q` does
 first_by : (P Q : ReadFault → Type 0) → ((fault : ReadFault) → P fault → Q fault) →
     ((fault : ReadFault) → Q fault → P fault) → (fault : ReadFault) → IsFirstOf P fault →
     IsFirstOf Q fault
@@ -120,12 +121,13 @@ first_by P Q there back fault h = record {
 same_fault : {T : Type 0} (r : Reading T) (fault other : ReadFault) → r ≡ Err fault → r ≡ Err other → fault ≡ other
 same_fault r fault other e f = cc
 
--- a reading that shows the first of some faults succeeds exactly if there are none
+-- if a reading `r` shows the first of some faults, it succeeds exactly if there are none
 read_where : {T : Type 0} (faults : List ReadFault) (r : Reading T) → IsFirst faults r →
     ((x : T) × (r ≡ Ok x)) ↔ ((fault : ReadFault) → Contains faults fault → ⊥)
 read_where [] r told = (λ h fault c. Contains-nil fault c, λ none. told)
 read_where (f ∷ faults) r told = (λ h. absurd (let ok = h.1 in cc), λ none. absurd (none f (Contains-first f faults)))
 
+-- given the bytes of a file
 module _ (bytes : List ℕ) where
   -- each listed fault is one of the file
   there : (fault : ReadFault) → Contains (faults_of bytes) fault → IsFaulty bytes fault

@@ -22,13 +22,13 @@ use Rattle.cpg_laws.specs.GraphFiles.{top_of, elements}
 record Gives {T : Type 0} (r : Reading T) (x : T) : Type 0 where
   is : (y : T) → r ≡ Ok y → y ≡ x
 
--- two steps one after the other give what the second does for what the first gives
+-- if step `r` gives `x`, and the step after it, on `x`, gives `z`, both one after the other give `z`
 bind_gives : {T U : Type 0} (r : Reading T) (next : T → Reading U) (x : T) (z : U) → Gives r x → Gives (next x) z →
     Gives (r >>= next) z
 bind_gives (Ok w) next x z h k = record { is = λ y e. k.is y (subst (λ v. next v ≡ Ok y) (h.is w refl) e) }
 bind_gives (Err fault) next x z h k = record { is = λ y e. cc }
 
--- a check before a step doesn't change what the step gives
+-- a check `r` before a step doesn't change what the step gives, `z`
 seq_gives : {T U : Type 0} (r : Reading T) (next : Reading U) (z : U) → Gives next z → Gives (r >> next) z
 seq_gives (Ok w) next z k = k
 seq_gives (Err fault) next z k = record { is = λ y e. cc }
@@ -37,7 +37,8 @@ seq_gives (Err fault) next z k = record { is = λ y e. cc }
 pure_gives : {T : Type 0} (x : T) → Gives (pure x) x
 pure_gives x = record { is = λ y e. cc }
 
--- if a step gives the value of a function for each element, the steps give the mapped list
+-- if a step gives `f x` for each element `x`, whatever its index, the steps over `xs`, numbered from `i`, give the list
+-- of these
 each_gives : {T U : Type 0} (step : ℕ → T → Reading U) (f : T → U) → ((i : ℕ) (x : T) → Gives (step i x) (f x)) →
     (i : ℕ) (xs : List T) →
     Gives (each step i xs) (map f xs)
@@ -72,7 +73,7 @@ module _ {T : Type 0} (as_type : Data → Option T) (row : DocumentRow) (key : K
       by None = record { is = λ y e. cc }
       by (Some x) = pure_gives (Some x)
 
-  -- a required value is what stands there
+  -- a required value is what stands there (`o`); the default `x` isn't read
   required_by : (x : T) (o : Option T) → Gives (required_in row key o) (unwrap_or o x)
   required_by x None = record { is = λ y e. cc }
   required_by x (Some y) = pure_gives y
@@ -146,6 +147,7 @@ graph_in ms = record {
   order = value_in as_names ms Order;
 }
 
+-- given a row of a document
 module _ (row : DocumentRow) where
   -- a name is what stands at its key
   name_gives : (key : Key) → Gives (read_name row key) (name_in row.members key)
@@ -231,6 +233,6 @@ graph_gives ms =
     (bind_gives _ _ _ _ (rows_give tables.Edge read_edge edge_in edge_gives (elements ms Edge))
     (pure_gives _))))))))))))
 
--- the graph that is read is the one of the document
+-- the graph `g` that is read of a document `ms` is the one in it
 pub graph_is : (ms : Members) (g : RawGraph) → read_raw ms ≡ Ok g → g ≡ graph_in ms
 graph_is ms g e = (graph_gives ms).is g e

@@ -20,6 +20,7 @@ abbrev pub Stand : {T : Type 0} → (ℕ → T → Type 0) → ℕ → List T �
 Stand Q i [] = Unit {0}
 Stand Q i (x ∷ xs) = Q i x × Stand Q (i + 1) xs
 
+-- given a fact on faults
 module _ (P : ReadFault → Type 0) where
   -- what holds for each fault of a list holds for one that is in it
   pub each_contained : (faults : List ReadFault) → Each P faults → (fault : ReadFault) → Contains faults fault → P fault
@@ -43,7 +44,8 @@ module _ (P : ReadFault → Type 0) where
   each_weaker Q weaker [] h = tt
   each_weaker Q weaker (f ∷ faults) h = (weaker f h.0, each_weaker Q weaker faults h.1)
 
-  -- what holds for the faults of each element holds for those of the whole list
+  -- if `P` holds of the faults of each element of which `Q` holds, and `Q` holds of all of `xs`, numbered from `i`,
+  -- then `P` holds of all their faults
   pub each_of_each : {T : Type 0} (Q : ℕ → T → Type 0) (faults : ℕ → T → List ReadFault) →
       ((i : ℕ) (x : T) → Q i x → Each P (faults i x)) → (i : ℕ) (xs : List T) → Stand Q i xs →
       Each P (of_each faults i xs)
@@ -56,12 +58,13 @@ pub unless_contains : (b : Bool) (fault : ReadFault) → b ≡ false → Contain
 unless_contains true fault e = absurd (false≢true (sym e))
 unless_contains false fault e = Contains-first fault []
 
--- one step on, counted at the front or at the back
+-- place `k + 1` from `i` on is place `k` from `i + 1` on
 onward : (i k : ℕ) → i + suc k ≡ (i + 1) + k
 onward i k = omega arith
 
 module _ {T : Type 0} where
-  -- what holds of each element at its place holds of all, counted from i
+  -- if `Q` holds of each element `x` of `xs` at its number, `i + k` for place `k`, it stands for the whole list,
+  -- numbered from `i`
   stand_from : (Q : ℕ → T → Type 0) (i : ℕ) (xs : List T) → ((k : ℕ) (x : T) → slice_get xs k ≡ Some x → Q (i + k) x) →
       Stand Q i xs
   stand_from Q i [] h = tt
@@ -70,13 +73,13 @@ module _ {T : Type 0} where
     stand_from Q (i + 1) xs (λ k y e. subst (λ n. Q n y) (onward i k) (h (suc k) y e)),
   )
 
-  -- it is enough to look at each place
+  -- if `Q` holds of each element `x` of `xs` at its place `k`, it stands for the whole list, numbered from 0
   pub stand_all : (Q : ℕ → T → Type 0) (xs : List T) → ((k : ℕ) (x : T) → slice_get xs k ≡ Some x → Q k x) →
       Stand Q 0 xs
   stand_all Q xs h = stand_from Q 0 xs (λ k x e. subst (λ n. Q n x) (sym (zero-add k)) (h k x e))
 
-  -- A fault of the element at a place is among those of all elements.
-  -- By induction on the place: the faults of the first come first.
+  -- A fault of the element `x` at place `k` of `xs`, which are numbered from `i`, is among those of all elements. By
+  -- induction on the place: the faults of the first come first.
   contains_from : (faults : ℕ → T → List ReadFault) (fault : ReadFault) (i k : ℕ) (xs : List T) (x : T) →
       slice_get xs k ≡ Some x →
       Contains (faults (i + k) x) fault →
@@ -89,7 +92,7 @@ module _ {T : Type 0} where
       Contains-append_right (faults i y) (of_each faults (i + 1) ys) fault
       (contains_from faults fault (i + 1) k ys x e (subst (λ n. Contains (faults n x) fault) (onward i k) c))
 
-  -- a fault of the element at a place is among those of the whole list
+  -- a fault of the element `x` at place `k` of `xs` is among those of the whole list, numbered from 0
   pub of_each_contains : (faults : ℕ → T → List ReadFault) (fault : ReadFault) (k : ℕ) (xs : List T) (x : T) →
       slice_get xs k ≡ Some x →
       Contains (faults k x) fault →
@@ -97,7 +100,7 @@ module _ {T : Type 0} where
   of_each_contains faults fault k xs x e c =
       contains_from faults fault 0 k xs x e (subst (λ n. Contains (faults n x) fault) (sym (zero-add k)) c)
 
--- the faults of a mapped list are those of the images
+-- the faults of the elements that `f` makes of `xs` are those that each `f x` has, numbered from `i`
 pub of_each_mapped : {S T : Type 0} (faults : ℕ → T → List ReadFault) (f : S → T) (i : ℕ) (xs : List S) →
     of_each faults i (map f xs) ≡ of_each (λ i x. faults i (f x)) i xs
 of_each_mapped faults f i [] = refl
@@ -105,8 +108,7 @@ of_each_mapped faults f i (x ∷ xs) = ap (λ rest. faults i (f x) ++ rest) (of_
 
 -- ---- a position is found where some element passes
 
--- There is a place that passes a test exactly if some element does.
--- By induction on the list.
+-- A place, numbered from `i`, passes a test exactly if some element of `xs` does. By induction on the list.
 some_from : {T : Type 0} (test : T → Bool) (i : ℕ) (xs : List T) → is_some (position_from test i xs) ≡ list_any test xs
 some_from test i [] = refl
 some_from test i (x ∷ xs) = by (test x) (some_from test (i + 1) xs)

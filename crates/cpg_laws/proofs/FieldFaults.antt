@@ -54,12 +54,12 @@ is_some_key fields text e =
     let (f, d, is) = Contains-map_parts (λ f. f.key) fields key c in
     (f, d, ap text_of is ∙ (bytes_eq-Decides (text_of key) text).0 same)
 
--- what stands at a key of a table that has one member more
+-- what stands at a key of a table that has the member of this key in front, besides `ms`, is its value `d`
 at_own_key : (text : List ℕ) (d : Data) (ms : Members) → get_member text (member text d ms) ≡ Some d
 at_own_key text d ms =
     ap (λ o. match_ordering o (get_member text ms) (Some d) (get_member text ms)) (tied_itself nat_list_cmp_total text)
 
--- a key that is there is there still when another member is put in front
+-- if `d` stands at key `text`, something (`z`) stands there still when another member is put in front
 still_there : (text : List ℕ) (d : Data) (other : List ℕ) (e : Data) (ms : Members) → get_member text ms ≡ Some d →
     (z : Data) × (get_member text (member other e ms) ≡ Some z)
 still_there text d other e ms is = by (slice_cmp nat_cmp text other)
@@ -122,6 +122,7 @@ other_key fields members (text, d, is, apart) = false_from_ne_true (are_listed (
 abbrev pub IsBad : Members → ReadFault → Type 0
 IsBad ms fault = (place : Place) × (fault ≡ BadField place) × IsBadField ms place
 
+-- given a row of the document, with its place
 module _ (ms : Members) (row : DocumentRow) (at : table_at ms row.table row.index ≡ Some row.members) where
   -- Each bad field found by a list of fields is one of the document.
   -- By induction on the fields: the first is bad, or a later one, or last the row has another key.
@@ -141,6 +142,7 @@ module _ (ms : Members) (row : DocumentRow) (at : table_at ms row.table row.inde
   row_is_bad : Each (IsBad ms) (bad_in (fields_of row.table) row)
   row_is_bad = bad_keys (fields_of row.table) (λ f c. c)
 
+-- given a row, and the keys that are listed for it
 module _ (row : DocumentRow) (keys : List Key) where
   -- a bad value at a key of the fields is found
   value_there : (fields : List Field) (f : Field) → Contains fields f → is_good_value f (value_at row f.key) ≡ false →
@@ -172,7 +174,7 @@ module _ (row : DocumentRow) (keys : List Key) where
 abbrev row_of : Table → ℕ → Members → DocumentRow
 row_of table i ms = record { table = table; index = i; members = ms }
 
--- each bad field found in the elements is one of the document
+-- each bad field found in the elements that a document `ms` has in a table is one of the document
 elements_are_bad : (ms : Members) (table : Table) (members : List Members) →
     ((i : ℕ) → table_at ms table i ≡ slice_get members i) →
     Each (IsBad ms) (bad_elements table (fields_of table) members)

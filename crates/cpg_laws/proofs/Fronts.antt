@@ -7,13 +7,13 @@ use Rattle.cpg_codec.specs.Spelling.{spelling}
 use Rattle.cpg_codec.proofs.Theorems.{no_proper_prefix}
 use Rattle.cpg_laws.specs.Packs.{FrontsOfPacksAreRefused}
 
--- a list is its first elements and the others
+-- a list `xs` is its first `n` elements and then the others
 parted : {X : Type 0} (n : ℕ) (xs : List X) → xs ≡ take n xs ++ drop n xs
 parted zero xs = refl
 parted (suc n) [] = refl
 parted (suc n) (x ∷ xs) = ap (λ l. x ∷ l) (parted n xs)
 
--- the first elements of the first elements are these
+-- the first `n` of the first `n` elements of `xs` are these
 again : {X : Type 0} (n : ℕ) (xs : List X) → take n (take n xs) ≡ take n xs
 again zero xs = refl
 again (suc n) [] = refl

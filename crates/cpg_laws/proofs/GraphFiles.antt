@@ -41,57 +41,64 @@ use Rattle.cpg_laws.specs.GraphFiles.{GraphFilesShowFirstFaults}
 
 -- ---- steps one after another
 
--- two steps, the second on what the first reads, are refused by the first fault of both lists
+-- if step `r` is refused by the first of `fs`, and the step on what it reads by the first of `gs`, both one after the
+-- other are refused by the first of `fs ++ gs`
 bind : {T U : Type 0} (fs gs : List ReadFault) (r : Reading T) (next : T → Reading U) → IsFirst fs r →
     ((x : T) → r ≡ Ok x → IsFirst gs (next x)) →
     IsFirst (fs ++ gs) (r >>= next)
 bind [] gs r next h more = subst (λ z. IsFirst gs (z >>= next)) (sym h.1) (more h.0 h.1)
 bind (f ∷ fs) gs r next h more = ap (λ z. z >>= next) h
 
--- two steps one after the other are refused by the first fault of both lists
+-- if step `r` is refused by the first of `fs`, and step `next` by the first of `gs`, both one after the other are
+-- refused by the first of `fs ++ gs`
 seq : {T U : Type 0} (fs gs : List ReadFault) (r : Reading T) (next : Reading U) → IsFirst fs r → IsFirst gs next →
     IsFirst (fs ++ gs) (r >> next)
 seq [] gs r next h more = subst (λ z. IsFirst gs (z >> next)) (sym h.1) more
 seq (f ∷ fs) gs r next h more = ap (λ z. z >> next) h
 
--- a last step that can't be refused
+-- if step `r` is refused by the first of `fs`, it is so with a last step that makes `f x` of what it reads and can't be
+-- refused
 bind_last : {T U : Type 0} (fs : List ReadFault) (r : Reading T) (f : T → U) → IsFirst fs r →
     IsFirst fs (r >>= (λ x. pure (f x)))
 bind_last [] r f h = (f h.0, ap (λ z. z >>= (λ x. pure (f x))) h.1)
 bind_last (g ∷ gs) r f h = ap (λ z. z >>= (λ x. pure (f x))) h
 
--- a step and then a value are refused by the first fault of the step
+-- if step `r` is refused by the first of `fs`, it is so if the value `y` is given after it
 seq_last : {T U : Type 0} (fs : List ReadFault) (r : Reading T) (y : U) → IsFirst fs r → IsFirst fs (r >> pure y)
 seq_last [] r y h = (y, ap (λ z. z >> pure y) h.1)
 seq_last (g ∷ gs) r y h = ap (λ z. z >> pure y) h
 
--- steps within a longer list of faults
+-- if step `r` is refused by the first of `fs`, and the step on what it reads by the first of `gs ++ hs`, both are
+-- refused by the first of the three lists, grouped as `(fs ++ gs) ++ hs`
 bind_within : {T U : Type 0} (fs gs hs : List ReadFault) (r : Reading T) (next : T → Reading U) → IsFirst fs r →
     ((x : T) → r ≡ Ok x → IsFirst (gs ++ hs) (next x)) →
     IsFirst ((fs ++ gs) ++ hs) (r >>= next)
 bind_within [] gs hs r next h more = subst (λ z. IsFirst (gs ++ hs) (z >>= next)) (sym h.1) (more h.0 h.1)
 bind_within (f ∷ fs) gs hs r next h more = ap (λ z. z >>= next) h
 
--- two steps in turn, of which the second has the last two of three lists of faults
+-- if step `r` is refused by the first of `fs`, and step `next` by the first of `gs ++ hs`, both are refused by the
+-- first of the three lists, grouped as `(fs ++ gs) ++ hs`
 seq_within : {T U : Type 0} (fs gs hs : List ReadFault) (r : Reading T) (next : Reading U) → IsFirst fs r →
     IsFirst (gs ++ hs) next →
     IsFirst ((fs ++ gs) ++ hs) (r >> next)
 seq_within [] gs hs r next h more = subst (λ z. IsFirst (gs ++ hs) (z >> next)) (sym h.1) more
 seq_within (f ∷ fs) gs hs r next h more = ap (λ z. z >> next) h
 
--- a test that refuses with one fault if it fails, and what follows it if it passes
+-- a test `b` that refuses with one fault if it fails, and what follows it if it passes, are refused by the first of
+-- that fault and `fs`
 or_next : {T : Type 0} (b : Bool) (fault : ReadFault) (fs : List ReadFault) (next : Reading T) → IsFirst fs next →
     IsFirst (unless b fault ++ fs) (if b then next else Err fault)
 or_next true fault fs next h = h
 or_next false fault fs next h = refl
 
--- a test before a step is refused first
+-- a test `b` that refuses with one fault if it passes, before a step, is refused by the first of that fault and `fs`
 if_next : {T : Type 0} (b : Bool) (fault : ReadFault) (fs : List ReadFault) (next : Reading T) → IsFirst fs next →
     IsFirst (unless (not b) fault ++ fs) (if b then Err fault else next)
 if_next true fault fs next h = refl
 if_next false fault fs next h = h
 
--- if a step is refused by the first of its faults, so are the steps over a list
+-- if the step for each element `x` at its number is refused by the first of its faults, the steps over `xs`, numbered
+-- from `i`, are refused by the first of all faults
 each_first : {T U : Type 0} (faults : ℕ → T → List ReadFault) (step : ℕ → T → Reading U) →
     ((i : ℕ) (x : T) → IsFirst (faults i x) (step i x)) →
     (i : ℕ) (xs : List T) →
@@ -149,8 +156,8 @@ module _ {T : Type 0} (row : DocumentRow) (key : Key) (as_type : Data → Option
   default_first value = bind_last (of_field row key false as_type (value_at row key)) (optional as_type row key)
       (λ found. unwrap_or found value) optional_first
 
-  -- The value at a key, or its default, if what stands there is good.
-  -- By whether something stands at the key.
+  -- The value `x` that is read at a key is what stands there (`o`), if it is good, or its default. By whether something
+  -- stands at the key.
   default_by : (value : T) (o : Option Data) (x : T) →
       (optional_in row key as_type o >>= (λ found. pure (unwrap_or found value))) ≡ Ok x →
       x ≡ unwrap_or (option_and_then as_type o) value
@@ -169,6 +176,7 @@ module _ {T : Type 0} (row : DocumentRow) (key : Key) (as_type : Data → Option
   unfolding optional
   default_is value x e = default_by value (value_at row key) x e
 
+-- given a row of a document
 module _ (row : DocumentRow) where
   -- a row is refused if it has a key that isn't listed
   only_first : (keys : List Key) →
@@ -203,6 +211,7 @@ module _ (row : DocumentRow) where
 
 -- ---- elements
 
+-- given a row of a document
 module _ (row : DocumentRow) where
   -- a node is refused by the first of its bad fields
   node_first : IsFirst (bad_in node_fields row) (read_node row)
@@ -296,7 +305,7 @@ at_most_first limit what xs = by (nat_le (length xs) limit)
     by true = (tt, refl)
     by false = refl
 
--- the first number out of range is refused
+-- the numbers `ns` of element `i` of a table are refused by the first that is out of its range
 range_first : (table : Table) (i : ℕ) (ns : List BoundedField) → IsFirst (out_of_range table i ns) (in_range table i ns)
 range_first table i [] = (tt, refl)
 range_first table i (n ∷ ns) =
@@ -304,7 +313,7 @@ range_first table i (n ∷ ns) =
     (out_of_range table i ns) (in_range table i ns)
     (range_first table i ns)
 
--- the numbers of all elements of a list are refused by the first that is out of its range
+-- the numbers of all elements `xs` of a list, numbered from `i`, are refused by the first that is out of its range
 ranges_first : {T : Type 0} (table : Table) (numbers_of : T → List BoundedField) (i : ℕ) (xs : List T) →
     IsFirst (of_each (λ i x. out_of_range table i (numbers_of x)) i xs) (all_in_range table numbers_of i xs)
 ranges_first table numbers_of i [] = (tt, refl)
@@ -348,7 +357,8 @@ module _ (table : Table) (key : Key) (own : (i : ℕ) → name_place table i key
   unfolding apart
   apart_first names = apart_from_first 0 [] names
 
--- names of the order, all at one place
+-- a name of the order is refused if `b` says so, and otherwise those after it are judged, which are good if `c` says
+-- so: all are one fault at one place
 if_one : {T : Type 0} (b c : Bool) (fault : ReadFault) (next : Reading T) → IsFirst (unless c fault) next →
     IsFirst (unless (not b && c) fault) (if b then Err fault else next)
 if_one true c fault next h = refl
@@ -369,7 +379,7 @@ unfolding order_apart apart
 order_apart_first None = (tt, refl)
 order_apart_first (Some names) = order_apart_from 0 [] names
 
--- a name that isn't known is refused
+-- a name that isn't known, as `o` is `None`, is refused
 known_first : (at : Place) (o : Option ℕ) → IsFirst (unless (is_some o) (UnknownName at)) (known at o)
 known_first at None = refl
 known_first at (Some number) = (number, refl)
@@ -380,25 +390,26 @@ number_first : (names : List (List ℕ)) (name : List ℕ) (table : Table) (i : 
 unfolding number_of
 number_first names name table i key = known_first (place table i key) (position (bytes_eq name) names)
 
--- a slot is refused if its node isn't known
+-- slot `s`, the one of number `i`, is refused if its node isn't known
 slot_number_first : (nodes : List (List ℕ)) (i : ℕ) (s : RawSlot) →
     IsFirst (unknown nodes s.node tables.Slot i Node) (slot_of nodes i s)
 unfolding slot_of
 slot_number_first nodes i s = bind_last _ _ _ (number_first nodes s.node tables.Slot i Node)
 
--- a process is refused if its node isn't known
+-- process `p`, the one of number `i`, is refused if its node isn't known
 process_number_first : (nodes : List (List ℕ)) (i : ℕ) (p : RawProcess) →
     IsFirst (unknown nodes p.node tables.Process i Node) (process_of nodes i p)
 unfolding process_of
 process_number_first nodes i p = bind_last _ _ _ (number_first nodes p.node tables.Process i Node)
 
--- an edge is refused for the first of its two ends that isn't known
+-- edge `e`, the one of number `i`, is refused for the first of its two ends that isn't known
 ends_first : (names : List (List ℕ)) (i : ℕ) (e : RawEdge) → IsFirst (unknown_ends names i e) (edge_of names i e)
 unfolding edge_of
 ends_first names i e = bind _ _ _ _ (number_first names e.from tables.Edge i From)
     (λ from e1. bind_last _ _ _ (number_first names e.to tables.Edge i To))
 
--- a name that isn't known is refused before what comes after it
+-- if `o`, which a name was looked up as, is `None`, the reading is refused for the name at place `at`, before what
+-- comes after it (`next`)
 known_next : {T : Type 0} (at : Place) (o : Option ℕ) (c : Bool) (next : ℕ → Reading T) →
     ((n : ℕ) → IsFirst (unless c (UnknownName at)) (next n)) →
     IsFirst (unless (is_some o && c) (UnknownName at)) (known at o >>= next)

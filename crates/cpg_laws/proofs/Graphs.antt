@@ -82,6 +82,7 @@ first g OutOfMemory h = tt
 
 -- What a later cause says of the earlier ones.
 
+-- given a graph
 module _ (g : Graph) where
   -- a graph that is refused for a later cause than a cycle has none
   no_cycle_then : (fault : RuleFault) → 0 < rank_of_fault fault → rank_of_fault fault < 6 →
@@ -179,8 +180,8 @@ module _ (g : Graph) where
 
 -- Two first causes of one kind are the same.
 
--- The first number of a kind is one.
--- Of two different ones the lesser would be one before the other.
+-- There is one first number that passes test `holds`, so `m` and `n` are equal. Of two different ones the lesser would
+-- be one before the other.
 one_first : (holds : ℕ → Bool) (m n : ℕ) → holds m ≡ true → ((k : ℕ) → k < m → holds k ≡ false) → holds n ≡ true →
     ((k : ℕ) → k < n → holds k ≡ false) → m ≡ n
 one_first holds m n h before k earlier = elim (cases_lt m n) [
@@ -191,13 +192,14 @@ one_first holds m n h before k earlier = elim (cases_lt m n) [
   ]
 ]
 
+-- given a graph
 module _ (g : Graph) where
-  -- a join with two live inputs isn't single
+  -- a join `p` with two live inputs, in scenario `s`, isn't single
   not_single : (order : List ℕ) (p : ℕ) (s : Scenario) → AreAlternatives g order p s → IsSingleJoin g p → ⊥
   not_single order p s two single = true≢false (sym two.least.holds ∙ single s.values two.join two.least.lawful.values)
 
-  -- The first join with two live inputs is one.
-  -- Of two different ones the lesser would be one before the other.
+  -- There is one first join with two live inputs, along whatever orders `o` and `r`, so `p` and `q` are equal. Of two
+  -- different ones the lesser would be one before the other.
   one_join : (o r : List ℕ) (p q : ℕ) (s t : Scenario) → AreAlternatives g o p s → AreAlternatives g r q t → p ≡ q
   one_join o r p q s t a b = elim (cases_lt p q) [
     | inl l ↦ absurd (not_single o p s a (b.before p l))
@@ -207,7 +209,7 @@ module _ (g : Graph) where
     ]
   ]
 
-  -- two causes of two live inputs name one join and one scenario: each is the first one
+  -- two causes of two live inputs name one join (`p` and `q`) and one scenario (`s` and `t`): each is the first one
   same_two : (p q : ℕ) (s t : Scenario) → HasTwoInputs g p s → HasTwoInputs g q t →
       TwoAlternatives p s ≡ TwoAlternatives q t
   same_two p q s t h k =

@@ -29,14 +29,14 @@ use Rattle.cpg_reader.specs.Ranges.{different}
 use Rattle.cpg_laws.specs.GraphFiles.{unless, Field, is_good_value, flag, elements, too_many, out_of_range}
 use Rattle.cpg_laws.specs.GraphFiles.{all_out_of_range, limit_faults}
 use Rattle.cpg_laws.specs.DocumentFaults.{table_at, found_at, fields_of, HasGoodFields, Range, ranges_of}
-use Rattle.cpg_laws.specs.DocumentFaults.{conditional_edges, source_of, IsOverLimit}
+use Rattle.cpg_laws.specs.DocumentFaults.{conditional_edges, source_name, IsOverLimit}
 use Rattle.cpg_laws.proofs.DocumentValues.{integer_in, value_in, node_in, slot_in, process_in, edge_in, graph_in}
 use Rattle.cpg_laws.proofs.FaultLists.{Each, each_joined, each_unless, each_of_each, unless_contains, stand_all}
 use Rattle.cpg_laws.proofs.FaultLists.{of_each_contains, of_each_mapped}
 
 -- ---- what stands at a place
 
--- in a document with good fields, what stands at each field of a table is good
+-- in a document with good fields, what stands at each field `f` of row `i` of table `t` is good
 pub good_value : (ms : Members) → HasGoodFields ms → (t : Table) (i : ℕ) (row : Members) → table_at ms t i ≡ Some row →
     (f : Field) →
     Contains (fields_of t) f →
@@ -44,12 +44,12 @@ pub good_value : (ms : Members) → HasGoodFields ms → (t : Table) (i : ℕ) (
 good_value ms good t i row at f c = true_from_ne_false (is_good_value f (get_member (text_of f.key) row))
     (λ e. good (record { table = t; index = i; key = f.key }) (row, at, inl (f, c, refl, e)))
 
--- what is found at a key of a table of the document is what the table has there
+-- what is found at a key of row `i` of table `t` of the document is what the row has there
 pub found_in : (ms : Members) (t : Table) (i : ℕ) (row : Members) (key : Key) → table_at ms t i ≡ Some row →
     found_at ms t i key ≡ get_member (text_of key) row
 found_in ms t i row key at = ap (λ o. option_and_then (get_member (text_of key)) o) at
 
--- if something is found at a key of a table, the table is there and has it
+-- if `d` is found at a key of a table `o`, the table is there and has it
 pub found_parts : (o : Option Members) (text : List ℕ) (d : Data) → option_and_then (get_member text) o ≡ Some d →
     (row : Members) × (o ≡ Some row) × (get_member text row ≡ Some d)
 found_parts None text d e = cc
@@ -71,8 +71,8 @@ IsOver ms fault = (what : What) × (fault ≡ OverLimit what) × IsOverLimit ms 
 low_is_within : (low high : ℕ) → nat_le low high ≡ true → is_within low high (pos low) ≡ true
 low_is_within low high h = and_from (nat_le low low) (nat_le low high) (le-leb low low (omega arith)) h
 
--- A number out of range stands in the document, since the default is in range.
--- By what stands at the key: anything but an integer counts as the default.
+-- A number out of range stands in the document, since the default is in range. By what stands at the key, `o`: anything
+-- but an integer counts as the default.
 outside : (low high : ℕ) (o : Option Data) → nat_le low high ≡ true →
     is_within low high (unwrap_or (option_and_then as_integer o) (pos low)) ≡ false →
     (z : ℤ) × (o ≡ Some (integer z)) ×
@@ -102,8 +102,9 @@ ranges_are tables.Edge = refl
 abbrev number_fault : Table → ℕ → Key → ReadFault
 number_fault t i key = OverLimit (Number (record { table = t; index = i; key = key }))
 
+-- given row `i` of table `t` in the document
 module _ (ms : Members) (t : Table) (i : ℕ) (row : Members) (at : table_at ms t i ≡ Some row) where
-  -- each number out of range that is found by some ranges stands in the document
+  -- each number of row `i` out of one of the ranges `rs`, which are those of the table, stands in the document
   numbers_over : (rs : List Range) → ((r : Range) → Contains rs r → Contains (ranges_of t) r) →
       list_all is_range rs ≡ true →
       Each (IsOver ms) (out_of_range t i (numbers_in row rs))
@@ -125,7 +126,8 @@ module _ (ms : Members) (t : Table) (i : ℕ) (row : Members) (at : table_at ms 
   row_over : Each (IsOver ms) (out_of_range t i (numbers_in row (ranges_of t)))
   row_over = numbers_over (ranges_of t) (λ r c. c) (ranges_are t)
 
--- each number out of range that is found in the elements of a table stands in the document
+-- if the rows of table `t` are what the document has at their places, each number of theirs that is out of its range
+-- stands in the document
 rows_over : {T : Type 0} (ms : Members) (t : Table) (said : Members → T) (numbers : T → List BoundedField)
     (rows : List Members) →
     ((row : Members) → numbers (said row) ≡ numbers_in row (ranges_of t)) →
@@ -138,7 +140,8 @@ rows_over ms t said numbers rows same are =
     0 rows
     (stand_all (λ i row. slice_get rows i ≡ Some row) rows (λ k row e. e)))
 
--- a number out of its range is among the faults of its row; by induction on the ranges
+-- if integer `z` stands in a row at the key of range `r`, one of the ranges `rs`, and is out of it, it is among the
+-- faults of the row; by induction on the ranges
 number_there : (t : Table) (i : ℕ) (row : Members) (z : ℤ) (rs : List Range) (r : Range) → Contains rs r →
     get_member (text_of r.key) row ≡ Some (integer z) →
     is_within r.low r.high z ≡ false →
@@ -184,7 +187,7 @@ is_flag_there key (Some d) e = e
 -- By induction on the edges: both keep the first or both leave it out.
 edges_are_conditional : (es : List Members) →
     ((e : Members) → Contains es e → is_some (value_in as_bool e When) ≡ is_some (get_member (text_of When) e)) →
-    sources (map edge_in es) ≡ map source_of (filter (λ e. is_some (get_member (text_of When) e)) es)
+    sources (map edge_in es) ≡ map source_name (filter (λ e. is_some (get_member (text_of When) e)) es)
 edges_are_conditional [] h = refl
 edges_are_conditional (e ∷ es) h =
     by (is_some (value_in as_bool e When)) (is_some (get_member (text_of When) e)) (h e (Contains-first e es))
@@ -192,19 +195,19 @@ edges_are_conditional (e ∷ es) h =
   where
     -- by whether the edge has a `when`, in the graph and in the document
     by : (b c : Bool) → b ≡ c →
-        sources (map edge_in es) ≡ map source_of (filter (λ e. is_some (get_member (text_of When) e)) es) →
+        sources (map edge_in es) ≡ map source_name (filter (λ e. is_some (get_member (text_of When) e)) es) →
         map (λ (x : RawEdge). x.from) (cond b (edge_in e ∷ filter (λ x. is_some x.when) (map edge_in es))
-        (filter (λ x. is_some x.when) (map edge_in es))) ≡ map source_of
+        (filter (λ x. is_some x.when) (map edge_in es))) ≡ map source_name
         (cond c (e ∷ filter (λ e. is_some (get_member (text_of When) e)) es)
         (filter (λ e. is_some (get_member (text_of When) e)) es))
-    by true true same rest = ap (λ names. source_of e ∷ names) rest
+    by true true same rest = ap (λ names. source_name e ∷ names) rest
     by false false same rest = rest
     by true false same rest = absurd (true≢false same)
     by false true same rest = absurd (true≢false (sym same))
 
 -- the sources of the conditional edges of a document with good fields are those of its tables with the key `when`
 sources_are : (ms : Members) → HasGoodFields ms →
-    sources (map edge_in (elements ms Edge)) ≡ map source_of (conditional_edges ms)
+    sources (map edge_in (elements ms Edge)) ≡ map source_name (conditional_edges ms)
 sources_are ms good = edges_are_conditional (elements ms Edge) (λ e c.
     let (i, at) = slice_get-Contains (elements ms Edge) e c in
     is_flag_there When (get_member (text_of When) e)
@@ -212,10 +215,12 @@ sources_are ms good = edges_are_conditional (elements ms Edge) (λ e c.
 
 -- ---- the document
 
+-- given a document all of whose fields are good
 module _ (ms : Members) (good : HasGoodFields ms) where
   -- each fault in the list of limit faults is something in the document beyond its limit
   pub limits_over : Each (IsOver ms) (limit_faults (graph_in ms))
   limits_over =
+      -- the counts of nodes, slots, processes and edges
       each_joined (IsOver ms) _ _ (each_unless (IsOver ms) _ (OverLimit Nodes)
       (λ e. (Nodes, refl, more_than node_in MOST_NODES (elements ms Node) e)))
       (each_joined (IsOver ms) _ _ (each_unless (IsOver ms) _ (OverLimit Slots)
@@ -224,6 +229,7 @@ module _ (ms : Members) (good : HasGoodFields ms) where
       (λ e. (Processes, refl, more_than process_in MOST_PROCESSES (elements ms Process) e)))
       (each_joined (IsOver ms) _ _ (each_unless (IsOver ms) _ (OverLimit Edges)
       (λ e. (Edges, refl, more_than edge_in MOST_EDGES (elements ms Edge) e)))
+      -- the numbers of the top, of slots, of processes and of edges
       (each_joined (IsOver ms) _ _ (row_over ms tables.Top 0 ms refl)
       (each_joined (IsOver ms) _ _
       (rows_over ms tables.Slot slot_in slot_numbers (elements ms Slot) (λ row. refl) (λ i. refl))
@@ -231,6 +237,7 @@ module _ (ms : Members) (good : HasGoodFields ms) where
       (rows_over ms tables.Process process_in process_numbers (elements ms Process) (λ row. refl) (λ i. refl))
       (each_joined (IsOver ms) _ _
       (rows_over ms tables.Edge edge_in edge_numbers (elements ms Edge) (λ row. refl) (λ i. refl))
+      -- and last the count of conditions
       (each_unless (IsOver ms) _ (OverLimit Conditions)
       (λ e. (
         Conditions,
@@ -275,6 +282,7 @@ module _ (ms : Members) (good : HasGoodFields ms) where
   abbrev last_part : List ReadFault
   last_part = too_many MOST_CONDITIONS Conditions (different [] (sources (map edge_in (elements ms Edge))))
 
+  -- given a fault
   module _ (fault : ReadFault) where
     -- a fault behind those of the counts is a limit fault
     past_counts : Contains (top_part ++ (slot_part ++ (process_part ++ (edge_part ++ last_part)))) fault →
@@ -298,8 +306,8 @@ module _ (ms : Members) (good : HasGoodFields ms) where
     past_processes : Contains (edge_part ++ last_part) fault → Contains (limit_faults (graph_in ms)) fault
     past_processes c = past_slots (Contains-append_right process_part (edge_part ++ last_part) fault c)
 
-    -- What stands in the numbers of a table stands in the limits of the document.
-    -- By the table, each with its part of the list.
+    -- What stands among the faults of the numbers of row `i` of table `t` stands among the limits of the document. By
+    -- the table, each with its part of the list.
     numbers_are_there : (t : Table) (i : ℕ) (row : Members) → table_at ms t i ≡ Some row →
         Contains (out_of_range t i (numbers_in row (ranges_of t))) fault →
         Contains (limit_faults (graph_in ms)) fault
@@ -327,6 +335,7 @@ module _ (ms : Members) (good : HasGoodFields ms) where
   -- Each thing in the document beyond its limit is in the list of limit faults.
   -- By what it is, each with its part of the list.
   pub limit_there : (what : What) → IsOverLimit ms what → Contains (limit_faults (graph_in ms)) (OverLimit what)
+  -- the counts of lists come first
   limit_there Nodes l =
       Contains-append_left node_count _ (OverLimit Nodes) (too_many_there node_in MOST_NODES Nodes (elements ms Node) l)
   limit_there Slots l = Contains-append_right node_count _ (OverLimit Slots) (Contains-append_left slot_count _
@@ -339,6 +348,7 @@ module _ (ms : Members) (good : HasGoodFields ms) where
       (Contains-append_right slot_count _ (OverLimit Edges)
       (Contains-append_right process_count _ (OverLimit Edges) (Contains-append_left edge_count _ (OverLimit Edges)
       (too_many_there edge_in MOST_EDGES Edges (elements ms Edge) l))))
+  -- a number stands among those of its row
   limit_there (Number place) (r, c, same, z, found, out) =
       let (row, at, value) = found_parts (table_at ms place.table place.index) (text_of place.key) (integer z) found in
       numbers_are_there (OverLimit (Number place)) place.table place.index row at
@@ -346,6 +356,7 @@ module _ (ms : Members) (good : HasGoodFields ms) where
       (number_fault place.table place.index key)) same
       (number_there place.table place.index row z (ranges_of place.table) r c
       (ap (λ key. get_member (text_of key) row) same ∙ value) out))
+  -- the count of conditions comes last
   limit_there Conditions l =
       past_processes (OverLimit Conditions) (Contains-append_right edge_part last_part (OverLimit Conditions)
       (unless_contains (nat_le (length (different [] (sources (map edge_in (elements ms Edge))))) MOST_CONDITIONS)

@@ -35,7 +35,7 @@ use Rattle.cpg_laws.proofs.LimitFaults.{good_value, found_in, found_parts}
 
 -- ---- names that are good
 
--- a name that is read is the text itself
+-- if a name is read of text `s` at all, as `b` says, it is the text itself
 name_by : (s : List ℕ) (b : Bool) → is_some (cond b (Some s) None) ≡ true → unwrap_or (cond b (Some s) None) [] ≡ s
 name_by s true e = refl
 name_by s false e = absurd (true≢false (sym e))
@@ -53,7 +53,7 @@ said (Some (datetime t)) e = absurd (true≢false (sym e))
 said (Some (array ds)) e = absurd (true≢false (sym e))
 said (Some (table m)) e = absurd (true≢false (sym e))
 
--- a value that a function made comes from one that was there
+-- if `f` made value `y` of what is in option `o`, there is an `x` in it, and `y` is `f x`
 mapped_parts : {S T : Type 0} (f : S → T) (o : Option S) (y : T) → option_map f o ≡ Some y →
     (x : S) × (o ≡ Some x) × (f x ≡ y)
 mapped_parts f None y e = cc
@@ -63,24 +63,25 @@ mapped_parts f (Some x) y e = (x, refl, cc)
 nothing : {T : Type 0} (x : T) → None ≡ Some x → ⊥
 nothing x e = cc
 
--- mapping twice is mapping once by both
+-- to map `xs` by `f` and then by `g` is to map them once by both
 mapped_twice : {S T U : Type 0} (f : S → T) (g : T → U) (xs : List S) → map g (map f xs) ≡ map (λ x. g (f x)) xs
 mapped_twice f g [] = refl
 mapped_twice f g (x ∷ xs) = ap (λ ys. g (f x) ∷ ys) (mapped_twice f g xs)
 
--- texts that the test finds equal are equal
+-- texts `a` and `b` that the test finds equal are equal
 same_bytes : (a b : List ℕ) → bytes_eq a b ≡ true → a ≡ b
 same_bytes a b e = (bytes_eq-Decides a b).0 e
 
+-- given a document all of whose fields are good
 module _ (ms : Members) (good : HasGoodFields ms) where
-  -- a name of a table: the name that is read is the one that the document has
+  -- a name of row `i` of table `t`: the name that is read is the one that the document has
   name_stands : (t : Table) (i : ℕ) (row : Members) (key : Key) → table_at ms t i ≡ Some row →
       Contains (fields_of t) (needed_name key) →
       found_at ms t i key ≡ Some (string (name_in row key))
   name_stands t i row key at field = found_in ms t i row key at
       ∙ said (get_member (text_of key) row) (good_value ms good t i row at (needed_name key) field)
 
-  -- a name that stands in a row of a table is the one read there
+  -- a name that stands in row `i` of table `t` is the one read there
   name_is : (t : Table) (i : ℕ) (key : Key) (name : List ℕ) → Contains (fields_of t) (needed_name key) →
       found_at ms t i key ≡ Some (string name) →
       (row : Members) × (table_at ms t i ≡ Some row) ×
@@ -137,6 +138,7 @@ module _ (ms : Members) (good : HasGoodFields ms) where
 abbrev pub IsTwice : Members → ReadFault → Type 0
 IsTwice ms fault = (at : Place) × (fault ≡ DoubleName at) × IsDouble ms at
 
+-- given a name, a list of names, and one more name behind them
 module _ (name : List ℕ) (before : List (List ℕ)) (last : List ℕ) where
   -- a name among a longer list is among those before, or the last
   among_more : list_any (bytes_eq name) (before ++ last ∷ []) ≡ true →
@@ -158,10 +160,11 @@ module _ (name : List ℕ) (before : List (List ℕ)) (last : List ℕ) where
       ∙ or_right (list_any (bytes_eq name) before) (bytes_eq name last || false)
       (or_left (bytes_eq name last) false ((bytes_eq-Decides name last).1 (sym same)))
 
--- one step on, counted at the front or at the back
+-- place `k` from `i + 1` on is place `k + 1` from `i` on
 onward : (i k : ℕ) → (i + 1) + k ≡ i + suc k
 onward i k = omega arith
 
+-- given a table, and the key of its elements' own names
 module _ (ms : Members) (t : Table) (key : Key) (own : is_own_name t key ≡ true) where
   -- a name stands at an earlier place of the document
   abbrev StandsBefore : ℕ → List ℕ → Type 0
@@ -187,9 +190,10 @@ module _ (ms : Members) (t : Table) (key : Key) (own : is_own_name t key ≡ tru
       more other (inl h) = let (j, l, found) = seen other h in (j, omega (arith, l), found)
       more other (inr same) = (i, omega arith, stand.0 ∙ ap (λ n. Some (string n)) (sym same))
 
+-- given a table and a key
 module _ (t : Table) (key : Key) where
-  -- the k-th name is listed as double if it stands among the names before the list, or at an earlier place of the
-  -- list; by induction on the names and on k
+  -- name `k` of the list is listed as double if it stands among the names before the list, or at an earlier place `j`
+  -- of the list; by induction on the names and on `k`
   double_from : (i k : ℕ) (before names : List (List ℕ)) (name : List ℕ) → slice_get names k ≡ Some name →
       (list_any (bytes_eq name) before ≡ true) ⊎
       ((j : ℕ) × (j < k) × (slice_get names j ≡ Some name)) →
@@ -218,7 +222,7 @@ module _ (t : Table) (key : Key) where
       more (inr (zero, l, is)) = inl (now_among name before n (let same : n ≡ name = cc in same))
       more (inr (suc j, l, is)) = inr (j, omega (arith, l), is)
 
-  -- a name that stands at two places is a double at the second
+  -- if `name` stands at the places `j` and `i` of `names`, and `j` is before `i`, it is a double at `i`
   double_at : (i j : ℕ) (names : List (List ℕ)) (name : List ℕ) → slice_get names i ≡ Some name → j < i →
       slice_get names j ≡ Some name →
       Contains (doubles_from t key 0 [] names) (DoubleName (place t i key))
@@ -228,18 +232,18 @@ module _ (t : Table) (key : Key) where
 
 -- ---- names of a list
 
--- the element behind a list stands at the list's length
+-- element `y` behind list `xs` stands at the list's length
 append_here : (xs ys : List (List ℕ)) (y : List ℕ) → slice_get (xs ++ y ∷ ys) (length xs) ≡ Some y
 append_here [] ys y = refl
 append_here (x ∷ xs) ys y = append_here xs ys y
 
--- an element of a list stays at its place if others are appended
+-- element `x` at place `k` of `xs` stays there if `ys` are appended
 append_there : (xs ys : List (List ℕ)) (k : ℕ) (x : List ℕ) → slice_get xs k ≡ Some x → slice_get (xs ++ ys) k ≡ Some x
 append_there [] ys k x e = cc
 append_there (z ∷ xs) ys zero x e = e
 append_there (z ∷ xs) ys (suc k) x e = append_there xs ys k x e
 
--- a place with an element is below the length
+-- if element `x` is at place `k` of `xs`, that is below the length
 below_length : (xs : List (List ℕ)) (k : ℕ) (x : List ℕ) → slice_get xs k ≡ Some x → k < length xs
 below_length [] k x e = cc
 below_length (z ∷ xs) zero x e = omega arith
@@ -294,8 +298,7 @@ two_differ_not names (name, i, here, j, l, there) = false_from_ne_true (differ_f
     (subst (λ faults. Contains faults (DoubleName (place tables.Node i Name)))
     (none_double tables.Node Name 0 [] names e) (double_at tables.Node Name i j names name here l there)))
 
--- If a test doesn't pass for all, it fails for one.
--- By induction on the list.
+-- If `test` doesn't pass for all of `xs`, it fails for some `x` of them. By induction on `xs`.
 some_fails : (test : List ℕ → Bool) (xs : List (List ℕ)) → list_all test xs ≡ false →
     (x : List ℕ) × Contains xs x × (test x ≡ false)
 some_fails test [] e = absurd (true≢false e)
@@ -307,12 +310,12 @@ some_fails test (x ∷ xs) e = by (test x) refl (some_fails test xs) e
     by true is later h = let (y, c, fails) = later h in (y, Contains-rest x xs y c, fails)
     by false is later h = (x, Contains-first x xs, is)
 
--- a conjunction with a false part is false
+-- `b && c` is false if `c` is
 and_fails : (b c : Bool) → c ≡ false → (b && c) ≡ false
 and_fails true c e = e
 and_fails false c e = refl
 
--- if a test fails for one, it doesn't pass for all
+-- if `test` fails for `x`, which is in `xs`, it doesn't pass for all of `xs`
 one_fails : (test : List ℕ → Bool) (xs : List (List ℕ)) (x : List ℕ) → Contains xs x → test x ≡ false →
     list_all test xs ≡ false
 one_fails test [] x c fails = absurd (Contains-nil x c)
@@ -321,6 +324,7 @@ one_fails test (z ∷ xs) x c fails = elim (Contains-cases z xs x c) [
   | inr rest ↦ and_fails (test z) (list_all test xs) (one_fails test xs x rest fails)
 ]
 
+-- given a document all of whose fields are good
 module _ (ms : Members) (good : HasGoodFields ms) where
   -- the names of the nodes
   abbrev node_names : List (List ℕ)
@@ -367,7 +371,8 @@ module _ (ms : Members) (good : HasGoodFields ms) where
       (each_unless (IsTwice ms) (differ_from [] (order_names ms)) (DoubleName order_place)
       (λ e. (order_place, refl, inr (refl, stand_in_two (order_names ms) e))))))
 
-  -- a name that stands twice at a key is listed as double
+  -- if a name stands at a key of rows `i` and `j` of table `t`, and `j` comes first, the name is listed as double at
+  -- `i`
   double_of : (t : Table) (key : Key) (rows : List Members) → ((i : ℕ) → table_at ms t i ≡ slice_get rows i) →
       Contains (fields_of t) (needed_name key) →
       (texts : List (List ℕ)) →
@@ -380,22 +385,25 @@ module _ (ms : Members) (good : HasGoodFields ms) where
       (found_name ms good t key rows are field i name here) l
       (found_name ms good t key rows are field j name there))
 
-  -- a name that an earlier row of its own table has too is in the list of double names; by cases on the tables, each
-  -- with its part of the list
+  -- if row `i` of table `t` has a name at a key, and an earlier row `j` has it too, it is in the list of double names;
+  -- by cases on the tables, each with its part of the list
   double_in : (t : Table) (key : Key) → is_own_name t key ≡ true → (i j : ℕ) (name : List ℕ) →
       found_at ms t i key ≡ Some (string name) → j < i →
       found_at ms t j key ≡ Some (string name) →
       Contains (double_faults (graph_in ms)) (DoubleName (place t i key))
+  -- names of nodes come first
   double_in tables.Node Name own i j name here l there =
       Contains-append_left (doubles_from tables.Node Name 0 [] node_names) _ (DoubleName (place tables.Node i Name))
       (double_of tables.Node Name (elements ms Node) (λ i. refl)
       (0, omega arith, refl) node_names refl i j name here l there)
+  -- the nodes of slots come next
   double_in tables.Slot Node own i j name here l there =
       Contains-append_right (doubles_from tables.Node Name 0 [] node_names) _ (DoubleName (place tables.Slot i Node))
       (Contains-append_left (doubles_from tables.Slot Node 0 [] (slot_names (map slot_in (elements ms Slot)))) _
       (DoubleName (place tables.Slot i Node))
       (double_of tables.Slot Node (elements ms Slot) (λ i. refl) (0, omega arith, refl)
       (slot_names (map slot_in (elements ms Slot))) slots_named i j name here l there))
+  -- then names of processes
   double_in tables.Process Name own i j name here l there =
       Contains-append_right (doubles_from tables.Node Name 0 [] node_names) _ (DoubleName (place tables.Process i Name))
       (Contains-append_right (doubles_from tables.Slot Node 0 [] (slot_names (map slot_in (elements ms Slot)))) _
@@ -405,6 +413,7 @@ module _ (ms : Members) (good : HasGoodFields ms) where
       (order_doubles (order_names ms)) (DoubleName (place tables.Process i Name))
       (double_of tables.Process Name (elements ms Process) (λ i. refl) (0, omega arith, refl)
       (process_names (map process_in (elements ms Process))) processes_named i j name here l there)))
+  -- at no other key have names to differ
   double_in t key own i j name here l there = absurd (true≢false (sym own))
 
   -- Each name that stands twice in the document is in the list of double names.
@@ -427,6 +436,7 @@ module _ (ms : Members) (good : HasGoodFields ms) where
 abbrev pub IsNameless : Members → ReadFault → Type 0
 IsNameless ms fault = (at : Place) × (fault ≡ UnknownName at) × IsUnknown ms at
 
+-- given a document all of whose fields are good
 module _ (ms : Members) (good : HasGoodFields ms) where
   -- the names of the processes
   abbrev process_texts : List (List ℕ)
@@ -455,7 +465,7 @@ module _ (ms : Members) (good : HasGoodFields ms) where
   process_missing name none = ap (λ names. is_some (position (bytes_eq name) names)) (processes_named ms good) ∙
       name_missing ms good tables.Process Name (elements ms Process) (λ i. refl) (0, omega arith, refl) name none
 
-  -- if the name at a key of a table is unknown, it names nothing in the table in which it has to be found
+  -- if the name at a key of row `i` of table `t` isn't among `names`, those of table `others`, it names nothing there
   nameless : (t : Table) (key : Key) (others : Table) (names : List (List ℕ)) (i : ℕ) (row : Members) →
       table_at ms t i ≡ Some row →
       Contains (fields_of t) (needed_name key) →
@@ -478,6 +488,7 @@ module _ (ms : Members) (good : HasGoodFields ms) where
   -- List by list: slots, processes, edges, and then the order.
   pub unknowns_stand : Each (IsNameless ms) (unknown_faults (graph_in ms))
   unknowns_stand =
+      -- slots: their nodes
       each_joined (IsNameless ms) _ _ (subst (Each (IsNameless ms)) (sym
       (of_each_mapped (λ i s. unknown (node_names ms good) s.node tables.Slot i Node) slot_in 0 (elements ms Slot)))
       (each_of_each (IsNameless ms) (stands_in Slot)
@@ -485,6 +496,7 @@ module _ (ms : Members) (good : HasGoodFields ms) where
       (λ i row at. nameless tables.Slot Node tables.Node (node_names ms good) i row at
       (0, omega arith, refl) refl no_node) 0 (elements ms Slot)
       (stand_all (stands_in Slot) (elements ms Slot) (λ k row e. e))))
+      -- processes: their nodes
       (each_joined (IsNameless ms) _ _ (subst (Each (IsNameless ms)) (sym (of_each_mapped
       (λ i p. unknown (node_names ms good) p.node tables.Process i Node) process_in 0 (elements ms Process)))
       (each_of_each (IsNameless ms) (stands_in Process)
@@ -492,6 +504,7 @@ module _ (ms : Members) (good : HasGoodFields ms) where
       (λ i row at. nameless tables.Process Node tables.Node (node_names ms good) i row at
       (1, omega arith, refl) refl no_node) 0 (elements ms Process)
       (stand_all (stands_in Process) (elements ms Process) (λ k row e. e))))
+      -- edges: their two ends
       (each_joined (IsNameless ms) _ _
       (subst (Each (IsNameless ms)) (sym (of_each_mapped (unknown_ends process_texts) edge_in 0 (elements ms Edge)))
       (each_of_each (IsNameless ms) (stands_in Edge) (λ i row. unknown_ends process_texts i (edge_in row))
@@ -500,6 +513,7 @@ module _ (ms : Members) (good : HasGoodFields ms) where
       (nameless tables.Edge From tables.Process process_texts i row at (0, omega arith, refl) refl no_process)
       (nameless tables.Edge To tables.Process process_texts i row at (1, omega arith, refl) refl no_process))
       0 (elements ms Edge) (stand_all (stands_in Edge) (elements ms Edge) (λ k row e. e))))
+      -- the order: some name of it is no process's
       (each_unless (IsNameless ms) (list_all (is_known process_texts) (order_names ms)) (UnknownName order_place)
       (λ e. let (name, c, not_known) = some_fails (is_known process_texts) (order_names ms) e in
       (order_place, refl, inr (refl, (name, c, no_process name not_known)))))))
@@ -529,8 +543,8 @@ module _ (ms : Members) (good : HasGoodFields ms) where
   name_told names name other t i key same e = unless_contains (is_some (position (bytes_eq other) names))
       (UnknownName (place t i key)) (ap (λ n. is_some (position (bytes_eq n) names)) same ∙ e)
 
-  -- a name at a key that no name of the other table is equal to is an unknown name; by cases on the four keys that
-  -- refer to other tables, each with its part of the list
+  -- a name at a key of row `i` of table `t` that no row of table `others` has, in which it has to be found, is listed
+  -- as unknown; by cases on the four keys that refer to other tables, each with its part of the list
   unknown_in : (t : Table) (key : Key) (others : Table) → named_in t key ≡ Some others → (i : ℕ) (name : List ℕ) →
       found_at ms t i key ≡ Some (string name) →
       ((j : ℕ) → found_at ms others j Name ≢ Some (string name)) →

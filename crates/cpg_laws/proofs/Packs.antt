@@ -1,4 +1,4 @@
--- Reading answers of any bytes; the longest front that some pack begins with is one.
+-- Any bytes are a pack, or are refused at some place; and this place is the only one.
 use Rattle.std.proofs.Common.{ℕ, ◌≡◌, ◌≤◌, List, Result, Ok, Err, refl, arith, inl, inr}
 use Rattle.std.specs.Prelude.{◌⊎◌}
 use Rattle.cpg_table.specs.Lawful.{Tables}
@@ -8,13 +8,13 @@ use Rattle.cpg_codec.specs.Spelling.{spelling}
 use Rattle.cpg_codec.proofs.Theorems.{read_is_spelled, refused_is_bad}
 use Rattle.cpg_laws.specs.Packs.{PacksAreRefusedAtOnePlace}
 
--- whatever reading answers, bytes are the spelling of lawful tables, or are bad from one place on
+-- if reading `bytes` gives `answer`, they are the spelling of lawful tables `t`, or they are bad from a place `n` on
 answered : (bytes : List ℕ) (answer : Result Tables ℕ) → read bytes ≡ answer →
     ((t : Tables) × AreLawful t × (bytes ≡ spelling t)) ⊎ ((n : ℕ) × IsBadPack bytes n)
 answered bytes (Ok t) e = let r = read_is_spelled bytes t e in inl (t, r.0, r.1)
 answered bytes (Err n) e = inr (n, refused_is_bad bytes n e)
 
--- of two places from which bytes are bad, the first is no later
+-- if `bytes` are bad from `n` on, and from `m` on, then `n` is at most `m`
 at_most : (bytes : List ℕ) (n m : ℕ) → IsBadPack bytes n → IsBadPack bytes m → n ≤ m
 at_most bytes n m bad other = other.longest n bad.place bad.goes_on
 

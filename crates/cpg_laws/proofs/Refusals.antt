@@ -29,14 +29,14 @@ use Rattle.cpg_laws.specs.GraphFiles.{process_fields, edge_fields, bad_fields, b
 use Rattle.cpg_laws.specs.GraphFiles.{field_faults, out_of_range, all_out_of_range, limit_faults, doubles_from}
 use Rattle.cpg_laws.specs.GraphFiles.{differ_from, order_place, double_faults, is_known, unknown, unknown_ends}
 use Rattle.cpg_laws.specs.GraphFiles.{unknown_faults, graph_faults, document_faults, faults_of, IsFirst}
-use Rattle.cpg_laws.specs.Refusals.{kind_of, table_number, name_table, position_of, place_of_fault, IsEarlier}
+use Rattle.cpg_laws.specs.Refusals.{kind_of, table_number, name_table, position_of, fault_numbers_of, IsEarlier}
 use Rattle.cpg_laws.specs.Refusals.{ComesBefore, IsFirstOf, RefusalsAreFirst}
 use Rattle.cpg_laws.proofs.GraphFiles.{graph_files_show_first_faults}
 
 -- ---- the order
 
--- What is earlier than an earlier rank is earlier.
--- By induction on the three lists: the first number that differs in either step decides.
+-- If rank `a` is earlier than `b`, and `b` than `c`, then `a` is earlier than `c`. By induction on the three lists: the
+-- first number that differs in either step decides.
 earlier_than_both : (a b c : List ℕ) → IsEarlier a b → IsEarlier b c → IsEarlier a c
 earlier_than_both a b [] h k = absurd k
 earlier_than_both a [] (z ∷ c) h k = absurd h
@@ -56,7 +56,7 @@ not_itself (x ∷ a) (inr h) = not_itself a h.1
 -- `2 ∷ what` a limit, with `4 ∷ table ∷ element ∷ key` for a number, and 3 and 4 are names, twice and unknown. A shorter list
 -- comes before those that go on after it, so it is a bound below them.
 abbrev rank_of : ReadFault → List ℕ
-rank_of fault = kind_of fault ∷ place_of_fault fault
+rank_of fault = kind_of fault ∷ fault_numbers_of fault
 
 -- ---- faults that rise between two bounds
 
@@ -98,7 +98,8 @@ one : (b : Bool) (fault : ReadFault) (low high : List ℕ) → IsEarlier low (ra
 one true fault low high l h = earlier_than_both low (rank_of fault) high l h
 one false fault low high l h = (l, h)
 
--- the faults of elements rise if those of each do and the next element's begin higher
+-- if the faults of each element `x` rise from bound `at i` to `at (i + 1)`, for its number `i`, those of `xs`, numbered
+-- from `i`, rise from `at i` to any bound `high` above all these
 each_rises : {T : Type 0} (at : ℕ → List ℕ) (high : List ℕ) (faults : ℕ → T → List ReadFault) →
     ((i : ℕ) (x : T) → Rise (at i) (faults i x) (at (i + 1))) →
     ((i : ℕ) → IsEarlier (at i) high) →
@@ -115,7 +116,7 @@ are_in_order table p [] = nat_le p (position_of table Unknown)
 are_in_order table p (key ∷ keys) =
     nat_le p (position_of table key) && are_in_order table (position_of table key + 1) keys
 
--- what is at least one more is greater
+-- if `p + 1` is at most `q`, then `p` is less than `q`
 after : (p q : ℕ) → p + 1 ≤ q → p < q
 after p q l = omega (arith, l)
 
@@ -146,8 +147,8 @@ row_rises : (row : DocumentRow) (fields : List Field) → are_in_order row.table
 row_rises row fields order = fields_rise row (map (λ f. f.key) fields)
     (1 ∷ table_number row.table ∷ row.index ∷ []) 0 fields (λ q l. inr (refl, inr (refl, inr (refl, tt)))) order
 
--- The faults of the numbers of a row rise, from a bound before its keys from position p on.
--- By induction on the numbers: each has a higher position than the one before it.
+-- The faults of the numbers of row `i` of a table rise, from a bound `low` before its keys from position `p` on, up to
+-- the next row. By induction on the numbers: each has a higher position than the one before it.
 numbers_rise : (table : Table) (i : ℕ) (low : List ℕ) (p : ℕ) (numbers : List BoundedField) →
     ((q : ℕ) → p ≤ q → IsEarlier low (2 ∷ 4 ∷ table_number table ∷ i ∷ q ∷ [])) →
     are_in_order table p (map (λ n. n.key) numbers) ≡ true →
@@ -207,7 +208,8 @@ field_faults_rise ms =
     (to_above (1 ∷ 4 ∷ []) (1 ∷ 5 ∷ []) (2 ∷ []) _ (elements_rise tables.Edge edge_fields (elements ms Edge) refl)
     (inl (omega arith))))))
 
--- the numbers out of range of a table rise, element by element
+-- the numbers out of range of the elements `xs` of `table` rise, element by element, if those of each element are in
+-- order of their keys
 number_rows_rise : {T : Type 0} (table : Table) (numbers : T → List BoundedField) (xs : List T) →
     ((x : T) → are_in_order table 0 (map (λ n. n.key) (numbers x)) ≡ true) →
     Rise (2 ∷ 4 ∷ table_number table ∷ []) (all_out_of_range table numbers xs) (2 ∷ 4 ∷ (table_number table + 1) ∷ [])
@@ -289,7 +291,7 @@ unknown_rises names name table key i = one (is_some (position (bytes_eq name) na
     (4 ∷ name_table table ∷ i ∷ []) (4 ∷ name_table table ∷ (i + 1) ∷ [])
     (inr (refl, inr (refl, inr (refl, tt)))) (inr (refl, inr (refl, inl (omega arith))))
 
--- the unknown ends of an edge rise: the source before the target
+-- the unknown ends of `e`, edge `i`, rise: the source before the target
 ends_rise : (names : List (List ℕ)) (i : ℕ) (e : RawEdge) →
     Rise (4 ∷ 4 ∷ i ∷ []) (unknown_ends names i e) (4 ∷ 4 ∷ (i + 1) ∷ [])
 ends_rise names i e = one_more (is_some (position (bytes_eq e.from) names)) (UnknownName (place tables.Edge i From))
@@ -348,6 +350,7 @@ document_faults_rise (Ok ms) = joined [] (2 ∷ []) (6 ∷ []) (field_faults ms)
 
 -- ---- what stands in a list that rises
 
+-- given the bound below which the faults rise
 module _ (high : List ℕ) where
   -- each of some rising faults is later than what is below the first
   all_later : (low : List ℕ) (faults : List ReadFault) → Rise low faults high → (fault : ReadFault) →

@@ -108,9 +108,9 @@ IsOutOfRange ms place = (r : Range) × Contains (ranges_of place.table) r × (r.
 abbrev pub conditional_edges : Members → List Members
 conditional_edges ms = filter (λ e. is_some (get_member (text_of When) e)) (elements ms Edge)
 
--- the name at an edge's `from`, and the empty name if there is none
-abbrev pub source_of : Members → List ℕ
-source_of e = unwrap_or (option_and_then as_name (get_member (text_of From) e)) []
+-- the name at an edge's `from`; an empty text if no name stands there
+abbrev pub source_name : Members → List ℕ
+source_name e = unwrap_or (option_and_then as_name (get_member (text_of From) e)) []
 
 -- There are too many of something in the document, or a number is out of its range. There are as many conditions as
 -- different sources of edges with a `when`.
@@ -120,7 +120,7 @@ IsOverLimit ms Slots = MOST_NODES < length (elements ms Slot)
 IsOverLimit ms Processes = MOST_PROCESSES < length (elements ms Process)
 IsOverLimit ms Edges = MOST_EDGES < length (elements ms Edge)
 IsOverLimit ms (Number place) = IsOutOfRange ms place
-IsOverLimit ms Conditions = MOST_CONDITIONS < length (different [] (map source_of (conditional_edges ms)))
+IsOverLimit ms Conditions = MOST_CONDITIONS < length (different [] (map source_name (conditional_edges ms)))
 
 -- ---- names
 

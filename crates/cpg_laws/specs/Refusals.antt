@@ -87,23 +87,24 @@ name_table table = table_number table
 abbrev pub name_numbers_of : Place → List ℕ
 name_numbers_of place = name_table place.table ∷ place.index ∷ position_of place.table place.key ∷ []
 
--- what limits are compared by: the counts come first, then numbers by their places, then the count of conditions
-abbrev pub limit_of : What → List ℕ
-limit_of Nodes = 0 ∷ []
-limit_of Slots = 1 ∷ []
-limit_of Processes = 2 ∷ []
-limit_of Edges = 3 ∷ []
-limit_of (Number place) = 4 ∷ numbers_of place
-limit_of Conditions = 5 ∷ []
+-- what broken limits are compared by: four counts come first, then numbers by their places, then the count of
+-- conditions
+abbrev pub limit_numbers_of : What → List ℕ
+limit_numbers_of Nodes = 0 ∷ []
+limit_numbers_of Slots = 1 ∷ []
+limit_numbers_of Processes = 2 ∷ []
+limit_numbers_of Edges = 3 ∷ []
+limit_numbers_of (Number place) = 4 ∷ numbers_of place
+limit_numbers_of Conditions = 5 ∷ []
 
--- what a fault is compared by with others of its kind
-abbrev pub place_of_fault : ReadFault → List ℕ
-place_of_fault NotToml = []
-place_of_fault (BadField place) = numbers_of place
-place_of_fault (OverLimit what) = limit_of what
-place_of_fault (DoubleName place) = name_numbers_of place
-place_of_fault (UnknownName place) = name_numbers_of place
-place_of_fault OutOfMemory = []
+-- what a fault is compared by with others of its kind; a kind that has one fault alone needs no numbers
+abbrev pub fault_numbers_of : ReadFault → List ℕ
+fault_numbers_of NotToml = []
+fault_numbers_of (BadField place) = numbers_of place
+fault_numbers_of (OverLimit what) = limit_numbers_of what
+fault_numbers_of (DoubleName place) = name_numbers_of place
+fault_numbers_of (UnknownName place) = name_numbers_of place
+fault_numbers_of OutOfMemory = []
 
 -- the first list comes before the second: at the first place at which they differ it has the lesser number, or has ended
 abbrev pub IsEarlier : List ℕ → List ℕ → Type 0
@@ -114,7 +115,7 @@ IsEarlier (n ∷ ns) (m ∷ ms) = (n < m) ⊎ ((n ≡ m) × IsEarlier ns ms)
 -- the first fault comes before the other: it is of an earlier kind, or of the same kind and at an earlier place
 abbrev pub ComesBefore : ReadFault → ReadFault → Type 0
 ComesBefore fault other = (kind_of fault < kind_of other) ⊎
-    ((kind_of fault ≡ kind_of other) × IsEarlier (place_of_fault fault) (place_of_fault other))
+    ((kind_of fault ≡ kind_of other) × IsEarlier (fault_numbers_of fault) (fault_numbers_of other))
 
 -- a fault is the first of those that stand: none of an earlier kind stands anywhere, and none of its kind at an
 -- earlier place
@@ -125,7 +126,7 @@ pub record IsFirstOf (Stands : ReadFault → Type 0) (fault : ReadFault) : Type 
   pub kinds : (other : ReadFault) → Stands other → kind_of fault ≤ kind_of other
   -- none of its kind stands at an earlier place
   pub places : (other : ReadFault) → Stands other → kind_of other ≡ kind_of fault →
-      IsEarlier (place_of_fault other) (place_of_fault fault) → ⊥
+      IsEarlier (fault_numbers_of other) (fault_numbers_of fault) → ⊥
 
 -- the fault is the first of those that a graph file with these bytes has
 abbrev pub IsFirstRefusal : List ℕ → ReadFault → Type 0

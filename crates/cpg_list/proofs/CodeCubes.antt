@@ -25,7 +25,7 @@ use Rattle.cpg_run.specs.Rows.{IsCubeOf}
 
 -- ---- the lows and highs of literals and one more
 
--- given two lists of literals and a variable
+-- given: two lists of literals and a variable
 module _ (xs ys : List Literal) (v : ℕ) where
   -- the low that two lists leave together is the greater of theirs: it bounds the lows of each list, and is bounded by both
   kept_low-append : kept_low (xs ++ ys) v ≡ max (kept_low xs v) (kept_low ys v)
@@ -58,7 +58,7 @@ module _ (xs ys : List Literal) (v : ℕ) where
 only : (l m : Literal) → Contains (l ∷ []) m → l ≡ m
 only l m j = elim (Contains-cases l [] m j) [ inl e ↦ e | inr n ↦ absurd (Contains-nil m n) ]
 
--- given a literal and the bound k on faults
+-- given: a literal and the bound k on faults
 module _ (k : ℕ) (l : Literal) where
   -- the low that one literal leaves on its variable is its own
   one_low : kept_low (l ∷ []) l.variable ≡ l.low
@@ -192,9 +192,9 @@ module _ (k : ℕ) where
   -- narrowing by some literals and then by others narrows by all of them
   pub narrowed_then : (xs ys a b c : List Literal) → IsNarrowed k xs a b → IsNarrowed k ys b c →
       IsNarrowed k (xs ++ ys) a c
-  narrowed_then xs ys a b c first second = record {
+  narrowed_then xs ys a b c by_xs by_ys = record {
     by = λ known is.
-        subst (λ ls. IsCubeOf k ls c) (append_assoc known xs ys) (second.by (known ++ xs) (first.by known is));
+        subst (λ ls. IsCubeOf k ls c) (append_assoc known xs ys) (by_ys.by (known ++ xs) (by_xs.by known is));
   }
 
   -- a cube narrowed by some literals is narrowed by others too, if each of the one list is in the other
@@ -233,6 +233,7 @@ met-nil [] r = refl
 met-nil (m ∷ ms) r =
     met-first m [] ms (λ x j. rising_first m x ms r j) ∙ ap (λ c. m ∷ c) (met-nil ms (rising_rest m ms r))
 
+-- given: two cubes of literals, l and those behind it (`ls`), and m and those behind it (`ms`), of which the second rises
 module _ (l : Literal) (ls : List Literal) (m : Literal) (ms : List Literal) (r : IsRising (m ∷ ms)) where
   -- if the first cube's first literal is on the lower variable, it comes first
   pub met-before : l.variable < m.variable → met (l ∷ ls) (m ∷ ms) ≡ l ∷ met ls (m ∷ ms)
@@ -311,25 +312,26 @@ all_lower xs l rest r = λ k d h. front_lower xs l rest r (get_or xs k d) (Conta
 
 -- ---- on the way through two cubes, up to the literal l of the one and m of the other
 
--- Given the literals of two rising cubes that are met so far, and those that are left of each.
+-- given: the literals of two rising cubes (`all_ones`, `all_others`), the cube that is met of them so far (`cube`), and
+-- those that are left of each (`ones`, `others`).
 -- `rises`: the whole rises. `rest`: what is left of the second cube rises. `all`: the whole is the cube so far and then
 -- what is left of both, met. `one`, `other`: the first literal that is left of each, and those behind it.
-module _ (start cube first second ones others : List Literal) (l : Literal) (ls : List Literal) (m : Literal)
+module _ (start cube all_ones all_others ones others : List Literal) (l : Literal) (ls : List Literal) (m : Literal)
     (ms : List Literal)
-    (rises : IsRising (start ++ met first second)) (rest : IsRising others)
-    (all : start ++ met first second ≡ cube ++ met ones others)
+    (rises : IsRising (start ++ met all_ones all_others)) (rest : IsRising others)
+    (all : start ++ met all_ones all_others ≡ cube ++ met ones others)
     (one : ones ≡ l ∷ ls) (other : others ≡ m ∷ ms) where
   -- what is left of the second cube rises, seen by its first literal
   rest_rises : IsRising (m ∷ ms)
   rest_rises = subst IsRising other rest
 
   -- `all`, with the first literals that are left of each
-  here : start ++ met first second ≡ cube ++ met (l ∷ ls) (m ∷ ms)
+  here : start ++ met all_ones all_others ≡ cube ++ met (l ∷ ls) (m ∷ ms)
   here = all ∙ ap₂ (λ a b. cube ++ met a b) one other
 
   -- the next literal x moves from what is left to the cube so far
   push : (x : Literal) (new left : List Literal) → met (l ∷ ls) (m ∷ ms) ≡ x ∷ left → new ≡ cube ++ x ∷ [] →
-      start ++ met first second ≡ new ++ left
+      start ++ met all_ones all_others ≡ new ++ left
   push x new left e is =
       here ∙ ap (λ c. cube ++ c) e ∙ sym (append_assoc cube (x ∷ []) left) ∙ ap (λ c. c ++ left) (sym is)
 
@@ -352,19 +354,19 @@ module _ (start cube first second ones others : List Literal) (l : Literal) (ls 
 
   -- once the first cube's literal is added, the whole is the new cube and then what is left of both, met
   pub push_before : (new : List Literal) → l.variable < m.variable → new ≡ cube ++ l ∷ [] →
-      start ++ met first second ≡ new ++ met ls others
+      start ++ met all_ones all_others ≡ new ++ met ls others
   push_before new h is =
       push l new (met ls (m ∷ ms)) (met-before l ls m ms rest_rises h) is ∙ ap (λ b. new ++ met ls b) (sym other)
 
   -- once the second cube's literal is added, the whole is the new cube and then what is left of both, met
   pub push_after : (new : List Literal) → m.variable < l.variable → new ≡ cube ++ m ∷ [] →
-      start ++ met first second ≡ new ++ met ones ms
+      start ++ met all_ones all_others ≡ new ++ met ones ms
   push_after new h is =
       push m new (met (l ∷ ls) ms) (met-after l ls m ms rest_rises h) is ∙ ap (λ a. new ++ met a ms) (sym one)
 
   -- once the meet of both literals is added, the whole is the new cube and then what is left of both, met
   pub push_here : (new : List Literal) → l.variable ≡ m.variable → new ≡ cube ++ meet_literal m l ∷ [] →
-      start ++ met first second ≡ new ++ met ls ms
+      start ++ met all_ones all_others ≡ new ++ met ls ms
   push_here new e is = push (meet_literal m l) new (met ls ms) (met-here l ls m ms rest_rises e) is
 
 -- what is left of a rising list behind its first literal rises

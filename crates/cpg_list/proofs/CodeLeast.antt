@@ -16,6 +16,7 @@ use Rattle.cpg_list.specs.Narrowing.{from_variable, front_low, as_number}
 
 -- ---- the literals from a variable on
 
+-- given: a variable v
 module _ (v : ℕ) where
   -- a literal below the variable is skipped
   skips : (l : Literal) (ls : List Literal) → l.variable < v → from_variable v (l ∷ ls) ≡ from_variable v ls
@@ -71,6 +72,7 @@ number_is n = elim (cases_lt 0 n) [
   | inr h ↦ ap number_of_value (le-ltb 0 n h) ∙ omega (arith, h)
 ]
 
+-- given: a scenario s
 module _ (s : Scenario) where
   -- the number of a variable below 128 is the fault count of that process
   count_number : (p : ℕ) → p < 128 → number_of s p ≡ fault_of s p
@@ -89,6 +91,7 @@ count_as p low h = cond-true _ _ _ (lt-ltb p 128 h)
 value_as : (v low : ℕ) → 128 ≤ v → as_number v low ≡ min low 1
 value_as v low h = cond-false _ _ _ (le-ltb v 128 h)
 
+-- given: a graph of at most 128 processes, a cube, and a scenario s
 module _ (g : Graph) (few : process_count g ≤ 128) (cube : List Literal) (s : Scenario) where
   -- a scenario in which each fault count and each value is the low of its variable is the least of the cube: both of its lists
   -- are, element by element

@@ -53,7 +53,7 @@ count_of rows n e = sym (length-map rows (λ (r : Row). r.item)) ∙ ap length e
 
 -- ---- one row set
 
--- given rows, and the next ones, in which the columns of the item x are set
+-- given: rows, and the next ones, in which the columns of the item x are set
 module _ (rows next : List Row) (x : ℕ) (columns : List Column) (l : x < length rows)
     (is : next ≡ set rows x (record { item = x; columns = columns })) where
   -- the columns of the next rows are those before, but for the item's
@@ -81,7 +81,7 @@ module _ (rows next : List Row) (x : ℕ) (columns : List Column) (l : x < lengt
 
 -- ---- one more item made
 
--- given rows of which those of the items `made` are made
+-- given: rows of which those of the items `made` are made
 module _ (g : Graph) (urgency order : List ℕ) (frozen : List (Option ℕ)) (timed : IsTimed g urgency order frozen)
     (made : ℕ → Type 0) (rows : List Row)
     (are : AreMade g urgency order frozen made rows) where
@@ -145,8 +145,8 @@ module _ (g : Graph) (urgency order : List ℕ) (frozen : List (Option ℕ)) (ti
             ∙ are.none y (λ old. other (inl old));
       }
 
--- if two properties hold of the same items, rows of which those with the one are made are rows of which those with the
--- other are
+-- if `made` and `also` hold of the same items, rows in which the items of the kind `made` are made are rows in which those of
+-- the kind `also` are
 pub made_same : (g : Graph) (urgency order : List ℕ) (frozen : List (Option ℕ)) (made also : ℕ → Type 0)
     (rows : List Row) → AreMade g urgency order frozen made rows →
     ((x : ℕ) → also x → made x) →

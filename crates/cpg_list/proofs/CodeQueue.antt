@@ -40,7 +40,7 @@ use Rattle.cpg_list.proofs.CodeTold.{within_flat_map}
 use Rattle.cpg_run.proofs.SameInRows.{only_one}
 use Rattle.cpg_run.proofs.Sends.{Contains-take}
 
--- given an item y, a node and a place i
+-- given: an item y, a node and a place i
 module _ (g : Graph) (order : List ℕ) (node i y : ℕ) where
   -- the item is one of the graph, is sent by the node, and comes from a process before the place i
   record Stands : Type 0 where
@@ -66,7 +66,7 @@ module _ (g : Graph) (order : List ℕ) (node i y : ℕ) where
 
 -- ---- lists of items and processes with the same elements
 
--- given cubes of what some items leave to their queue
+-- given: cubes of what some items leave to their queue
 module _ (k : ℕ) (g : Graph) (order : List ℕ) (rows : List (List Column)) (scenarios : List Scenario)
     (cubes : List (List Literal)) where
   -- cubes of what some items leave are cubes of what others leave, if both lists have the same items, in any order
@@ -81,7 +81,7 @@ module _ (k : ℕ) (g : Graph) (order : List ℕ) (rows : List (List Column)) (s
         (within_flat_map ys xs from f) (are.each i d l);
   }
 
--- given a process of the graph
+-- given: a process of the graph
 module _ (g : Graph) (order : List ℕ) (topological : IsTopological g order) (p : ℕ) (l : p < process_count g) where
   -- the process p is in the order
   in_order : Contains order p
@@ -98,7 +98,7 @@ module _ (g : Graph) (order : List ℕ) (topological : IsTopological g order) (p
 
   -- ---- the items before the m-th of those that a process sends
 
-  -- given a place in the list of what the process sends
+  -- given: a place in the list of what the process sends
   module _ (m : ℕ) (inside : m < length (queue_of g p)) where
     -- the m-th item that the process sends
     abbrev nth : ℕ
@@ -397,7 +397,7 @@ module _ (g : Graph) (order : List ℕ) (topological : IsTopological g order) (p
 
   -- ---- all nodes at the next place
 
-  -- given the cubes that all nodes carry before the place of p, and the new ones of its node: `own` of what its processes up
+  -- given: the cubes that all nodes carry before the place of p, and the new ones of its node: `own` of what its processes up
   -- to p leave, `queue` of what its items up to those of p leave
   module _ (rows others : List (List Column)) (same : SameRowsBefore g order (place order p) rows others)
       (scenarios : List Scenario) (known sent : List (List (List Literal)))
@@ -459,7 +459,7 @@ regroup : (e d h r c : List Literal) → e ++ (d ++ h ++ (r ++ c)) ≡ e ++ d ++
 regroup e d h r c = sym (append_assoc e (d ++ h) (r ++ c)) ∙ ap (λ z. z ++ (r ++ c)) (sym (append_assoc e d h))
     ∙ sym (append_assoc (e ++ d ++ h) r c)
 
--- given a cube for each scenario
+-- given: the rows so far, a process p, and a cube for each scenario
 module _ (g : Graph) (order : List ℕ) (rows : List (List Column)) (scenarios : List Scenario) (p : ℕ)
     (cubes : List (List Literal)) where
   -- At the end of a process that isn't frozen all is carried that its node passes on up to it. For an active process what it

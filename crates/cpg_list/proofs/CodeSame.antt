@@ -13,9 +13,10 @@ use Rattle.cpg_run.specs.RowLaws.{SameRowsBefore}
 use Rattle.cpg_run.specs.Rows.{IsCubeOf}
 use Rattle.cpg_run.proofs.CarriedBefore.{passed_same, queued_same, end_same}
 
--- given two lists of rows that are the same for items from processes before the place `bound`
+-- given: two lists of rows that are the same for items from processes before the place `bound`
 module _ (g : Graph) (order : List ℕ) (topological : IsTopological g order) (rows others : List (List Column))
     (bound : ℕ) (same : SameRowsBefore g order bound rows others) where
+  -- given: a cube for each scenario
   module _ (k : ℕ) (scenarios : List Scenario) (cubes : List (List Literal)) where
     -- cubes of what processes up to the place pass on by the one rows are cubes of what they pass on by the others
     pub passed_cubes : (processes : List ℕ) → ((q : ℕ) → Contains processes q → place order q ≤ bound) →

@@ -30,6 +30,7 @@ use Rattle.cpg_list.proofs.CodeCubes.{narrowed_none, narrowed_same}
 
 -- ---- an item that a process sends
 
+-- given: an item x that p sends
 module _ (g : Graph) (p x : ℕ) (queued : Contains (queue_of g p) x) where
   -- an item in the queue of a process is one of the graph
   pub queue_within : x < item_count g
@@ -60,6 +61,7 @@ value_of g x e p at from on o is =
 
 -- ---- what it leaves in the queue
 
+-- given: an item x of producer p, and the literals `ends` that are carried at p's end
 module _ (g : Graph) (s : Scenario) (p x : ℕ) (by : producer g x ≡ p) (ends : List Literal) where
   -- what the item x leaves in the queue, by whether p is active (`acts`), and whether x is sent and isn't frozen (`is_free`)
   left : (acts is_free : Bool) → active g s.values p ≡ acts →
@@ -123,6 +125,7 @@ end_with_value k ds vs es a b in_ends is = narrowed_same k (es ++ vs) (ds ++ vs 
 
 -- ---- the literals carried beside a send, and those that it leaves
 
+-- given: an item x that p sends
 module _ (g : Graph) (order : List ℕ) (rows : List (List Column)) (s : Scenario) (p x : ℕ)
     (queued_here : Contains (queue_of g p) x) where
   -- what is carried beside the item x is `send_after` of what the queue before it leaves and what is carried at the end of p

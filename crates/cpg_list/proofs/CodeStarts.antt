@@ -27,7 +27,7 @@ use Rattle.cpg_cube.specs.declared.column.Column.{Column}
 use Rattle.cpg_run.specs.Carried.{number_known, decided, heard, received, executed, passed, carried, carried_by_item}
 use Rattle.cpg_list.specs.Learning.{IsTimedIfActive, start_after, received_unless_frozen}
 use Rattle.cpg_list.specs.Made.{AreCubesOf, AreCubesUpTo, passed_by}
-use Rattle.cpg_list.specs.Narrowing.{IsNarrowed, IsLeastEntry, IsKeptOf, IsKeptAt}
+use Rattle.cpg_list.specs.Narrowing.{IsNarrowed, IsEntryWith, IsEntryOf, IsEntryAt}
 use Rattle.cpg_run.specs.Rows.{IsCubeOf}
 use Rattle.cpg_list.proofs.CodeCubes.{whole_cube}
 use Rattle.cpg_run.proofs.CubesOf.{same_least, cube_of, cube_there}
@@ -38,8 +38,8 @@ use Rattle.cpg_run.proofs.EntriesFound.{AreEntriesAmong, not_before_place, passe
 -- an entry that is kept or not for one cube of some literals is so for the literals, as all cubes of them have one least
 -- scenario
 pub kept_of : (g : Graph) (s : Scenario) (time : ℕ) (literals cube : List Literal) → IsCubeOf g.faults literals cube →
-    (r : Option Column) → IsLeastEntry g s time cube r →
-    IsKeptOf g s time literals r
+    (r : Option Column) → IsEntryWith g s time cube r →
+    IsEntryOf g s time literals r
 kept_of g s time literals cube is None h = λ other same least. h (same_least g literals cube other is same ∙ least)
 kept_of g s time literals cube is (Some e) h =
     (h.0, subst (IsCubeOf g.faults literals) (sym h.1) is, ap (lows g) h.1 ∙ h.2)
@@ -55,6 +55,7 @@ from_whole k literals whole cube e n = n.by [] (subst (IsCubeOf k []) (sym e) (w
 pub frozen_start : (g : Graph) (p : ℕ) → p < process_count g → is_frozen g p ≡ (process_at g p).frozen
 frozen_start g p l = ap (is_frozen_item g) (item_at-start g p l)
 
+-- given: the rows so far, a scenario s, and a process p
 module _ (g : Graph) (rows : List (List Column)) (s : Scenario) (p : ℕ) where
   -- beside the start of a process that isn't frozen, all is carried that its node has learnt
   pub start_plain : (earlier : List Literal) → (process_at g p).frozen ≡ false →
@@ -85,7 +86,7 @@ module _ (g : Graph) (rows : List (List Column)) (s : Scenario) (p : ℕ) where
 
 -- ---- the entries of one scenario more
 
--- given the entries of the item x for the scenarios done so far, and a scenario that isn't one of them, with its run
+-- given: the entries of the item x for the scenarios done so far, and a scenario that isn't one of them, with its run
 module _ (g : Graph) (order : List ℕ) (topological : IsTopological g order) (frozen : List (Option ℕ))
     (rows : List (List Column)) (x : ℕ)
     (done : List Scenario) (entries : List Column) (so_far : AreEntriesAmong g order frozen rows x done entries)
@@ -94,7 +95,7 @@ module _ (g : Graph) (order : List ℕ) (topological : IsTopological g order) (f
   -- item has none, nor has a scenario that isn't the least of its cube; any other has one.
   entry_at : (o : Option ℕ) → get_or t.times x None ≡ o → is_some o ≡ item_active g s.values (item_at g x) →
       (r : Option Column) →
-      IsKeptAt g s o (carried g order rows s x) r
+      IsEntryAt g s o (carried g order rows s x) r
       → AreEntriesAmong g order frozen rows x (done ++ s ∷ []) (entries ++ option_to_list r)
   -- the item is inactive
   entry_at None at off r e =
@@ -119,13 +120,13 @@ module _ (g : Graph) (order : List ℕ) (topological : IsTopological g order) (f
 
   -- the entry of the item at its time in the run is added, if there is one; an item without a time has none
   pub one_more : IsTimedIfActive g s t x → (r : Option Column) →
-      IsKeptAt g s (get_or t.times x None) (carried g order rows s x) r →
+      IsEntryAt g s (get_or t.times x None) (carried g order rows s x) r →
       AreEntriesAmong g order frozen rows x (done ++ s ∷ []) (entries ++ option_to_list r)
   one_more timed r h = entry_at (get_or t.times x None) refl timed r h
 
 -- ---- the cubes of one scenario more
 
--- given for each scenario its literals before the loop, and those after it
+-- given: for each scenario its literals before the loop, and those after it
 module _ (k : ℕ) (scenarios : List Scenario) (before literals : Scenario → List Literal) where
   -- at first all cubes are those of the literals before
   pub none_done : (cubes : List (List Literal)) → AreCubesOf k scenarios before cubes →
@@ -186,6 +187,7 @@ push_cube k scenarios literals n cubes new s cube l long each pushed at is i d h
 
 -- ---- runs of the scenarios
 
+-- given: a graph, an order and frozen times, under which runs are taken
 module _ (g : Graph) (order : List ℕ) (frozen : List (Option ℕ)) where
   -- in a run, an item has a time exactly if it is active
   pub timed_if_active : (s : Scenario) (t : Times) → IsRun g order frozen s t → (x : ℕ) → x < item_count g →
@@ -223,14 +225,16 @@ pub carried_start : (g : Graph) (order : List ℕ) (rows : List (List Column)) (
     carried g order rows s p ≡ start_after g rows s p (passed_by g rows (before_on_node g order p) s)
 carried_start g order rows s p l = ap (carried_by_item g order rows s p) (item_at-start g p l)
 
--- the lists of some elements and then that of one more are the lists of all, with that one put last
+-- the lists that f gives of `xs`, and then that of x, are those that f gives of `xs` with x at its end
 pub flat_map_push : {X : Type 0} (f : X → List Literal) (xs : List X) (x : X) →
     flat_map f xs ++ f x ≡ flat_map f (xs ++ x ∷ [])
 flat_map_push f xs x = sym (flat_map-append f xs (x ∷ []) ∙ ap (λ z. flat_map f xs ++ z) (append-nil (f x)))
 
 -- ---- one scenario more of all of them
 
--- given: each scenario once and the run of each, and of the place n the scenario s and its run t
+-- given: all scenarios of a graph and their runs, an item x, and a place n of the list
+-- `are`: the list has each scenario once; `each_run`: `runs` has the run of each; `at`, `is`: s is the scenario at the
+-- place n, and t its run
 module _ (g : Graph) (order : List ℕ) (topological : IsTopological g order) (frozen : List (Option ℕ))
     (rows : List (List Column)) (x : ℕ) (l : x < item_count g)
     (scenarios : List Scenario) (runs : List Times) (are : AreScenarios g scenarios)
@@ -252,7 +256,7 @@ module _ (g : Graph) (order : List ℕ) (topological : IsTopological g order) (f
   -- with the entry r of the scenario, if there is one, the entries of the first n scenarios are those of the first n + 1
   pub found_more : (entries next : List Column) → AreEntriesAmong g order frozen rows x (take n scenarios) entries →
       (r : Option Column) →
-      IsKeptAt g s (get_or t.times x None) (carried g order rows s x) r
+      IsEntryAt g s (get_or t.times x None) (carried g order rows s x) r
       → next ≡ entries ++ option_to_list r → AreEntriesAmong g order frozen rows x (take (n + 1) scenarios) next
   found_more entries next so_far r h e =
       subst (λ ds. AreEntriesAmong g order frozen rows x ds next) (sym (next_scenario scenarios n s inside at))

@@ -1,4 +1,4 @@
--- The search of a column by its time: it goes from the first entry of the time on, and finds a column if one matches.
+-- The search of a column by its time: it goes from the first timed column of the time on, and finds a column if one matches.
 use Rattle.std.proofs.Common.{◌≡◌, ◌≢◌, ◌∙◌, ℕ, ◌+◌, ◌<◌, ◌≤◌, false, List, [], ◌∷◌, ◌++◌, length, length-append}
 use Rattle.std.proofs.Common.{get_or, IsPermutation, None, arith, sym, ap, inl, inr, subst}
 use Rattle.std.proofs.lemmas.Bool.{cases_lt}
@@ -13,19 +13,19 @@ use Rattle.cpg_cube.specs.Cube.{matches}
 use Rattle.cpg_cube.specs.declared.column.Column.{Column}
 use Rattle.cpg_list.specs.TimeOrder.{TimedColumn, IsTimeOrder, StartsAt, FindsHit}
 
--- the entries from `first` on and before `at` all have the time, and their columns don't match
+-- the timed columns from `start` on and before `at` all have the time, and their columns don't match
 abbrev pub ArePassed : List Column → List TimedColumn → ℕ → Scenario → ℕ → ℕ → Type 0
-ArePassed columns by_time time s first at =
-    (i : ℕ) (d : TimedColumn) (c : Column) → first ≤ i → i < at → ((get_or by_time i d).time ≡ time) ×
+ArePassed columns by_time time s start at =
+    (i : ℕ) (d : TimedColumn) (c : Column) → start ≤ i → i < at → ((get_or by_time i d).time ≡ time) ×
     (matches (get_or columns (get_or by_time i d).place c).cube s ≡ false)
 
--- given the entries of a row by time, and a search that began at `first`, the first entry of the time, and has passed those
--- before `at`
+-- given: the timed columns of a row, the earlier times first, and a search that began at `start`, the first of the time, and
+-- has passed those before `at`
 module _ (columns : List Column) (by_time : List TimedColumn) (is : IsTimeOrder columns by_time) (time : ℕ)
-    (s : Scenario) (first : ℕ) (starts : StartsAt by_time time first) (at : ℕ)
-    (passed : ArePassed columns by_time time s first at) where
-  -- If no entry from `at` on has the time, no column of the time matches: each has an entry, which is before `first` and earlier,
-  -- or was passed, or comes later and has another time.
+    (s : Scenario) (start : ℕ) (starts : StartsAt by_time time start) (at : ℕ)
+    (passed : ArePassed columns by_time time s start at) where
+  -- If no timed column from `at` on has the time, no column of the time matches: the timed column of each is before `start` and
+  -- earlier, or was passed, or comes later and has another time.
   missed : ((i : ℕ) (d : TimedColumn) → at ≤ i → i < length by_time → (get_or by_time i d).time ≡ time → ⊥) →
       FindsHit columns time s None
   missed later k c l same =
@@ -33,7 +33,7 @@ module _ (columns : List Column) (by_time : List TimedColumn) (is : IsTimeOrder 
       let r = is.all k c l in
       let t = r.2 d in
       let here : (get_or by_time r.0 d).time ≡ time = t.1 ∙ same in
-      elim (cases_lt r.0 first) [
+      elim (cases_lt r.0 start) [
         | inl h ↦ absurd (omega (arith, starts.before r.0 d h, here))
         | inr h ↦ elim (cases_lt r.0 at) [
           | inl m ↦ subst (λ j. matches (get_or columns j c).cube s ≡ false) t.0 (passed r.0 d c h m).1
@@ -46,7 +46,7 @@ module _ (columns : List Column) (by_time : List TimedColumn) (is : IsTimeOrder 
   missed_end h = missed (λ i d l m e. omega (arith, h, l, m))
 
   -- if it comes to another time, no column of the time matches
-  pub missed_time : (x : TimedColumn) → first ≤ at → at < length by_time → x ≡ get_or by_time at x → x.time ≢ time →
+  pub missed_time : (x : TimedColumn) → start ≤ at → at < length by_time → x ≡ get_or by_time at x → x.time ≢ time →
       FindsHit columns time s None
   missed_time x f l read other = missed (λ i d m n e.
       other (omega (
@@ -66,7 +66,7 @@ pub record AreTimes (columns : List Column) (n : ℕ) (made : List TimedColumn) 
   pub each : (i : ℕ) (d : TimedColumn) (c : Column) → i < n →
       ((get_or made i d).place ≡ i) × ((get_or made i d).time ≡ (get_or columns i c).time)
 
--- given the columns of a row
+-- given: the columns of a row, in its order
 module _ (columns : List Column) where
   -- If t, the time and place of the n-th column x, is added, `next` has those of the first n + 1 columns.
   pub one_timed : (n : ℕ) (made next : List TimedColumn) (x : Column) (t : TimedColumn) → n < length columns →
@@ -75,6 +75,7 @@ module _ (columns : List Column) where
       t.time ≡ x.time → t.place ≡ n → AreTimes columns (n + 1) next
   one_timed n made next x t l are at is time place = record {
     count = ap length is ∙ length-append made (t ∷ []) ∙ omega (arith, are.count);
+    -- one of the first n columns has its timed column in `made`; the n-th, which is x, has t
     each = λ i d c h. subst (λ ts. ((get_or ts i d).place ≡ i) × ((get_or ts i d).time ≡ (get_or columns i c).time))
         (sym is) (elim (cases_lt i n) [
           | inl m ↦ subst (λ (y : TimedColumn). (y.place ≡ i) × (y.time ≡ (get_or columns i c).time))
@@ -92,14 +93,14 @@ module _ (columns : List Column) where
   }
 
   -- The times and places of all columns, sorted by time, are the columns in time order. Sorting only changes the order, so each
-  -- entry is still one of a column, and each column has its entry.
+  -- timed column is still one of a column, and each column has its timed column.
   pub time_order : (made sorted : List TimedColumn) → AreTimes columns (length columns) made →
       IsPermutation made sorted →
       IsNonDecreasingBy (λ (t : TimedColumn). t.time) sorted
       → IsTimeOrder columns sorted
   time_order made sorted are same up = record {
     rising = λ i j d h l. up i j d h l;
-    -- an entry of the sorted list is one of the list before, which has a column's time and place
+    -- a timed column of the sorted list is one of the list before, which has a column's time and place
     each = λ i d c l.
         let x = get_or sorted i d in
         let r =
@@ -109,7 +110,7 @@ module _ (columns : List Column) where
           omega (arith, place, r.1, are.count),
           ap (λ (k : ℕ). (get_or columns k c).time) place ∙ sym e.1 ∙ ap (λ (t : TimedColumn). t.time) r.2,
         );
-    -- the entry of column k is somewhere in the sorted list
+    -- the timed column of column k is somewhere in the sorted list
     all = λ k c l.
         let blank : TimedColumn = record { time = 0; place = 0 } in
         let y = get_or made k blank in
@@ -124,14 +125,14 @@ module _ (columns : List Column) where
         );
   }
 
--- if the entry at `at` has the time and its column y doesn't match, the search has passed one entry more
-pub passed_more : (columns : List Column) (by_time : List TimedColumn) (time : ℕ) (s : Scenario) (first at : ℕ) →
-    ArePassed columns by_time time s first at → (x : TimedColumn) →
+-- if the timed column at `at` has the time and its column y doesn't match, the search has passed one timed column more
+pub passed_more : (columns : List Column) (by_time : List TimedColumn) (time : ℕ) (s : Scenario) (start at : ℕ) →
+    ArePassed columns by_time time s start at → (x : TimedColumn) →
     at < length by_time →
     (get_or by_time at x).time ≡ time → (y : Column)
     → (get_or by_time at x).place < length columns → y ≡ get_or columns (get_or by_time at x).place y →
-    matches y.cube s ≡ false → ArePassed columns by_time time s first (at + 1)
-passed_more columns by_time time s first at passed x l same y inside is off i d c h k = elim (cases_lt i at) [
+    matches y.cube s ≡ false → ArePassed columns by_time time s start (at + 1)
+passed_more columns by_time time s start at passed x l same y inside is off i d c h k = elim (cases_lt i at) [
   | inl m ↦ passed i d c h m
   | inr m ↦
       let e : at ≡ i = omega (arith, k, m) in

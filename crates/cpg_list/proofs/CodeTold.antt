@@ -21,13 +21,14 @@ use Rattle.cpg_list.specs.Narrowing.{carried_in_columns, IsNarrowed}
 use Rattle.cpg_list.proofs.CodeCubes.{narrowed_none, narrowed_then}
 use Rattle.cpg_run.proofs.EntriesMerge.{the_one}
 
--- a list that is mapped to nothing is empty
+-- a list that is mapped to the empty list is empty
 no_element : {X : Type 0} (f : X → ℕ) (xs : List X) → map f xs ≡ [] → xs ≡ []
 no_element f [] e = refl
 no_element f (x ∷ xs) e = absurd (omega (arith, ap length e))
 
 -- ---- the column that matches
 
+-- given: the columns of a row, and a scenario s
 module _ (columns : List Column) (s : Scenario) where
   -- without a time, no column matches and nothing is carried
   pub told_none : times_in columns s ≡ [] → carried_in_columns columns s ≡ []
@@ -45,6 +46,7 @@ module _ (columns : List Column) (s : Scenario) where
       (All-contains (λ (c : Column). (i : ℕ) (d : Literal) → i < length c.cube →
       (get_or c.cube i d).high ≤ top k (get_or c.cube i d).variable) columns r.0 within q.0) r.2
 
+  -- given: of the columns that match in s there is one, which has this time
   module _ (time : ℕ) (one : times_in columns s ≡ time ∷ []) where
     -- if only one column matches, what is carried are its literals
     pub told_found : (i : ℕ) (c : Column) → i < length columns → c ≡ get_or columns i c → matches c.cube s ≡ true →
@@ -68,13 +70,14 @@ module _ (columns : List Column) (s : Scenario) where
 
 -- ---- narrowing by one list after another
 
+-- given: three cubes: a, what it is narrowed to (b), and what that is narrowed to (c); fault counts go up to k
 module _ (k : ℕ) (a b c : List Literal) where
   -- a cube narrowed by the literals of the first i elements, and then by that of the next, is narrowed by those of i + 1
   pub narrowed_map : (f : ℕ → Literal) (xs : List ℕ) (i d : ℕ) → i < length xs → IsNarrowed k (map f (take i xs)) a b →
       IsNarrowed k (f (get_or xs i d) ∷ []) b c →
       IsNarrowed k (map f (take (i + 1) xs)) a c
-  narrowed_map f xs i d l first then = subst (λ ls. IsNarrowed k ls a c) (sym (map_more f xs i d l))
-      (narrowed_then k (map f (take i xs)) (f (get_or xs i d) ∷ []) a b c first then)
+  narrowed_map f xs i d l by_earlier by_this = subst (λ ls. IsNarrowed k ls a c) (sym (map_more f xs i d l))
+      (narrowed_then k (map f (take i xs)) (f (get_or xs i d) ∷ []) a b c by_earlier by_this)
 
   -- a cube narrowed by the lists of literals of the first i elements, and then by that of the next, is narrowed by those of
   -- i + 1
@@ -82,14 +85,14 @@ module _ (k : ℕ) (a b c : List Literal) where
       IsNarrowed k (flat_map f (take i xs)) a b →
       IsNarrowed k (f (get_or xs i d)) b c →
       IsNarrowed k (flat_map f (take (i + 1) xs)) a c
-  narrowed_flat_map f xs i d l first then =
+  narrowed_flat_map f xs i d l by_earlier by_this =
       let e : flat_map f (take (i + 1) xs) ≡ flat_map f (take i xs) ++ f (get_or xs i d) =
       ap (flat_map f) (take_more xs i d l) ∙ flat_map-append f (take i xs) (get_or xs i d ∷ [])
       ∙ ap (λ z. flat_map f (take i xs) ++ z) (append-nil (f (get_or xs i d))) in
       subst (λ ls. IsNarrowed k ls a c) (sym e)
-      (narrowed_then k (flat_map f (take i xs)) (f (get_or xs i d)) a b c first then)
+      (narrowed_then k (flat_map f (take i xs)) (f (get_or xs i d)) a b c by_earlier by_this)
 
--- given two lists, each element of the first of which is in the second
+-- given: two lists, each element of the first of which is in the second
 module _ (xs ys : List ℕ) (to : (x : ℕ) → Contains xs x → Contains ys x) where
   -- the literals of the first list's elements are among those of the second's
   pub within_map : (f : ℕ → Literal) → Within (map f xs) (map f ys)

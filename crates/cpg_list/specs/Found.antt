@@ -1,4 +1,4 @@
--- Tables that are written of found rows.
+-- Tables that are written from rows that are found under an order.
 use Rattle.std.specs.Prelude.{ℕ, List, Option}
 use Rattle.cpg_base.specs.Graph.{Graph}
 use Rattle.cpg_table.specs.Table.{Row}
@@ -6,7 +6,7 @@ use Rattle.cpg_table.specs.Lawful.{Tables}
 use Rattle.cpg_table.specs.Writing.{AreTablesWith}
 use Rattle.cpg_run.specs.Found.{AreRowsFound}
 
--- the tables are written of some rows, and these are found under the order and the frozen times
+-- the tables are written from some rows, and these are found under the order and the frozen times
 pub record AreTablesOfRows (g : Graph) (urgency order : List ℕ) (frozen : List (Option ℕ))
     (tables : Tables) : Type 0 where
   pub rows : List Row

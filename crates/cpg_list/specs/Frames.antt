@@ -9,7 +9,7 @@ use Rattle.cpg_run.specs.Carried.{carried_by_row, decided, heard, received, pass
 use Rattle.cpg_run.specs.Found.{columns_of_rows}
 use Rattle.cpg_run.specs.Rows.{IsCubeOf}
 use Rattle.cpg_list.specs.Learning.{RowTells, heard_of, received_by, received_unless_frozen, start_after}
-use Rattle.cpg_list.specs.Narrowing.{IsKeptAt, IsKeptOf, IsNarrowed}
+use Rattle.cpg_list.specs.Narrowing.{IsEntryAt, IsEntryOf, IsNarrowed}
 use Rattle.cpg_list.specs.declared.learning.Frames.{Frames}
 
 -- the columns of the rows so far
@@ -49,9 +49,9 @@ received_at frames p = received frames.problem.now (rows_in frames) frames.scena
 abbrev pub received_at_start : Frames → ℕ → List Literal
 received_at_start frames p = received_unless_frozen frames.problem.now (rows_in frames) frames.scenario.now p
 
--- `new` is the cube `old` narrowed by the literals
+-- `cube_new` is the cube `cube_old` narrowed by the literals
 abbrev pub IsNarrowedIn : Frames → List Literal → List Literal → List Literal → Type 0
-IsNarrowedIn frames literals old new = IsNarrowed frames.problem.now.faults literals old new
+IsNarrowedIn frames literals cube_old cube_new = IsNarrowed frames.problem.now.faults literals cube_old cube_new
 
 -- `cube` is that of what was carried before p (`earlier`), what decides p, and what broadcasts told of that
 abbrev pub HasDecided : Frames → ℕ → List Literal → List Literal → Type 0
@@ -62,16 +62,16 @@ HasDecided frames p earlier cube = IsCubeOf frames.problem.now.faults
 -- and None otherwise
 abbrev pub IsStartOf : Frames → ℕ → ℕ → List Literal → Option Column → Type 0
 IsStartOf frames time p earlier entry =
-    IsKeptOf frames.problem.now frames.scenario.now time
+    IsEntryOf frames.problem.now frames.scenario.now time
     (start_after frames.problem.now (rows_in frames) frames.scenario.now p earlier) entry
 
 -- with `earlier` carried before, `entry` is that of the start of p at its time of the run if p is active and the scenario is the
 -- least of the entry's cube, and None otherwise
 abbrev pub IsStartIn : Graph → Frames → ℕ → List Literal → Option Column → Type 0
 IsStartIn g frames p earlier entry =
-    IsKeptAt g frames.scenario.now (get_or frames.times.now.times p None)
+    IsEntryAt g frames.scenario.now (get_or frames.times.now.times p None)
     (start_after g (rows_in frames) frames.scenario.now p earlier) entry
 
--- `new` is the cube `old` narrowed by what p leaves to the processes after it on its node
+-- `cube_new` is the cube `cube_old` narrowed by what p leaves to the processes after it on its node
 abbrev pub IsPassedIn : Graph → Frames → ℕ → List Literal → List Literal → Type 0
-IsPassedIn g frames p old new = IsNarrowed g.faults (passed g (rows_in frames) frames.scenario.now p) old new
+IsPassedIn g frames p cube_old cube_new = IsNarrowed g.faults (passed g (rows_in frames) frames.scenario.now p) cube_old cube_new

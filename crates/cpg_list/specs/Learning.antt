@@ -83,6 +83,7 @@ Within xs ys = (l : Literal) → Contains xs l → Contains ys l
 
 -- `ends` is carried at the end of p, and `end` is its cube if p is active
 pub record IsEndOf (g : Graph) (s : Scenario) (p : ℕ) (ends end : List Literal) : Type 0 where
+  -- for an active p `end` is the cube of these literals
   pub cube : active g s.values p ≡ true → IsCubeOf g.faults ends end
   -- what decides p is among what is carried
   pub decided : Within (decided g s p) ends

@@ -18,7 +18,7 @@ use Rattle.cpg_run.specs.Carried.{row_at, passed, queued, carried_at_end}
 use Rattle.cpg_run.specs.Found.{columns_of_rows}
 use Rattle.cpg_run.specs.Rows.{IsCubeOf, IsRowOf}
 
--- `cubes` has for each scenario, in order, the cube of its literals
+-- `cubes` has for each scenario, in order, the cube of its literals; k is the number of faults of the graph
 pub record AreCubesOf (k : ℕ) (scenarios : List Scenario) (literals : Scenario → List Literal)
     (cubes : List (List Literal)) : Type 0 where
   pub count : length cubes ≡ length scenarios
@@ -26,17 +26,17 @@ pub record AreCubesOf (k : ℕ) (scenarios : List Scenario) (literals : Scenario
   pub each : (i : ℕ) (s : Scenario) → i < length scenarios →
       IsCubeOf k (literals (get_or scenarios i s)) (get_or cubes i [])
 
--- as a loop over the scenarios has come to the n-th: `cubes` has for the first n the cubes of their literals, and for the
--- others those of their literals before
-pub record AreCubesUpTo (k : ℕ) (scenarios : List Scenario) (before literals : Scenario → List Literal) (n : ℕ)
+-- a loop over the scenarios has come to the n-th: `cubes` has for the first n the cubes of their literals, and for the
+-- others those of their old literals; k is the number of faults of the graph
+pub record AreCubesUpTo (k : ℕ) (scenarios : List Scenario) (literals_old literals : Scenario → List Literal) (n : ℕ)
     (cubes : List (List Literal)) : Type 0 where
   pub count : length cubes ≡ length scenarios
   -- the first n scenarios have the cubes of the new literals
   pub done : (i : ℕ) (s : Scenario) → i < n → i < length scenarios →
       IsCubeOf k (literals (get_or scenarios i s)) (get_or cubes i [])
-  -- the others have the cubes of the literals before
+  -- the others have the cubes of the old literals
   pub rest : (i : ℕ) (s : Scenario) → n ≤ i → i < length scenarios →
-      IsCubeOf k (before (get_or scenarios i s)) (get_or cubes i [])
+      IsCubeOf k (literals_old (get_or scenarios i s)) (get_or cubes i [])
 
 -- what these processes leave to those after them on their node
 abbrev pub passed_by : Graph → List (List Column) → List ℕ → Scenario → List Literal
@@ -92,12 +92,12 @@ pub record AreMade (g : Graph) (urgency order : List ℕ) (frozen : List (Option
   -- an item that isn't made has no column
   pub none : (x : ℕ) → (made x → ⊥) → row_at (columns_of_rows rows) x ≡ []
 
--- from `old` to `new` the row of the item x is set to these entries, merged, and the other rows stay
-pub record IsRowSet (g : Graph) (urgency : List ℕ) (x : ℕ) (entries : List Column) (old new : List Row) : Type 0 where
-  -- the merged entries
+-- from `rows_old` to `rows_new` the row of the item x is set to these entries, merged, and the other rows stay
+pub record IsRowSet (g : Graph) (urgency : List ℕ) (x : ℕ) (entries : List Column) (rows_old rows_new : List Row) : Type 0 where
+  -- the columns of the row: the merged entries
   pub columns : List Column
   pub merge : IsMergeOf g urgency entries columns
-  pub set : new ≡ slice_set old x (record { item = x; columns = columns })
+  pub set : rows_new ≡ slice_set rows_old x (record { item = x; columns = columns })
 
 -- `cubes` has a cube for each scenario: that of what is carried at the end of the process p if p is active there, and any otherwise
 pub record AreEndsOf (g : Graph) (order : List ℕ) (rows : List (List Column)) (scenarios : List Scenario) (p : ℕ)

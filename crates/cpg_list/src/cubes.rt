@@ -22,7 +22,7 @@ fn both(literal: Literal, other: Literal) -> Literal
     }
 }
 
-/// Adds literals to a cube, in the order of their variables, which are above those of the cube.
+/// Adds literals to a cube. They are in the order of their variables, which are above those of the cube.
 fn push_all(cube: &mut Cube, literals: &[Literal]) -> Result<(), OutOfMemory>
     requires { IsRising (cube.old ++ literals.now) }
     ensures { OnOk result (cube.new ≡ cube.old ++ literals.now) }
@@ -33,8 +33,8 @@ fn push_all(cube: &mut Cube, literals: &[Literal]) -> Result<(), OutOfMemory>
     Ok(())
 }
 
-/// Adds to `cube` the literals of two cubes, in the order of their variables; of two on one variable it adds what both
-/// allow.
+/// Adds to `cube` the literals `first` and `second` of two cubes, in the order of their variables, which are above those of
+/// `cube`. Of two literals on one variable it adds the one of the numbers that both allow.
 fn push_met(cube: &mut Cube, first: &[Literal], second: &[Literal]) -> Result<(), OutOfMemory>
     requires first { IsRising first.now }
     requires second { IsRising second.now }

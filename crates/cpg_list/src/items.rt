@@ -9,7 +9,7 @@ use crate::timed::TimedRow;
 use cpg_base::{OutOfMemory, Problem};
 use std::alloc::Global;
 
-/// Returns the row of an item, which is at the place of its number.
+/// Returns the row of an item from the rows of all items, in which it is at the place of its number.
 pub(crate) fn row_of(rows: &[TimedRow], item: u32) -> &TimedRow
     requires { item < length rows.now }
     ensures { result.now.columns ≡ row_at (columns_of_rows rows.now) item }

@@ -30,7 +30,7 @@ pub(crate) struct Frames<'a> {
     pub(crate) problem: &'a Problem,
     /// The plan of the graph.
     pub(crate) plan: &'a Plan,
-    /// The row of each item, without columns if it isn't made yet.
+    /// The row of each item, by number; without columns if it isn't made yet.
     pub(crate) rows: &'a [TimedRow],
     /// The scenario that literals are learnt in.
     pub(crate) scenario: &'a Scenario,
@@ -99,7 +99,8 @@ fn narrow_by_values(
     Ok(())
 }
 
-/// Narrows a cube by the values of the conditions that decide a process. Only the contract names `process`.
+/// Narrows a cube by the values of the conditions that decide a process, which are `conditions`. Only the contract names
+/// `process`.
 pub(crate) fn narrow_by_decided(
     alloc: Global,
     problem: &Problem,
@@ -116,8 +117,9 @@ pub(crate) fn narrow_by_decided(
     Ok(())
 }
 
-/// Narrows a cube by the column of an item that matches in a scenario, if one does. `time` is the time of the item in the
-/// scenario's run. The search begins at the place that `hints` has for the item, and the place that is found is noted there.
+/// Narrows a cube by the column of an item that matches in a scenario, if one does. `row` is the row of the item, and
+/// `time` is its time in the scenario's run, or `None` if it isn't sent. The search begins at the place that `hints` has
+/// for the item, and the place that is found is noted there.
 fn narrow_by_told(
     alloc: Global,
     row: &TimedRow,
@@ -161,7 +163,7 @@ fn narrow_by_frame(
     Ok(())
 }
 
-/// Narrows a cube by the literals that a node hears with the broadcast of a condition.
+/// Narrows a cube by the literals that a node hears with the broadcast of a condition; by none if the condition is its own.
 fn narrow_by_condition(
     alloc: Global,
     frames: &Frames<'_>,
@@ -184,7 +186,7 @@ fn narrow_by_condition(
     Ok(())
 }
 
-/// Narrows a cube by the literals that a node hears with the broadcasts of these conditions.
+/// Narrows a cube by the literals that a node hears with the broadcasts of these conditions, without its own.
 fn narrow_by_conditions(
     alloc: Global,
     frames: &Frames<'_>,
@@ -204,7 +206,7 @@ fn narrow_by_conditions(
 }
 
 /// Narrows a cube by the literals that the node of a process hears with the broadcasts of the conditions that decide the
-/// process.
+/// process, which are `conditions`.
 pub(crate) fn narrow_by_heard(
     alloc: Global,
     frames: &Frames<'_>,
@@ -245,7 +247,7 @@ fn narrow_by_input(
     Ok(())
 }
 
-/// Narrows a cube by the literals that come with these edges.
+/// Narrows a cube by the literals that come with those of these edges that are messages.
 fn narrow_by_inputs(
     alloc: Global,
     frames: &Frames<'_>,

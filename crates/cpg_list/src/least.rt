@@ -1,10 +1,11 @@
-//! Whether a scenario is the least that a cube matches: each entry is taken once, in that scenario.
+//! Whether a scenario is the least that a cube matches. An entry is a column that isn't merged yet; each is taken once, in
+//! the least scenario of its cube.
 ghost use Rattle.std.specs.Prelude.{◌≡◌, ◌<◌, ◌≤◌, ◌↔◌, ◌++◌, ℕ, IsTrue, IfOk, OnOk};
 ghost use Rattle.std.specs.Option.{option_to_list};
 ghost use Rattle.cpg_base.specs.Scenario.{IsScenario, number_of};
 ghost use Rattle.cpg_cube.specs.Cube.{IsRising, low_in};
 ghost use Rattle.cpg_cube.specs.Fit.{lows};
-ghost use Rattle.cpg_list.specs.Narrowing.{from_variable, front_low, as_number, IsLeastEntry};
+ghost use Rattle.cpg_list.specs.Narrowing.{from_variable, front_low, as_number, IsEntryWith};
 
 use cpg_base::{FIRST_VALUE, OutOfMemory, Problem, Scenario};
 use cpg_cube::{Column, Cube, Literal};
@@ -73,7 +74,7 @@ fn is_least(problem: &Problem, cube: &Cube, scenario: &Scenario) -> bool
     has_lows(scenario, literals, FIRST_VALUE, end)
 }
 
-/// Returns the entry of a time and a cube, or `None` if the scenario isn't the least of the cube.
+/// Returns the entry of a time and a cube, which is the column of both, or `None` if the scenario isn't the least of the cube.
 pub(crate) fn kept(
     problem: &Problem,
     scenario: &Scenario,
@@ -81,7 +82,7 @@ pub(crate) fn kept(
     cube: &Cube,
 ) -> Result<Option<Column>, OutOfMemory>
     requires { IsScenario problem.now scenario.now }
-    ensures { IfOk result (IsLeastEntry problem.now scenario.now time cube.now) }
+    ensures { IfOk result (IsEntryWith problem.now scenario.now time cube.now) }
 {
     if !is_least(problem, cube, scenario) {
         return Ok(None);
@@ -90,7 +91,7 @@ pub(crate) fn kept(
     Ok(Some(Column { time, cube }))
 }
 
-/// Adds an entry to `entries`, if there is one.
+/// Adds `entry` to `entries`, if it is one.
 pub(crate) fn push_entry(
     entries: &mut Vec<Column>,
     entry: Option<Column>,

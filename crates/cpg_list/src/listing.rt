@@ -21,7 +21,8 @@ use cpg_run::{BuildFault, Built, FrozenTimes, RunTimes};
 use cpg_table::{Tables, tables_of};
 use std::alloc::Global;
 
-/// Returns the tables of the rows of all items, given all scenarios and their runs.
+/// Returns the tables of the rows of all items under an order, given the graph's plan, the frozen times of the order, all
+/// scenarios and their runs.
 fn tables(
     alloc: Global,
     admitted: &Admitted,
@@ -46,7 +47,8 @@ fn tables(
     Ok(tables)
 }
 
-/// Returns the tables with the greatest finish and the greatest excess of all runs. Only the contract names `order`.
+/// Returns the tables and the frozen times of an order with the greatest finish and the greatest excess of all runs. Only
+/// the contract names `order`.
 fn measured(
     alloc: Global,
     admitted: &Admitted,
@@ -78,7 +80,8 @@ fn measured(
     })
 }
 
-/// Returns what `build` does, given all scenarios and the graph's plan.
+/// Returns the tables, the frozen times, the greatest finish and the greatest excess under an order in which no item is too
+/// wide, given all scenarios and the graph's plan.
 fn swept(
     alloc: Global,
     admitted: &Admitted,
@@ -103,7 +106,8 @@ fn swept(
     measured(alloc, admitted, order, frozen, tables, scenarios, runs)
 }
 
-/// Returns the tables, the greatest finish and the greatest excess under an order in which no item is too wide.
+/// Returns the tables, the frozen times, the greatest finish and the greatest excess under an order in which no item is too
+/// wide, for a graph of at most 16,384 scenarios.
 fn build(alloc: Global, admitted: &Admitted, order: &Order) -> Result<Built, OutOfMemory>
     requires topological { IsTopological admitted.now.graph order.now }
     requires few { length (scenarios admitted.now.graph) ≤ MOST_SCENARIOS }
@@ -118,7 +122,7 @@ fn build(alloc: Global, admitted: &Admitted, order: &Order) -> Result<Built, Out
 
 /// Returns the exact tables of a graph of at most 16,384 scenarios under an order, with the frozen times and, in time units,
 /// the greatest finish and the greatest excess of all runs, each with its least scenario by the urgency order. The error is
-/// `TooWide` with the least item that is too wide, if there is one.
+/// `TooWide` with the least item that is too wide, if there is one, or `OutOfMemory`.
 pub fn list(alloc: Global, admitted: &Admitted, order: &Order) -> Result<Built, BuildFault>
     requires topological { IsTopological admitted.now.graph order.now }
     requires few { length (scenarios admitted.now.graph) ≤ MOST_SCENARIOS }

@@ -1,4 +1,4 @@
-//! Makes the rows of all items, along an order.
+//! Makes the rows of all items, process by process along an order.
 ghost use Rattle.std.specs.Prelude.{◌≡◌, ◌<◌, ◌+◌, IfOk, OnOk, length, map};
 ghost use Rattle.cpg_base.specs.Graph.{process_count, item_count};
 ghost use Rattle.cpg_base.specs.Numbers.{numbers_below};
@@ -29,7 +29,7 @@ use cpg_run::{FrozenTimes, RunTimes};
 use cpg_table::Row;
 use std::alloc::Global;
 
-/// Sets the row of an item to its entries, merged.
+/// Sets the row of an item in `rows` to its entries, merged.
 fn set_row(
     alloc: Global,
     admitted: &Admitted,
@@ -46,8 +46,9 @@ fn set_row(
     Ok(())
 }
 
-/// Makes the rows of what a process sends. `ends` has for each scenario the cube of what is carried at the end of the
-/// process, and `queue` that of what earlier items leave in the queue of its node, which is narrowed by what these leave.
+/// Makes in `rows` the rows of what a process sends. `ends` has for each scenario the cube of what is carried at the end of
+/// the process, and `queue` that of what earlier items leave in the queue of its node, which is narrowed by what these
+/// leave.
 fn make_sends(
     alloc: Global,
     listed: &Listed<'_>,
@@ -73,8 +74,8 @@ fn make_sends(
     Ok(())
 }
 
-/// Makes the rows of what a process sends, as in `make_sends`. `known` has for each scenario the cube of what its node
-/// carries on up to the process.
+/// Makes in `rows` the rows of what a process sends. `known` has for each scenario the cube of what its node carries on up to
+/// the process, and `queue` that of what earlier items leave in the node's queue, which is narrowed by what these leave.
 fn make_sends_after(
     alloc: Global,
     listed: &Listed<'_>,
@@ -102,8 +103,8 @@ fn make_sends_after(
     Ok(())
 }
 
-/// Makes the row of the start of a process. `known` has for each scenario the cube of what its node carries on from earlier
-/// processes, and is narrowed by what it carries on from this one.
+/// Makes in `rows` the row of the start of a process. `known` has for each scenario the cube of what its node carries on
+/// from earlier processes, and is narrowed by what it carries on from this one.
 fn make_start(
     alloc: Global,
     listed: &Listed<'_>,
@@ -126,8 +127,9 @@ fn make_start(
     Ok(())
 }
 
-/// Makes the rows of the start of the process at a place and of what it sends. `known` and `queues` have by node and scenario
-/// the cubes of what the node carries on, and of what earlier items leave in its queue.
+/// Makes in `rows` the rows of the start of the process at a place and of what it sends. `known` has by node and scenario the
+/// cube of what the node carries on, and `queues` that of what earlier items leave in its queue. Both are narrowed by what
+/// this process leaves.
 fn make(
     alloc: Global,
     listed: &Listed<'_>,

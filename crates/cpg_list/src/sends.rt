@@ -1,4 +1,5 @@
-//! The entries of sends, and what items leave to those behind them in a node's queue.
+//! The entries of sends, which are the columns of their rows before they are merged, and what items leave to those behind
+//! them in a node's queue.
 ghost use Rattle.std.specs.Prelude.{◌≡◌, ◌<◌, ◌++◌, ◌∷◌, [], List, Contains, IfOk, OnOk, None, true, false, get_or};
 ghost use Rattle.cpg_base.specs.Activity.{item_active};
 ghost use Rattle.cpg_base.specs.Graph.{process_count, item_at, is_frozen};
@@ -10,7 +11,7 @@ ghost use Rattle.cpg_run.specs.Carried.{decided, number_known, sent_by_value};
 ghost use Rattle.cpg_list.specs.Learning.{IsEndOf, Within, send_after, queued_after, IsTimedIfActive, IsSentValue};
 ghost use Rattle.cpg_list.specs.Listed.{HasEnds, HasEntries, HasQueuedBefore, HasQueuedBy, IsListed, graph_of};
 ghost use Rattle.cpg_list.specs.Made.{AreCubesOf};
-ghost use Rattle.cpg_list.specs.Narrowing.{IsNarrowed, IsKeptOf, IsKeptAt};
+ghost use Rattle.cpg_list.specs.Narrowing.{IsNarrowed, IsEntryOf, IsEntryAt};
 ghost use Rattle.cpg_run.specs.Rows.{IsCubeOf};
 
 use crate::cubes::{narrow_by_cube, narrow_to_number};
@@ -34,7 +35,8 @@ struct Sending {
     item: u32,
 }
 
-/// Returns the condition whose value decides whether an item is sent once its process has ended. `None` if it always is.
+/// Returns the condition whose value decides whether an item is sent once `process`, which sends it, has ended. `None` if it
+/// always is.
 fn deciding_value(problem: &Problem, process: u32, item: u32) -> Option<u32>
     requires process { process < process_count problem.now }
     requires item { Contains (queue_of problem.now process) item }
@@ -51,7 +53,8 @@ fn deciding_value(problem: &Problem, process: u32, item: u32) -> Option<u32>
     problem.condition_of(process)
 }
 
-/// Narrows a cube by the value that decides whether an item is sent once its process has ended, if there is one.
+/// Narrows a cube by the value that decides whether an item is sent once `process`, which sends it, has ended, if there is
+/// such a value.
 fn narrow_by_sent_value(
     alloc: Global,
     problem: &Problem,
@@ -101,8 +104,8 @@ fn narrow_by_sending(
     Ok(())
 }
 
-/// Narrows the cube of what the queue leaves by what an item leaves that isn't sent in the scenario: only what decides
-/// that it isn't.
+/// Narrows the cube of what the queue leaves by what an item of a process leaves that isn't sent in the scenario: only what
+/// decides that it isn't. `times` has a time for the process exactly if it is active.
 fn pass_over(
     alloc: Global,
     admitted: &Admitted,
@@ -138,8 +141,8 @@ fn pass_over(
     Ok(())
 }
 
-/// Returns the entry of a frozen message that is sent at `time` in the scenario, or `None` if the scenario isn't the least
-/// of the entry's cube. Narrows the cube of what the queue leaves by what the message leaves.
+/// Returns the entry of a frozen message of a process that is sent at `time` in the scenario, or `None` if the scenario
+/// isn't the least of the entry's cube. Narrows the cube of what the queue leaves by what the message leaves.
 fn send_frozen(
     alloc: Global,
     admitted: &Admitted,
@@ -154,8 +157,8 @@ fn send_frozen(
     requires item { Contains (queue_of admitted.now.graph process) item }
     requires frozen { is_frozen admitted.now.graph item ≡ true }
     requires active { item_active admitted.now.graph scenario.now.values (item_at admitted.now.graph item) ≡ true }
-    ensures entry { IfOk result (λ r. (before ends : List Literal)
-        → IsKeptOf admitted.now.graph scenario.now time (send_after admitted.now.graph scenario.now item before ends) r) }
+    ensures entry { IfOk result (λ r. (queued ends : List Literal)
+        → IsEntryOf admitted.now.graph scenario.now time (send_after admitted.now.graph scenario.now item queued ends) r) }
     ensures queue { OnOk result ((ends : List Literal) → IsNarrowed admitted.now.graph.faults
         (queued_after admitted.now.graph scenario.now item ends) queue.old queue.new) }
 {
@@ -184,9 +187,9 @@ fn send_plain(
     requires item { Contains (queue_of problem.now sending.process) sending.item }
     requires plain { is_frozen problem.now sending.item ≡ false }
     requires active { item_active problem.now scenario.now.values (item_at problem.now sending.item) ≡ true }
-    ensures entry { IfOk result (λ r. (before ends : List Literal) → IsCubeOf problem.now.faults before queue.old
+    ensures entry { IfOk result (λ r. (queued ends : List Literal) → IsCubeOf problem.now.faults queued queue.old
         → IsCubeOf problem.now.faults ends end.now
-        → IsKeptOf problem.now scenario.now time (send_after problem.now scenario.now sending.item before ends) r) }
+        → IsEntryOf problem.now scenario.now time (send_after problem.now scenario.now sending.item queued ends) r) }
     ensures queue { OnOk result ((ends : List Literal) → IsCubeOf problem.now.faults ends end.now
         → Within (decided problem.now scenario.now sending.process) ends
         → IsNarrowed problem.now.faults (queued_after problem.now scenario.now sending.item ends) queue.old queue.new) }
@@ -200,8 +203,8 @@ fn send_plain(
 }
 
 /// Returns the entry of an item in a scenario, or `None` if it isn't sent there or the scenario isn't the least of the
-/// entry's cube. `end` is the cube of what is carried at the end of the process, if it is active. Narrows the cube of what
-/// the queue leaves by what the item leaves.
+/// entry's cube. `times` has the times of the scenario's run. `end` is the cube of what is carried at the end of the
+/// process, if it is active. Narrows the cube of what the queue leaves by what the item leaves.
 fn send_in(
     alloc: Global,
     admitted: &Admitted,
@@ -216,10 +219,10 @@ fn send_in(
     requires item { Contains (queue_of admitted.now.graph sending.process) sending.item }
     requires process_active { IsTimedIfActive admitted.now.graph scenario.now times.now sending.process }
     requires item_active { IsTimedIfActive admitted.now.graph scenario.now times.now sending.item }
-    ensures entry { IfOk result (λ r. (before ends : List Literal) → IsCubeOf admitted.now.graph.faults before queue.old
+    ensures entry { IfOk result (λ r. (queued ends : List Literal) → IsCubeOf admitted.now.graph.faults queued queue.old
         → IsEndOf admitted.now.graph scenario.now sending.process ends end.now
-        → IsKeptAt admitted.now.graph scenario.now (get_or times.now.times sending.item None)
-        (send_after admitted.now.graph scenario.now sending.item before ends) r) }
+        → IsEntryAt admitted.now.graph scenario.now (get_or times.now.times sending.item None)
+        (send_after admitted.now.graph scenario.now sending.item queued ends) r) }
     ensures queue { OnOk result ((ends : List Literal) → IsEndOf admitted.now.graph scenario.now sending.process ends end.now
         → IsNarrowed admitted.now.graph.faults
         (queued_after admitted.now.graph scenario.now sending.item ends) queue.old queue.new) }
@@ -239,8 +242,10 @@ fn send_in(
     Ok(entry)
 }
 
-/// Returns the entries of an item that a process sends, each found in the least scenario of its cube. Narrows for each
-/// scenario the cube of what the queue leaves by what the item leaves. Only the contract names `rows`.
+/// Returns the columns of an item that a process sends before they are merged, its entries: each is found in the least
+/// scenario of its cube. `ends` has for each scenario the cube of what is carried at the end of the process. `queue` has for
+/// each the cube of what the items before this one leave, which is narrowed by what this one leaves. Only the contract
+/// names `rows`.
 pub(crate) fn send_entries(
     alloc: Global,
     listed: &Listed<'_>,
@@ -304,7 +309,8 @@ fn frozen_end(
     Ok(cube)
 }
 
-/// Returns for each scenario the cube of what is carried at the end of a frozen process.
+/// Returns for each scenario the cube of what is carried at the end of a frozen process: what decides the process, and its
+/// fault count.
 pub(crate) fn frozen_ends(
     alloc: Global,
     admitted: &Admitted,

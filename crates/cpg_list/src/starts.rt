@@ -1,4 +1,5 @@
-//! The entries of starts, and what a node carries on from its processes.
+//! The entries of starts, which are the columns of their rows before they are merged, and what a node carries on from its
+//! processes.
 ghost use Rattle.std.specs.Prelude.{◌≡◌, ◌<◌, List, IfOk, OnOk};
 ghost use Rattle.cpg_base.specs.Graph.{process_count};
 ghost use Rattle.cpg_base.specs.Scenario.{IsScenario};
@@ -9,7 +10,7 @@ ghost use Rattle.cpg_run.specs.Rows.{IsCubeOf};
 ghost use Rattle.cpg_list.specs.Frames.{HasDecided, IsNarrowedIn, IsPassedIn, IsStartIn, IsStartOf, TellsDeciding, TellsInputs, received_at_start};
 ghost use Rattle.cpg_list.specs.Learning.{AreDeciding, IsTimedIfActive};
 ghost use Rattle.cpg_list.specs.Listed.{HasEntries, HasPassed, HasPassedBy, IsListed, RowsTell, graph_of};
-ghost use Rattle.cpg_list.specs.Narrowing.{IsKeptOf};
+ghost use Rattle.cpg_list.specs.Narrowing.{IsEntryOf};
 
 use crate::cubes::narrow_to_number;
 use crate::learning::{Frames, deciding, narrow_by_decided, narrow_by_heard, narrow_by_received};
@@ -23,7 +24,7 @@ use cpg_rules::Admitted;
 use std::alloc::Global;
 
 /// Returns the entry of the start of a frozen process at `time`: only what decides the process is carried there. `None`
-/// exactly if the scenario isn't the least of the entry's cube.
+/// exactly if the scenario isn't the least of the entry's cube. `conditions` are those that decide the process.
 fn frozen_start(
     alloc: Global,
     problem: &Problem,
@@ -34,7 +35,7 @@ fn frozen_start(
 ) -> Result<Option<Column>, OutOfMemory>
     requires scenario { IsScenario problem.now scenario.now }
     requires conditions { AreDeciding problem.now scenario.now process conditions.now }
-    ensures { IfOk result (IsKeptOf problem.now scenario.now time (decided problem.now scenario.now process)) }
+    ensures { IfOk result (IsEntryOf problem.now scenario.now time (decided problem.now scenario.now process)) }
 {
     let mut cube = Cube::whole(alloc);
     narrow_by_decided(alloc, problem, scenario, process, conditions, &mut cube)?;
@@ -42,9 +43,10 @@ fn frozen_start(
     Ok(entry)
 }
 
-/// Returns the entry of the start of an active process at `time`, or `None` if the scenario isn't the least of its cube.
-/// `cube` is that of what the node has carried on and learnt of what decides the process. Unless the process is frozen, it
-/// is narrowed by what the messages to the process told.
+/// Returns the entry of the start of an active process at `time`, or `None` if the scenario isn't the least of the entry's
+/// cube. `conditions` are those that decide the process. `cube` is that of what the node has carried on and learnt of what
+/// decides the process. Unless the process is frozen, it is narrowed by what the messages to the process told. `hints` says
+/// where the search of a row begins.
 fn started(
     alloc: Global,
     frames: &Frames<'_>,
@@ -73,9 +75,9 @@ fn started(
     Ok(entry)
 }
 
-/// Returns the entry of the start of a process in a scenario, or `None` if the process is inactive or the scenario isn't
-/// the least of the entry's cube. `cube` is that of what the node carries on from earlier processes, and is narrowed by
-/// what it carries on from this one. `hints` says where the search of a row begins.
+/// Returns the entry of the start of a process in the scenario of `frames`, or `None` if the process is inactive or the
+/// scenario isn't the least of the entry's cube. `cube` is that of what the node carries on from earlier processes, and is
+/// narrowed by what it carries on from this one. `hints` says where the search of a row begins.
 fn start_in(
     alloc: Global,
     admitted: &Admitted,
@@ -112,9 +114,9 @@ fn start_in(
     Ok(entry)
 }
 
-/// Returns the entries of the start of a process, each found in the least scenario of its cube. `known` has for each
-/// scenario the cube of what the node carries on from earlier processes, and is narrowed by what it carries on from this
-/// one.
+/// Returns the columns of the start of a process before they are merged, its entries: each is found in the least scenario of
+/// its cube. `rows` has the rows of the items from earlier processes. `known` has for each scenario the cube of what the node
+/// carries on from earlier processes, and is narrowed by what it carries on from this one.
 pub(crate) fn start_entries(
     alloc: Global,
     listed: &Listed<'_>,

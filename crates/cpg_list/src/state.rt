@@ -1,4 +1,4 @@
-//! What nodes carry on, as a cube for each scenario.
+//! A cube for each scenario, such as that of what a node carries on, or of what the items in its queue leave.
 ghost use Rattle.std.specs.Prelude.{◌≡◌, [], IfOk, replicate, length};
 
 use cpg_base::{OutOfMemory, Problem};
@@ -9,7 +9,7 @@ use std::marker::Model;
 /// A cube for each scenario, in the order of the scenarios.
 #[derive(Drop)]
 pub(crate) struct Cubes {
-    /// The cube of each scenario.
+    /// The cube of each scenario, in their order.
     pub(crate) cubes: Vec<Cube>,
 }
 
@@ -36,7 +36,8 @@ impl Cubes {
     }
 }
 
-/// Returns for each node of a graph `count` cubes that match every scenario: at first a node carries nothing on.
+/// Returns for each node of a graph `count` cubes that match every scenario, one for each scenario: at first a node carries
+/// nothing on, and its queue leaves nothing.
 pub(crate) fn whole_by_node(
     alloc: Global,
     problem: &Problem,

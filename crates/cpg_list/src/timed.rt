@@ -43,7 +43,7 @@ impl Model for TimedRow {
     ghost invariant = { λ r. IsTimeOrder r.columns.items r.by_time.items };
 }
 
-/// Returns the first place of `by_time` whose time is at least `time`, or its length if there is none.
+/// Returns the first place of `by_time` whose time is at least `time`, or the length of `by_time` if there is none.
 fn first_at(by_time: &[TimedColumn], time: u64) -> usize
     requires { (i j : ℕ) (d : TimedColumn) → i ≤ j → j < length by_time.now → (get_or by_time.now i d).time ≤ (get_or by_time.now j d).time }
     ensures { StartsAt by_time.now time result }
@@ -95,7 +95,8 @@ impl Hints {
     }
 }
 
-/// Whether there is a column at a place that has this time and matches in a scenario.
+/// Whether there is a column at a place that has this time and matches in a scenario. The contract says only that true is
+/// right: after a wrong false the column would be found by its time.
 fn is_hit(columns: &[Column], place: usize, time: u64, scenario: &Scenario) -> bool
     ensures { IsTrue result → FindsHit columns.now time scenario.now (Some place) }
 {
@@ -106,6 +107,7 @@ fn is_hit(columns: &[Column], place: usize, time: u64, scenario: &Scenario) -> b
 }
 
 /// Returns the place of a column that has this time and matches in a scenario, and `None` exactly if there is none.
+/// `by_time` has the time and the place of each column, the earlier times first.
 fn hit(columns: &[Column], by_time: &[TimedColumn], time: u64, scenario: &Scenario) -> Option<usize>
     requires { IsTimeOrder columns.now by_time.now }
     ensures { FindsHit columns.now time scenario.now result }
@@ -113,7 +115,7 @@ fn hit(columns: &[Column], by_time: &[TimedColumn], time: u64, scenario: &Scenar
     let first = first_at(by_time, time);
     for at in first..by_time.len() {
         let timed = by_time[at];
-        // the entries of one time follow each other, so all of this time are tried by now
+        // the columns of one time follow each other in `by_time`, so all of this time are tried by now
         if timed.time != time {
             return None;
         }
@@ -125,7 +127,7 @@ fn hit(columns: &[Column], by_time: &[TimedColumn], time: u64, scenario: &Scenar
 }
 
 impl TimedRow {
-    /// Returns the row of an item with these columns.
+    /// Returns the row of the item with the number `item`, with these columns.
     pub(crate) fn new(
         alloc: Global,
         item: u32,
@@ -149,7 +151,8 @@ impl TimedRow {
     }
 
     /// Returns the place of a column that has this time and matches in a scenario, and `None` exactly if there is none. It
-    /// tries the columns from a likely place on first, since scenarios that follow each other mostly match columns that do.
+    /// tries some columns from the place `likely` on first, since scenarios that follow each other mostly match columns that
+    /// do. Any place may be given.
     pub(crate) fn find(&self, time: u64, scenario: &Scenario, likely: usize) -> Option<usize>
         ensures { FindsHit self.now.columns time scenario.now result }
     {

@@ -1,4 +1,4 @@
--- A follower along its stream.
+-- A follower along its stream: after each piece it is along it still, or the stream breaks, and how.
 use Rattle.std.proofs.Common.{◌≡◌, ℕ, ◌+◌, ◌<◌, ◌≤◌, ◌-◌, ◌||◌, List, [], ◌∷◌, ◌++◌, true, false, true≢false, length}
 use Rattle.std.proofs.Common.{take, drop, Some, None, refl, sym, ap, ap₂, ◌∙◌, subst, arith}
 use Rattle.std.specs.Prelude.{IfErr, IfOk, Result, Ok, Err, MatchResult, OnErr, OnOk, is_err}
@@ -48,7 +48,7 @@ pub record IsFed (name : List ℕ) (past rest : List Fetch) (start now : List �
   -- the lines of all acts are these and those of the acts from `from` on
   pub lines : act_lines h live.progress.acts ≡ act_lines h before ++ act_lines h (drop from live.progress.acts)
 
--- more bytes of a stream only add acts
+-- state `t`, after a piece more than state `s`, has the acts of `s`, and perhaps more after them
 acts_grow : (table : NodeTable) (fed piece : List ℕ) (s t : LiveState) → s ≡ after table fed →
     t ≡ after table (fed ++ piece) →
     Grows s.progress.acts t.progress.acts
@@ -61,9 +61,9 @@ abbrev pub grown_by : List ℕ → Fetch → Fetch
 grown_by piece f =
     record { name = f.name; given = f.given ++ piece; ended = is_none piece || f.ended; failed = f.failed }
 
--- a follower along its stream that takes a piece has been fed it, and the piece's lines are still to be written: the
--- fetch has grown by the piece, the state is the one after all bytes, and the acts that the piece added come behind
--- those that were told
+-- A follower `f` along its stream that takes a piece, and becomes `g`, has been fed it, and the piece's lines are still
+-- to be written. The fetch has grown by the piece, the state is the one after all bytes, and the acts that the piece
+-- added come behind those that were told.
 pub fed_on : (name : List ℕ) (past : List Fetch) (shelf rest : ShelfState) (count : ℕ) (start now : List ℕ)
     (f g : Follower) →
     IsAlong name past shelf.history start now f →
@@ -92,7 +92,7 @@ no_bytes : (piece : List ℕ) → length piece ≡ 0 → is_none piece ≡ true
 no_bytes [] e = refl
 no_bytes (b ∷ bs) e = absurd (omega (arith, e))
 
--- if the piece has no bytes, the stream has come to its end
+-- if the piece that leads from follower `f` to `g` has no bytes, the stream has come to its end
 pub fed_end : (name : List ℕ) (past : List Fetch) (shelf rest : ShelfState) (count : ℕ) (start now : List ℕ)
     (f g : Follower) (a : IsAlong name past shelf.history start now f)
     (t : TakesPiece shelf rest f g count) → count ≡ 0 →
@@ -155,12 +155,12 @@ module _ (name : List ℕ) (past rest : List Fetch) (start now out : List ℕ) (
 
 -- ---- what is written
 
--- what holds if a result is an error holds of one that is
+-- if `P` holds in case `r` is an error, and `r` is one, then `P` holds
 pub on_err : {T E : Type 0} {P : Type 0} (r : Result T E) → is_err r ≡ true → OnErr r P → P
 on_err (Ok x) e p = absurd (true≢false (sym e))
 on_err (Err x) e p = p
 
--- what holds if a result is no error holds of one that is none
+-- if `P` holds in case `r` is no error, and `r` is none, then `P` holds
 pub on_ok : {T E : Type 0} {P : Type 0} (r : Result T E) → is_err r ≡ false → OnOk r P → P
 on_ok (Ok x) e p = p
 on_ok (Err x) e p = absurd (true≢false e)
@@ -173,7 +173,7 @@ rest_few told acts = omega (arith, length-take (length acts - told) (drop told a
 rest_is : (told : ℕ) (acts : List Act) → take (length acts - told) (drop told acts) ≡ drop told acts
 rest_is told acts = take_all (length acts - told) (drop told acts) (omega (arith, length-drop told acts))
 
--- the lines of the acts that aren't told are what is appended to an empty list
+-- the lines of the acts that aren't told yet, those from `told` on, are what is appended to an empty list (`clear`)
 pub told_lines : (h k : Head) (acts done : List Act) (told : ℕ) (clear items : List ℕ) →
     items ≡ clear ++ act_lines k (take (length acts - told) (drop told acts)) → clear ≡ [] → k ≡ h → acts ≡ done →
     items ≡ act_lines h (drop told done)
@@ -182,12 +182,12 @@ told_lines h k acts done told clear items e none same a =
     ∙ ap (act_lines k) (rest_is told acts) ∙
     ap₂ (λ (h : Head) (acts : List Act). act_lines h (drop told acts)) same a
 
--- the lines of the acts that aren't told are the same by the follower before a piece and after it
+-- the lines of the acts that aren't told are the same by the follower `f` before a piece and by `n` after it
 pub lines_told : (shelf rest : ShelfState) (f n : Follower) (count : ℕ) → TakesPiece shelf rest f n count →
     act_lines n.head (drop n.told n.live.progress.acts) ≡ act_lines f.head (drop f.told n.live.progress.acts)
 lines_told shelf rest f n count t = ap (λ (f : Follower). act_lines f.head (drop f.told n.live.progress.acts)) t.state
 
--- the follower after a piece, once it has told all its acts
+-- the follower `n` after a piece, once it has told all its acts, is `s`: of `f` it keeps the head and the table
 pub told_as : (shelf rest : ShelfState) (f n s : Follower) (count : ℕ) → TakesPiece shelf rest f n count →
     s ≡ record n { told = length n.live.progress.acts } →
     record { head = f.head; table = f.table; live = n.live; told = length n.live.progress.acts; read = n.read } ≡ s
@@ -199,8 +199,9 @@ told_as shelf rest f n s count t e = sym (e ∙ ap (λ (f : Follower). record {
   read = n.read;
 }) t.state)
 
--- a piece was fed, and all its lines are written: `fed_on` and `fed_along`, and if the piece is empty, the stream has
--- ended
+-- If follower `f` is along the stream, is `n` after a piece of `count` bytes, which leaves the shelf as `rest`, and is `s`
+-- once the lines of the piece are written, then `s` is along the stream too; and if the piece is empty, the stream has
+-- ended. The sink had taken `start` before the stream, `now` before these lines and `out` after them.
 pub along_at : (name : List ℕ) (past : List Fetch) (shelf rest : ShelfState) (count : ℕ) (start now out : List ℕ)
     (f n s : Follower) (a : IsAlong name past shelf.history start now f)
     (t : TakesPiece shelf rest f n count) → n.live.lawless ≡ None → n.read ≤ STREAM_LIMIT →
@@ -214,7 +215,8 @@ along_at name past shelf rest count start now out f n s a t none within whole e 
     subst (IsAlongAt count name past rest.history start out) (told_as shelf rest f n s count t e)
     (record { along = along; end = fed_end name past shelf rest count start now f n a t })
 
--- the follower made of an equal head and table, and of the state before the first byte, is the open one
+-- the follower made of a head `k` and a table `made`, which equal `h` and `table`, and of the state before the first
+-- byte, is the open one
 pub opened : (h k : Head) (table made : NodeTable) (live : LiveState) → k ≡ h → made ≡ table → live ≡ open_stream made →
     record { head = k; table = live.progress.dispatcher.table; live = live; told = 0; read = 0 } ≡ open_follower h table
 opened h k table made live same is e =
@@ -232,8 +234,8 @@ opened h k table made live same is e =
 abbrev pub broken_off : Fetch → Fetch
 broken_off f = record { name = f.name; given = f.given; ended = f.ended; failed = true }
 
--- if the shelf meets a fault after some pieces, the stream breaks there, with the lines so far: the fetch is broken off
--- where it was, and the lines that were written are those of all acts so far
+-- if the shelf meets a fault after some pieces, the stream of follower `f` breaks there, with the lines so far: the
+-- fetch is broken off where it was, and the lines that were written are those of all acts so far
 pub unread : (name : List ℕ) (past history rest : List Fetch) (start now : List ℕ) (f : Follower) (out : SinkState) →
     (a : IsAlong name past history start now f) →
     rest ≡ failed history →
@@ -360,11 +362,17 @@ from_first Is name past history start first old new kept b = record {
   fetch = b.fetch;
   named = b.named;
   history_is = b.history_is;
-  is = subst (λ n. Is (record { fetch = b.fetch; before = n; now = new.faults; old = start; new = new.taken })) kept
-      b.is;
+  is = subst (λ n. Is (record {
+    fetch = b.fetch;
+    faults_before = n;
+    faults_after = new.faults;
+    taken_before = start;
+    taken_after = new.taken;
+  })) kept b.is;
 }
 
--- how the stream of an equal head and table breaks is how it breaks in the run, from an earlier state of the sink on
+-- how the stream of follower `n`, with the head and table of `f`, breaks is how that of `f` breaks, from an earlier
+-- state of the sink, `first`, on
 pub breaks_on : (f n : Follower) (name : List ℕ) (past history : List Fetch) (start : List ℕ)
     (first old new : SinkState) (broken : Broken) → IsOfSame f n →
     old.faults ≡ first.faults →
@@ -375,7 +383,8 @@ breaks_on f n name past history start first old new broken same kept b =
     (subst (λ h. IsStreamed (λ s. Breaks h f.table s broken) name past history start old new) same.head
     (subst (λ table. IsStreamed (λ s. Breaks n.head table s broken) name past history start old new) same.table b))
 
--- a stream that an equal follower completes from a later state of the sink on is completed in the run
+-- a stream that follower `n`, with the head and table of `f`, completes from a later state of the sink on is completed
+-- by `f` from the state `first` on
 pub completes_on : (f n : Follower) (name : List ℕ) (past history : List Fetch) (start : List ℕ)
     (first old new : SinkState) → IsOfSame f n →
     old.faults ≡ first.faults →
@@ -401,12 +410,12 @@ end_of_all f n name past history start now first old new (Err broken) same kept 
     breaks_on f n name past history start first old new broken same kept
     (ended_broken name past history start now n at.along (at.end refl) old new broken closes)
 
--- if each answer of a run has its meaning, success has that of success
+-- if result `r` has the meaning `P` of a success or `Q` of an error, a success has the meaning `P`
 pub on_match_ok : {T E : Type 0} (P : T → Type 0) (Q : E → Type 0) (r : Result T E) → MatchResult r P Q → IfOk r P
 on_match_ok P Q (Ok x) p = p
 on_match_ok P Q (Err e) p = tt
 
--- if each answer of a run has its meaning, an error has that of errors
+-- if result `r` has the meaning `P` of a success or `Q` of an error, an error has the meaning `Q`
 pub on_match_err : {T E : Type 0} (P : T → Type 0) (Q : E → Type 0) (r : Result T E) → MatchResult r P Q → IfErr r Q
 on_match_err P Q (Ok x) p = tt
 on_match_err P Q (Err e) p = p

@@ -13,11 +13,12 @@ use Rattle.cpg_live.specs.declared.lawless.Defect.TheVariants.{Length, Order, Fr
 use Rattle.cpg_live.specs.declared.event.Event.{Event}
 use Rattle.cpg_live.specs.declared.event.Event.TheVariants.{Frame as Arrival, End as Ending, Close}
 use Rattle.cpg_live.specs.Records.{cut, record_of, event_of}
-use Rattle.cpg_live.specs.Stream.{NodeProgress, LiveState, start, faulty, lawful, instant_below, turn_if, turn_below}
+use Rattle.cpg_live.specs.Stream.{NodeProgress, LiveState, start, lawless, lawful, instant_below, turn_if, turn_below}
 use Rattle.cpg_live.specs.Stream.{turns_below, turned, may_end, ended, step, refused, settled, stepped, judged}
 use Rattle.cpg_live.specs.Stream.{take_record, open_stream, with_rest, after}
 use Rattle.cpg_live.proofs.Turns.{found_is}
 
+-- given a node's table, and the most acts that it may have
 module _ (table : NodeTable) (most : ℕ) where
   -- the acts so far and the entries of the table that are left are together at most `most`
   record HasFew (p : NodeProgress) : Type 0 where
@@ -41,7 +42,7 @@ module _ (table : NodeTable) (most : ℕ) where
         );
       }
 
-  -- up to n turns keep the bound, as each does
+  -- up to `n` turns of node `p` keep the bound, as each does
   turns_few : (n limit : ℕ) (p : NodeProgress) → HasFew p → HasFew (turns_below n limit p)
   unfolding turns_below
   turns_few zero limit p h = h
@@ -57,7 +58,7 @@ module _ (table : NodeTable) (most : ℕ) where
     where
       -- by whether the frame is strange
       go : (b : Bool) → HasFew (turned time p) →
-          HasFew (cond b (faulty (turned time p) StrangeFrame)
+          HasFew (cond b (lawless (turned time p) StrangeFrame)
           (lawful (record (turned time p) { dispatcher = hear (turned time p).dispatcher f }))).progress
       go true w = w
       go false w = record { same = w.same; few = w.few }
@@ -71,7 +72,7 @@ module _ (table : NodeTable) (most : ℕ) where
           -- by whether the process may end with this report
           told : (b : Bool) →
               HasFew (cond b (lawful (record (turned time p) { dispatcher = finished (turned time p).dispatcher e }))
-              (faulty (turned time p) FalseEnd)).progress
+              (lawless (turned time p) FalseEnd)).progress
           told true = record { same = w.same; few = w.few }
           told false = w
   step_few time Close p h = turned_few (time + 1) p h
@@ -98,7 +99,7 @@ module _ (table : NodeTable) (most : ℕ) where
   record_few : (s : LiveState) (bytes : List ℕ) → HasFew s.progress → HasFew (take_record s bytes).progress
   record_few s bytes h = go (is_some s.lawless) s.closed
     where
-      -- by whether a record was lawless, and whether the stream is closed
+      -- by `b`, whether a record was lawless, and `c`, whether the stream is closed
       go : (b c : Bool) →
           HasFew (cond b s (cond c (refused s Length)
           (judged s (record_of bytes).time (event_of s.progress.dispatcher.table (record_of bytes))))).progress
@@ -106,7 +107,7 @@ module _ (table : NodeTable) (most : ℕ) where
       go false true = h
       go false false = judged_few s (record_of bytes).time (event_of s.progress.dispatcher.table (record_of bytes)) h
 
-  -- records keep the bound, one after another
+  -- records `rs`, taken one after another, keep the bound
   records_few : (s : LiveState) (rs : List (List ℕ)) → HasFew s.progress → HasFew (fold take_record s rs).progress
   records_few s [] h = h
   records_few s (r ∷ rs) h = records_few (take_record s r) rs (record_few s r h)
@@ -115,7 +116,7 @@ module _ (table : NodeTable) (most : ℕ) where
   rest_few : (s : LiveState) (rest : List ℕ) → HasFew s.progress → HasFew (with_rest s rest).progress
   rest_few s rest h = go (is_some s.lawless) (s.closed && nat_lt 0 (length rest))
     where
-      -- by whether a record was lawless, and whether a byte comes after the close
+      -- by `b`, whether a record was lawless, and `c`, whether a byte comes after the close
       go : (b c : Bool) → HasFew (cond b s (cond c (refused s Length) (record s { rest = rest }))).progress
       go true c = h
       go false true = h

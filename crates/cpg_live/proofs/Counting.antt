@@ -53,23 +53,25 @@ bytes_counted c [] count h = subst (IsCounted c) (omega arith) h
 bytes_counted c (byte ∷ bytes) count h = subst (IsCounted (fold cut_byte (cut_byte c byte) bytes)) (omega arith)
     (bytes_counted (cut_byte c byte) bytes (count + 1) (byte_counted c byte count h))
 
--- bytes are cut into whole records and less than one more
+-- all bytes of a stream are cut into whole records, and less than a record is left
 pub cut_counted : (bytes : List ℕ) → IsCounted (cut bytes) (length bytes)
 cut_counted bytes = subst (IsCounted (cut bytes)) (omega arith)
     (bytes_counted (record { whole = []; rest = [] }) bytes 0 (record { part = omega arith; all = omega arith }))
 
 -- ---- records that are lawful
 
--- the stream was lawful before a record (s), and the record is counted (t)
+-- a record that leads from state `s` to `t` is taken
 record IsTaken (s t : LiveState) : Type 0 where
+  -- no record before it was lawless
   lawful : s.lawless ≡ None
+  -- it is counted, up to the greatest number
   taken : t.taken ≡ min (s.taken + 1) (2 ^ 64 - 1)
 
 -- a state in which a record was refused has a lawless record
 refused_not : (s : LiveState) (defect : Defect) → (refused s defect).lawless ≡ None → ⊥
 refused_not s defect e = true≢false (ap is_some e)
 
--- a record that leaves the stream lawful is counted
+-- if `s` and `t` agree in the lawless record and in the count, a record that leaves the stream lawful is counted
 settled_taken : (s t : LiveState) (time : ℕ) (event : Event) (defect : Option Defect) → t.lawless ≡ s.lawless →
     t.taken ≡ s.taken →
     (settled t time event defect).lawless ≡ None →
@@ -95,7 +97,7 @@ judged_taken s time (Some event) e = go (nat_lt time s.time) e
 record_taken : (s : LiveState) (bytes : List ℕ) → (take_record s bytes).lawless ≡ None → IsTaken s (take_record s bytes)
 record_taken s bytes e = go (is_some s.lawless) s.closed refl e
   where
-    -- by whether a record was lawless before, and whether the stream is closed
+    -- by `b`, whether a record was lawless before, and `c`, whether the stream is closed
     go : (b c : Bool) → is_some s.lawless ≡ b →
         (cond b s (cond c (refused s Length)
         (judged s (record_of bytes).time (event_of s.progress.dispatcher.table (record_of bytes))))).lawless ≡ None →
@@ -106,12 +108,12 @@ record_taken s bytes e = go (is_some s.lawless) s.closed refl e
     go false false some e =
         judged_taken s (record_of bytes).time (event_of s.progress.dispatcher.table (record_of bytes)) e
 
--- if a stream is lawful after records, it was lawful before them
+-- if a stream `s` is lawful after records `rs`, it was lawful before them
 records_lawful : (s : LiveState) (rs : List (List ℕ)) → (fold take_record s rs).lawless ≡ None → s.lawless ≡ None
 records_lawful s [] e = e
 records_lawful s (r ∷ rs) e = (record_taken s r (records_lawful (take_record s r) rs e)).lawful
 
--- records that leave the stream lawful are all counted
+-- records `rs` that leave a stream `s` lawful are all counted, up to the greatest number
 records_taken : (s : LiveState) (rs : List (List ℕ)) → s.taken ≤ 2 ^ 64 - 1 → (fold take_record s rs).lawless ≡ None →
     (fold take_record s rs).taken ≡ min (s.taken + length rs) (2 ^ 64 - 1)
 records_taken s [] l e = omega (arith, l)
@@ -123,8 +125,11 @@ records_taken s (r ∷ rs) l e =
 
 -- bytes of a next record come only to an open stream
 record HasRest (s t : LiveState) (rest : List ℕ) : Type 0 where
+  -- no record was lawless
   lawful : s.lawless ≡ None
+  -- the rest takes no record
   taken : t.taken ≡ s.taken
+  -- if the rest has bytes, the stream isn't closed
   open_still : 0 < length rest → t.closed ≡ false
 
 -- a rest after which no record is lawless was kept, and the stream wasn't closed if it has bytes; if it was closed,
@@ -166,7 +171,9 @@ rest_taken s rest e = go (is_some s.lawless) refl e
 
 -- of lawful bytes that end within a record, each whole record is counted, and none is a close
 pub record IsWithinRecord (s : LiveState) (records : ℕ) : Type 0 where
+  -- each whole record is counted
   pub taken : s.taken ≡ records
+  -- the stream isn't closed
   pub not_closed : s.closed ≡ false
 
 -- after lawful bytes that end within a record, each whole record is counted and none is a close: the bytes are cut into

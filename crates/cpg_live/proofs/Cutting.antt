@@ -18,8 +18,7 @@ use Rattle.cpg_live.specs.Stream.{with_rest, after_cut}
 use Rattle.cpg_live.specs.Feeding.{take_open, take_byte, take_bytes}
 use Rattle.cpg_live.specs.Laws.{Feeds}
 
--- No byte of a next record is held; taking records keeps this.
-
+-- No byte of a next record is held. Taking records keeps this.
 abbrev IsEmpty : LiveState → Type 0
 IsEmpty s = s.rest ≡ []
 
@@ -44,7 +43,7 @@ judged_empty s time (Some event) e = go (nat_lt time s.time)
 record_empty : (s : LiveState) (bytes : List ℕ) → IsEmpty s → IsEmpty (take_record s bytes)
 record_empty s bytes e = go (is_some s.lawless) s.closed
   where
-    -- by whether a record was lawless, and whether the stream is closed
+    -- by `b`, whether a record was lawless, and `c`, whether the stream is closed
     go : (b c : Bool) →
         IsEmpty (cond b s (cond c (refused s Length)
         (judged s (record_of bytes).time (event_of s.progress.dispatcher.table (record_of bytes)))))
@@ -52,7 +51,7 @@ record_empty s bytes e = go (is_some s.lawless) s.closed
     go false true = e
     go false false = judged_empty s (record_of bytes).time (event_of s.progress.dispatcher.table (record_of bytes)) e
 
--- taking records one after another leaves an empty rest empty
+-- if a stream `s` has no rest, it has none after the records `rs` are taken
 records_empty : (s : LiveState) (rs : List (List ℕ)) → IsEmpty s → IsEmpty (fold take_record s rs)
 records_empty s [] e = e
 records_empty s (r ∷ rs) e = records_empty (take_record s r) rs (record_empty s r e)
@@ -63,7 +62,7 @@ records_empty s (r ∷ rs) e = records_empty (take_record s r) rs (record_empty 
 no_rest : (s : LiveState) → IsEmpty s → with_rest s [] ≡ s
 no_rest s e = go (is_some s.lawless) s.closed
   where
-    -- by whether a record was lawless, and whether the stream is closed
+    -- by `b`, whether a record was lawless, and `c`, whether the stream is closed
     go : (b c : Bool) → cond b s (cond (c && nat_lt 0 0) (refused s Length) (record s { rest = [] })) ≡ s
     go true c = refl
     go false true = ap (λ (r : List ℕ). record s { rest = r }) (sym e)
@@ -146,6 +145,7 @@ open_byte s rest byte e n c =
     cond b (refused (record s { rest = rest }) Length) (take_open (record s { rest = rest }) (rest ++ byte ∷ []))) c
     ∙ both (length (rest ++ byte ∷ []) == 14)
   where
+    -- an open, lawful stream holds a rest `r` as it is
     held : (r : List ℕ) → with_rest s r ≡ record s { rest = r }
     held r = ap (λ b. cond b s (cond (s.closed && nat_lt 0 (length r)) (refused s Length) (record s { rest = r })))
         (ap is_some n)

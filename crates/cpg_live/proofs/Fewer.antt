@@ -1,15 +1,14 @@
--- A node that takes no more turns than it must does the same.
+-- A node that takes no more turns than it must does the same on each stream, as the turns that it leaves out change
+-- nothing but its last instant.
 use Rattle.std.proofs.Common.{◌≡◌, ◌≢◌, ℕ, zero, suc, ◌+◌, ◌≤◌, Bool, true, false, cond, ◌&&◌, ◌==◌, List, [], ◌∷◌}
 use Rattle.std.proofs.Common.{◌++◌, length, filter, fold, get_or, Contains, Option, Some, None, refl, sym, ap}
-use Rattle.std.proofs.Common.{◌∙◌, subst, arith, inl, inr, ◌⊎◌, true≢false, lt-ltb, ltb-true, leb-true, eqb-true}
-use Rattle.std.proofs.Common.{eq-eqb, ne_eqb, append-nil}
+use Rattle.std.proofs.Common.{◌∙◌, subst, arith, inl, inr, ◌⊎◌, true≢false, lt-ltb, ltb-true, leb-true, eqb-true, eq-eqb, ne_eqb, append-nil}
 use Rattle.std.specs.Prelude.{All, IfSome, is_some, is_none, nat_lt, nat_le, replicate}
 use Rattle.std.proofs.lemmas.List.{length-replicate}
 use Rattle.std.specs.List.{flat_map, list_any}
 use Rattle.std.proofs.lemmas.Bool.{and_parts, cases_eq, cases_lt, cases_Bool, cond-true, cond-false, ltb-false}
 use Rattle.std.proofs.lemmas.Option.{none-some, same_Some}
-use Rattle.std.proofs.lemmas.List.Elements.{All-cons, All-head, All-tail, All-nil, Contains-append_left}
-use Rattle.std.proofs.lemmas.List.Elements.{Contains-append_right, Contains-append_cases}
+use Rattle.std.proofs.lemmas.List.Elements.{All-cons, All-head, All-tail, All-nil, Contains-append_left, Contains-append_right, Contains-append_cases}
 use Rattle.cpg_base.proofs.Lists.{Contains-first, Contains-rest, Contains-cases, Contains-nil, Contains-filter}
 use Rattle.cpg_base.proofs.Lists.{Contains-filter_parts, list_any_parts, from_any_false, same_truth}
 use Rattle.cpg_table.specs.Table.{NodeTable}
@@ -31,24 +30,23 @@ use Rattle.cpg_live.specs.declared.lawless.Defect.TheVariants.{Length, Kind, Ord
 use Rattle.cpg_live.specs.declared.lawless.Defect.TheVariants.{End as FalseEnd}
 use Rattle.cpg_live.specs.Records.{cut, record_of, event_of}
 use Rattle.cpg_live.specs.Stream.{NodeProgress, Step, LiveState, take_turn, instant_below, turn_if, turns_below, turned}
-use Rattle.cpg_live.specs.Stream.{faulty, lawful, may_tell, may_end_now, may_end, arrived, ended, step, refused}
+use Rattle.cpg_live.specs.Stream.{lawless, lawful, may_tell, may_end_now, may_end, arrived, ended, step, refused}
 use Rattle.cpg_live.specs.Stream.{settled, stepped, judged, take_record, with_rest, open_stream, is_close}
 use Rattle.cpg_live.specs.Told.{after_last}
-use Rattle.cpg_live.specs.Fewer.{turns_awaited, turned_fewer, step_fewer, judged_fewer, take_record_fewer, with_last}
-use Rattle.cpg_live.specs.Fewer.{TurnsMayBeLeftOut}
+use Rattle.cpg_live.specs.Fewer.{turns_awaited, turned_fewer, step_fewer, judged_fewer, take_record_fewer, with_last, TurnsMayBeLeftOut}
 use Rattle.cpg_live.proofs.Turns.{floor_after, after_floor, Below, NotBelow, below_or_not, still}
 
--- a candidate after the last turn isn't before the next instant
+-- if candidate `x` is after the last turn of dispatcher `d`, the next instant `y` isn't later than `x`
 candidate_next : (d : Dispatcher) (x : ℕ) → Contains (candidates d) x → is_after d.last x ≡ true →
     (y : ℕ) × (next d ≡ Some y) × (y ≤ x)
 candidate_next d x m a = go (next d) refl
   where
-    -- by the next instant of the node: without one no candidate is after the last turn
+    -- by `o`, the next instant of the node: without one no candidate is after the last turn
     go : (o : Option ℕ) → next d ≡ o → (y : ℕ) × (next d ≡ Some y) × (y ≤ x)
     go None e = absurd (true≢false (sym (next_none d e x m) ∙ not_by d.last x a))
     go (Some y) e = (y, e, (next_is d y e).least x m (not_by d.last x a))
 
--- if no awaited instant is below the limit, no turn is taken
+-- if no awaited instant of node `p` is below the limit, no turn is taken, however many, `n`, might be
 still_fewer : (n limit : ℕ) (p : NodeProgress) → instant_below limit (next_awaited p.dispatcher) ≡ None →
     turns_awaited n limit p ≡ p
 unfolding turns_awaited
@@ -70,7 +68,7 @@ module _ (k : ℕ) where
       go false true = tt
       go false false = h
 
-  -- a report of few faults leaves what runs telling few
+  -- a report `e` of few faults leaves what process `o` runs telling few
   few_report : (e : Ended) → e.faults ≤ k → (o : Own) (run : Option Running) → TellsFew k run →
       TellsFew k (with_report e o run)
   few_report e few o None h = h
@@ -81,7 +79,7 @@ module _ (k : ℕ) where
       go true = few
       go false = h
 
-  -- what keeps each execution telling few faults keeps all of them so
+  -- if a step `f` keeps each execution telling at most `k` faults, it keeps all of them so
   few_zip : (f : Own → Option Running → Option Running) →
       ((o : Own) (run : Option Running) → TellsFew k run → TellsFew k (f o run)) →
       (os : List Own) (runs : List (Option Running)) →
@@ -95,7 +93,7 @@ module _ (k : ℕ) where
 
 -- What a reported end moves.
 
--- a process that is not among a node's own runs nothing
+-- if process `p` isn't among a node's own processes `os`, it runs nothing
 none_in : (p : ℕ) (os : List Own) (runs : List (Option Running)) → ((o : Own) → Contains os o → o.process ≢ p) →
     running_in os runs p ≡ None
 none_in p [] runs h = refl
@@ -117,7 +115,7 @@ abbrev InTime : ℕ → Ended → List Own → List (Option Running) → Type 0
 InTime time e os runs = (run : Running) → running_in os runs e.process ≡ Some run →
     time ≤ run.start + get_or (own_in os e.process).times e.faults 0
 
--- after a report in time, each awaited end was awaited before or is not before the report
+-- after a report `e` in time, each awaited end `x` was awaited before, or isn't before the time of the report
 moved : (k time : ℕ) (e : Ended) (os : List Own) (runs : List (Option Running)) → DoRise os → InTime time e os runs →
     (x : ℕ) → Contains (ends_in k os (zip_with (with_report e) os runs)) x → Contains (ends_in k os runs) x ⊎ (time ≤ x)
 moved k time e [] runs r h x m = absurd (Contains-nil x m)
@@ -137,7 +135,7 @@ moved k time e (o ∷ os) (run ∷ runs) r h x m = go (o.process == e.process) r
     later mine (inl c) = inl (Contains-append_right mine rest x c)
     later mine (inr l) = inr l
 
-    -- what the first process runs after the report
+    -- what the first process, which ran `run`, runs after a report that is its own if `b` holds
     here : (b : Bool) (run : Option Running) → Option Running
     here b None = None
     here b (Some run) = cond b (Some (record { start = run.start; report = Some e })) (Some run)
@@ -202,11 +200,11 @@ moved k time e (o ∷ os) (run ∷ runs) r h x m = go (o.process == e.process) r
 -- One node, with last turn l, takes all turns; the other, with last turn m, leaves out those at instants that it
 -- doesn't await.
 module _ (t : NodeTable) (made : IsTable t) where
-  -- a node with this table
+  -- a node with this table, given what it has heard, its executions and its last turn
   abbrev node : List Range → List (Option Running) → Option ℕ → Dispatcher
   node h r l = record { table = t; heard = h; running = r; last = l }
 
-  -- a node with its acts
+  -- such a node with its acts
   abbrev prog : List Range → List (Option Running) → Option ℕ → List Act → NodeProgress
   prog h r l a = record { dispatcher = node h r l; acts = a }
 
@@ -225,198 +223,219 @@ module _ (t : NodeTable) (made : IsTable t) where
     heard : List Range
     runs : List (Option Running)
     acts : List Act
-    -- their last turns
+    -- their last turns: l of the node that takes all turns, m of the other
     l : Option ℕ
     m : Option ℕ
     -- the two nodes with these fields
     one : P ≡ prog heard runs l acts
     two : Q ≡ prog heard runs m acts
+    -- their last turns make no difference to what they await
     alike : Alike runs l m
     -- both last turns are before the limit
     before : is_after l limit ≡ true
     later : is_after m limit ≡ true
 
-  -- an awaited instant after the one node's last turn is not before the other node's next instant
-  awaited_next : (h : List Range) (r : List (Option Running)) (l m : Option ℕ) → Alike r l m → (x : ℕ) →
-      Contains (awaited (node h r m)) x →
+  -- of two nodes alike, with last turns `l` and `m`, each instant `x` that the one awaits after `m` isn't before the
+  -- next instant `y` of the other
+  awaited_next : (heard : List Range) (runs : List (Option Running)) (l m : Option ℕ) → Alike runs l m → (x : ℕ) →
+      Contains (awaited (node heard runs m)) x →
       is_after m x ≡ true →
-      (y : ℕ) × (next (node h r l) ≡ Some y) × (y ≤ x)
-  awaited_next h r l m a x c z =
-      candidate_next (node h r l) x (awaited_candidates (node h r l) made a.few x c) (a.reached x c ∙ z)
+      (y : ℕ) × (next (node heard runs l) ≡ Some y) × (y ≤ x)
+  awaited_next heard runs l m alike x c z =
+      candidate_next (node heard runs l) x (awaited_candidates (node heard runs l) made alike.few x c)
+      (alike.reached x c ∙ z)
 
   -- if the node of all turns has no instant below a limit, the other has none: an instant that is awaited is no earlier
   -- than the next one of all (`awaited_next`)
-  none_fewer : (h : List Range) (r : List (Option Running)) (l m : Option ℕ) (limit : ℕ) → Alike r l m →
-      NotBelow limit (next (node h r l)) →
-      instant_below limit (next_awaited (node h r m)) ≡ None
-  none_fewer h r l m limit a n = elim (below_or_not limit (next_awaited (node h r m))) [
+  none_fewer : (heard : List Range) (runs : List (Option Running)) (l m : Option ℕ) (limit : ℕ) → Alike runs l m →
+      NotBelow limit (next (node heard runs l)) →
+      instant_below limit (next_awaited (node heard runs m)) ≡ None
+  none_fewer heard runs l m limit alike n = elim (below_or_not limit (next_awaited (node heard runs m))) [
     | inr z ↦ z.none
     | inl b ↦
-        let p = least_of_parts (filter (is_after m) (awaited (node h r m))) b.time b.is in
-        let q = Contains-filter_parts (is_after m) (awaited (node h r m)) b.time p.0 in
-        let y = awaited_next h r l m a b.time q.0 q.1 in
+        let p = least_of_parts (filter (is_after m) (awaited (node heard runs m))) b.time b.is in
+        let q = Contains-filter_parts (is_after m) (awaited (node heard runs m)) b.time p.0 in
+        let y = awaited_next heard runs l m alike b.time q.0 q.1 in
         let past : limit ≤ y.0 = subst (λ o. IfSome o (λ time. limit ≤ time)) y.1 n.past in
         absurd (omega (arith, past, y.2, b.less))
   ]
 
-  -- if its next instant is awaited, it is the other's
-  next_same : (h : List Range) (r : List (Option Running)) (l m : Option ℕ) (time : ℕ) → Alike r l m →
-      next (node h r l) ≡ Some time →
-      Contains (awaited (node h r m)) time →
-      next_awaited (node h r m) ≡ Some time
-  next_same h r l m time a e c = go (next_awaited (node h r m)) refl
+  -- if the next instant `time` of the node with last turn `l` is awaited by the one with last turn `m`, it is the next
+  -- awaited one of that
+  next_same : (heard : List Range) (runs : List (Option Running)) (l m : Option ℕ) (time : ℕ) → Alike runs l m →
+      next (node heard runs l) ≡ Some time →
+      Contains (awaited (node heard runs m)) time →
+      next_awaited (node heard runs m) ≡ Some time
+  next_same heard runs l m time alike e c = go (next_awaited (node heard runs m)) refl
     where
       -- the instant is awaited by the other node, after its last turn
-      there : Contains (filter (is_after m) (awaited (node h r m))) time
-      there = Contains-filter (is_after m) (awaited (node h r m)) time
-          (sym (a.reached time c) ∙ (next_is (node h r l) time e).after) c
+      there : Contains (filter (is_after m) (awaited (node heard runs m))) time
+      there = Contains-filter (is_after m) (awaited (node heard runs m)) time
+          (sym (alike.reached time c) ∙ (next_is (node heard runs l) time e).after) c
 
       -- by the next awaited instant of the other node: it is neither before nor after the instant
-      go : (o : Option ℕ) → next_awaited (node h r m) ≡ o → o ≡ Some time
+      go : (o : Option ℕ) → next_awaited (node heard runs m) ≡ o → o ≡ Some time
       go None z = absurd (Contains-nil time (subst (λ l. Contains l time) (least_of_none _ z) there))
       go (Some y) z =
-          let p = least_of_parts (filter (is_after m) (awaited (node h r m))) y z in
-          let q = Contains-filter_parts (is_after m) (awaited (node h r m)) y p.0 in
-          let n = awaited_next h r l m a y q.0 q.1 in
+          let p = least_of_parts (filter (is_after m) (awaited (node heard runs m))) y z in
+          let q = Contains-filter_parts (is_after m) (awaited (node heard runs m)) y p.0 in
+          let n = awaited_next heard runs l m alike y q.0 q.1 in
           let same : n.0 ≡ time = same_Some _ _ (sym n.1 ∙ e) in
           let is : y ≡ time = omega (arith, p.1 time there, n.2, same) in
           ap Some is
 
-  -- a turn keeps what is known of what runs: as many executions, with few faults; both last turns are the same now
-  alike_turn : (h : List Range) (r : List (Option Running)) (l : Option ℕ) (time : ℕ) → length r ≡ length t.own →
-      All (TellsFew t.faults) r →
-      Alike (turn (node h r l) time [] []).running (Some time) (Some time)
-  alike_turn h r l time count few = record {
-    count = length_zip (running_after (ends_in_turn (node h r l) time []) (acts_of_turn (node h r l) time [] []) time)
-        t.own r count;
+  -- a turn at `time` keeps what is known of the executions, `runs`: there are as many, and they tell few faults; both last
+  -- turns are `time` then
+  alike_turn : (heard : List Range) (runs : List (Option Running)) (l : Option ℕ) (time : ℕ) →
+      length runs ≡ length t.own →
+      All (TellsFew t.faults) runs →
+      Alike (turn (node heard runs l) time [] []).running (Some time) (Some time)
+  alike_turn heard runs l time count few = record {
+    count = length_zip (running_after (ends_in_turn (node heard runs l) time [])
+        (acts_of_turn (node heard runs l) time [] []) time)
+        t.own runs count;
     few =
-        few_zip t.faults (running_after (ends_in_turn (node h r l) time []) (acts_of_turn (node h r l) time [] []) time)
-        (few_after t.faults (ends_in_turn (node h r l) time []) (acts_of_turn (node h r l) time [] []) time) t.own r
+        few_zip t.faults (running_after (ends_in_turn (node heard runs l) time [])
+        (acts_of_turn (node heard runs l) time [] []) time)
+        (few_after t.faults (ends_in_turn (node heard runs l) time [])
+        (acts_of_turn (node heard runs l) time [] []) time) t.own runs
         few;
     reached = λ x c. refl;
   }
 
-  -- a turn that the node of all turns takes and the other leaves out keeps both alike
-  alike_quiet : (h : List Range) (r : List (Option Running)) (l m : Option ℕ) (time : ℕ) → Alike r l m →
-      next (node h r l) ≡ Some time →
-      (Contains (awaited (node h r m)) time → ⊥) →
-      Alike r (Some time) m
-  alike_quiet h r l m time a e out = record {
-    count = a.count;
-    few = a.few;
+  -- if the node with last turn `l` takes a turn at `time`, which the node with last turn `m` doesn't await and leaves out,
+  -- they stay alike with the last turns `time` and `m`; `heard` is what both have heard
+  alike_quiet : (heard : List Range) (runs : List (Option Running)) (l m : Option ℕ) (time : ℕ) → Alike runs l m →
+      next (node heard runs l) ≡ Some time →
+      (Contains (awaited (node heard runs m)) time → ⊥) →
+      Alike runs (Some time) m
+  alike_quiet heard runs l m time alike e out = record {
+    count = alike.count;
+    few = alike.few;
     reached = λ x c. same_truth (is_after (Some time) x) (is_after m x)
-        (λ z. sym (a.reached x c) ∙ after_floor l x (let f = floor_after l time (next_is (node h r l) time e).after in
+        (λ z. sym (alike.reached x c) ∙ after_floor l x
+        (let f = floor_after l time (next_is (node heard runs l) time e).after in
         omega (arith, f, ltb-true time x z)))
-        (λ z. let n = awaited_next h r l m a x c z in
+        (λ z. let n = awaited_next heard runs l m alike x c z in
         let same : n.0 ≡ time = same_Some _ _ (sym n.1 ∙ e) in
         elim (cases_eq x time) [
-          | inl is ↦ absurd (out (subst (Contains (awaited (node h r m))) is c))
+          | inl is ↦ absurd (out (subst (Contains (awaited (node heard runs m))) is c))
           | inr ne ↦ lt-ltb time x
               (elim (cases_lt time x) [ inl less ↦ less | inr ge ↦ absurd (ne (omega (arith, n.2, same, ge))) ])
         ]);
   }
 
-  -- a turn at an instant that is not awaited changes nothing but the last instant
-  left_out : (h : List Range) (r : List (Option Running)) (l m : Option ℕ) (a : List Act) (time : ℕ) → Alike r l m →
-      (Contains (awaited (node h r m)) time → ⊥) →
-      take_turn time (prog h r l a) ≡ prog h r (Some time) a
-  left_out h r l m a time k out =
-      let q = quiet_turns (node h r l) time k.count (turns_left_out (node h r l) time out h) in
-      λ i. record { dispatcher = q.0 i; acts = (ap (λ (more : List Act). a ++ more) q.1 ∙ append-nil a) i }
+  -- a turn at an instant that isn't awaited changes nothing but the last turn, which was `l`
+  left_out : (heard : List Range) (runs : List (Option Running)) (l m : Option ℕ) (acts : List Act) (time : ℕ) →
+      Alike runs l m →
+      (Contains (awaited (node heard runs m)) time → ⊥) →
+      take_turn time (prog heard runs l acts) ≡ prog heard runs (Some time) acts
+  left_out heard runs l m acts time alike out =
+      let q = quiet_turns (node heard runs l) time alike.count (turns_left_out (node heard runs l) time out heard) in
+      λ i. record { dispatcher = q.0 i; acts = (ap (λ (more : List Act). acts ++ more) q.1 ∙ append-nil acts) i }
 
-  -- n turns of the one node and k of the other, both enough for the limit, leave the nodes alike
+  -- n turns of the node that takes all turns and k of the other, both enough to come to the limit, leave the nodes alike
   abbrev TurnsAlike : ℕ → ℕ → Type 0
   TurnsAlike n limit =
-      (k : ℕ) (h : List Range) (r : List (Option Running)) (l m : Option ℕ)
-      (a : List Act) → Alike r l m → limit ≤ n + after_last l → limit ≤ k + after_last m → is_after l limit ≡ true →
+      (k : ℕ) (heard : List Range) (runs : List (Option Running)) (l m : Option ℕ)
+      (acts : List Act) → Alike runs l m → limit ≤ n + after_last l → limit ≤ k + after_last m →
+      is_after l limit ≡ true →
       is_after m limit ≡ true →
-      Pair limit (turns_below n limit (prog h r l a)) (turns_awaited k limit (prog h r m a))
+      Pair limit (turns_below n limit (prog heard runs l acts)) (turns_awaited k limit (prog heard runs m acts))
 
-  -- if the node of all turns has no instant below the limit, neither node takes a turn and they stay alike
-  ended_alike : (n k limit : ℕ) (h : List Range) (r : List (Option Running)) (l m : Option ℕ) (a : List Act) →
-      Alike r l m → is_after l limit ≡ true →
+  -- if the node with last turn `l` has no instant below the limit, neither node takes a turn and they stay alike,
+  -- however many turns `n` and `k` they may take
+  ended_alike : (n k limit : ℕ) (heard : List Range) (runs : List (Option Running)) (l m : Option ℕ) (acts : List Act) →
+      Alike runs l m → is_after l limit ≡ true →
       is_after m limit ≡ true →
-      NotBelow limit (next (node h r l)) →
-      Pair limit (turns_below n limit (prog h r l a)) (turns_awaited k limit (prog h r m a))
-  ended_alike n k limit h r l m a same f g z = record {
-    heard = h;
-    runs = r;
-    acts = a;
+      NotBelow limit (next (node heard runs l)) →
+      Pair limit (turns_below n limit (prog heard runs l acts)) (turns_awaited k limit (prog heard runs m acts))
+  ended_alike n k limit heard runs l m acts alike before later z = record {
+    heard = heard;
+    runs = runs;
+    acts = acts;
     l = l;
     m = m;
-    one = still n limit (prog h r l a) z.none;
-    two = still_fewer k limit (prog h r m a) (none_fewer h r l m limit same z);
-    alike = same;
-    before = f;
-    later = g;
+    one = still n limit (prog heard runs l acts) z.none;
+    two = still_fewer k limit (prog heard runs m acts) (none_fewer heard runs l m limit alike z);
+    alike = alike;
+    before = before;
+    later = later;
   }
 
-  -- a turn that both nodes take leaves both alike; the other has a turn left for it, as the instant is below the limit,
-  -- and after it both last turns are this instant
+  -- A turn that both nodes take leaves them alike. The node with last turn `m` has one of its `k` turns left for it, as
+  -- the instant is below the limit; after it both last turns are this instant.
   both_turn : (n limit : ℕ) → TurnsAlike n limit →
-      (k : ℕ) (h : List Range) (r : List (Option Running)) (l m : Option ℕ) (a : List Act) → Alike r l m →
+      (k : ℕ) (heard : List Range) (runs : List (Option Running)) (l m : Option ℕ) (acts : List Act) → Alike runs l m →
       limit ≤ suc n + after_last l →
       limit ≤ k + after_last m →
-      (b : Below limit (next (node h r l))) → Contains (awaited (node h r m)) b.time →
-      Pair limit (turns_below n limit (take_turn b.time (prog h r l a))) (turns_awaited k limit (prog h r m a))
+      (b : Below limit (next (node heard runs l))) → Contains (awaited (node heard runs m)) b.time →
+      Pair limit (turns_below n limit (take_turn b.time (prog heard runs l acts)))
+      (turns_awaited k limit (prog heard runs m acts))
   unfolding turns_awaited
-  both_turn n limit ih zero h r l m a same p q b c =
-      let passed : is_after m b.time ≡ true = sym (same.reached b.time c) ∙ (next_is (node h r l) b.time b.is).after in
+  both_turn n limit ih zero heard runs l m acts alike p q b c =
+      let passed : is_after m b.time ≡ true =
+      sym (alike.reached b.time c) ∙ (next_is (node heard runs l) b.time b.is).after in
       absurd (omega (arith, q, b.less, floor_after m b.time passed))
-  both_turn n limit ih (suc k) h r l m a same p q b c =
-      let passed : is_after m b.time ≡ true = sym (same.reached b.time c) ∙ (next_is (node h r l) b.time b.is).after in
-      let found : instant_below limit (next_awaited (node h r m)) ≡ Some b.time =
-      ap (instant_below limit) (next_same h r l m b.time same b.is c)
+  both_turn n limit ih (suc k) heard runs l m acts alike p q b c =
+      let passed : is_after m b.time ≡ true =
+      sym (alike.reached b.time c) ∙ (next_is (node heard runs l) b.time b.is).after in
+      let found : instant_below limit (next_awaited (node heard runs m)) ≡ Some b.time =
+      ap (instant_below limit) (next_same heard runs l m b.time alike b.is c)
       ∙ ap (λ z. cond z (Some b.time) None) (lt-ltb b.time limit b.less) in
-      let d : Dispatcher = node h r l in
-      let f = floor_after l b.time (next_is (node h r l) b.time b.is).after in
+      let d : Dispatcher = node heard runs l in
+      let f = floor_after l b.time (next_is (node heard runs l) b.time b.is).after in
       let g = floor_after m b.time passed in
-      subst (λ Q. Pair limit (turns_below n limit (take_turn b.time (prog h r l a))) (turns_awaited k limit Q))
-      (sym (ap (turn_if (prog h r m a)) found))
+      subst (λ Q. Pair limit (turns_below n limit (take_turn b.time (prog heard runs l acts)))
+      (turns_awaited k limit Q))
+      (sym (ap (turn_if (prog heard runs m acts)) found))
       (ih k (heard_after d b.time [] []) (turn d b.time [] []).running (Some b.time) (Some b.time)
-      (a ++ acts_of_turn d b.time [] []) (alike_turn h r l b.time same.count same.few)
+      (acts ++ acts_of_turn d b.time [] []) (alike_turn heard runs l b.time alike.count alike.few)
       (omega (arith, p, f)) (omega (arith, q, g)) (lt-ltb b.time limit b.less) (lt-ltb b.time limit b.less))
 
-  -- a turn of the node of all turns leaves both alike; the other takes it too if its instant is awaited, and leaves it
-  -- out if not
+  -- a turn of the node with last turn `l`, which takes all turns, leaves both alike: the node with last turn `m` takes
+  -- it too if its instant is awaited, and leaves it out if not
   next_turn : (n limit : ℕ) → TurnsAlike n limit →
-      (k : ℕ) (h : List Range) (r : List (Option Running)) (l m : Option ℕ) (a : List Act) → Alike r l m →
+      (k : ℕ) (heard : List Range) (runs : List (Option Running)) (l m : Option ℕ) (acts : List Act) → Alike runs l m →
       limit ≤ suc n + after_last l →
       limit ≤ k + after_last m → is_after m limit ≡ true →
-      (b : Below limit (next (node h r l))) →
-      Pair limit (turns_below n limit (take_turn b.time (prog h r l a))) (turns_awaited k limit (prog h r m a))
-  next_turn n limit ih k h r l m a same p q g b =
-      elim (cases_Bool (list_any (λ x. x == b.time) (awaited (node h r m)))) [
+      (b : Below limit (next (node heard runs l))) →
+      Pair limit (turns_below n limit (take_turn b.time (prog heard runs l acts)))
+      (turns_awaited k limit (prog heard runs m acts))
+  next_turn n limit ih k heard runs l m acts alike p q g b =
+      elim (cases_Bool (list_any (λ x. x == b.time) (awaited (node heard runs m)))) [
         | inl there ↦
-            let c = list_any_parts (λ x. x == b.time) (awaited (node h r m)) there in
-            both_turn n limit ih k h r l m a same p q b
-            (subst (Contains (awaited (node h r m))) (eqb-true c.0 b.time c.2) c.1)
+            let c = list_any_parts (λ x. x == b.time) (awaited (node heard runs m)) there in
+            both_turn n limit ih k heard runs l m acts alike p q b
+            (subst (Contains (awaited (node heard runs m))) (eqb-true c.0 b.time c.2) c.1)
         | inr gone ↦
-            let out : Contains (awaited (node h r m)) b.time → ⊥ = λ c. true≢false (sym (eq-eqb b.time b.time refl)
-            ∙ from_any_false (λ x. x == b.time) (awaited (node h r m)) b.time gone c) in
-            let f = floor_after l b.time (next_is (node h r l) b.time b.is).after in
-            subst (λ P. Pair limit (turns_below n limit P) (turns_awaited k limit (prog h r m a)))
-            (sym (left_out h r l m a b.time same out))
-            (ih k h r (Some b.time) m a (alike_quiet h r l m b.time same b.is out) (omega (arith, p, f)) q
+            let out : Contains (awaited (node heard runs m)) b.time → ⊥ = λ c.
+            true≢false (sym (eq-eqb b.time b.time refl)
+            ∙ from_any_false (λ x. x == b.time) (awaited (node heard runs m)) b.time gone c) in
+            let f = floor_after l b.time (next_is (node heard runs l) b.time b.is).after in
+            subst (λ P. Pair limit (turns_below n limit P) (turns_awaited k limit (prog heard runs m acts)))
+            (sym (left_out heard runs l m acts b.time alike out))
+            (ih k heard runs (Some b.time) m acts (alike_quiet heard runs l m b.time alike b.is out)
+            (omega (arith, p, f)) q
             (lt-ltb b.time limit b.less) g)
       ]
 
   -- that is so for each n, by induction: no instant is left below the limit, or the next turn is taken by one or both
   turns_alike : (n limit : ℕ) → TurnsAlike n limit
   unfolding turns_below
-  turns_alike zero limit k h r l m a same p q f g = elim (below_or_not limit (next (node h r l))) [
-    | inr z ↦ ended_alike zero k limit h r l m a same f g z
-    | inl b ↦ absurd (omega (arith, p, b.less, floor_after l b.time (next_is (node h r l) b.time b.is).after))
+  turns_alike zero limit k heard runs l m acts alike p q f g = elim (below_or_not limit (next (node heard runs l))) [
+    | inr z ↦ ended_alike zero k limit heard runs l m acts alike f g z
+    | inl b ↦ absurd (omega (arith, p, b.less, floor_after l b.time (next_is (node heard runs l) b.time b.is).after))
   ]
-  turns_alike (suc n) limit k h r l m a same p q f g = elim (below_or_not limit (next (node h r l))) [
-    | inr z ↦ ended_alike (suc n) k limit h r l m a same f g z
+  turns_alike (suc n) limit k heard runs l m acts alike p q f g = elim (below_or_not limit (next (node heard runs l))) [
+    | inr z ↦ ended_alike (suc n) k limit heard runs l m acts alike f g z
     | inl b ↦
-        subst (λ P. Pair limit (turns_below n limit P) (turns_awaited k limit (prog h r m a)))
-        (sym (ap (turn_if (prog h r l a)) b.found))
-        (next_turn n limit (turns_alike n limit) k h r l m a same p q g b)
+        subst (λ P. Pair limit (turns_below n limit P) (turns_awaited k limit (prog heard runs m acts)))
+        (sym (ap (turn_if (prog heard runs l acts)) b.found))
+        (next_turn n limit (turns_alike n limit) k heard runs l m acts alike p q g b)
   ]
 
-  -- all turns below a limit keep the two nodes alike
+  -- if nodes `P` and `Q` are alike up to a limit, they are so after all turns below it
   turned_alike : (limit : ℕ) (P Q : NodeProgress) → Pair limit P Q → Pair limit (turned limit P) (turned_fewer limit Q)
   turned_alike limit P Q k =
       subst (λ P. Pair limit (turned limit P) (turned_fewer limit Q)) (sym k.one)
@@ -424,11 +443,11 @@ module _ (t : NodeTable) (made : IsTable t) where
       (turns_alike limit limit limit k.heard k.runs k.l k.m k.acts k.alike (omega arith)
       (omega arith) k.before k.later))
 
-  -- a later time is after the last turn too
+  -- if time `x` is after the last turn `l`, so is each later time `y`
   after_more : (l : Option ℕ) (x y : ℕ) → x ≤ y → is_after l x ≡ true → is_after l y ≡ true
   after_more l x y le h = after_floor l y (let f = floor_after l x h in omega (arith, le, f))
 
-  -- nodes that are alike up to a time are alike up to a later one
+  -- if nodes `P` and `Q` are alike up to time `x`, they are so up to each later time `y`
   pair_later : (x y : ℕ) (P Q : NodeProgress) → x ≤ y → Pair x P Q → Pair y P Q
   pair_later x y P Q le k =
       record {
@@ -445,26 +464,29 @@ module _ (t : NodeTable) (made : IsTable t) where
             after_more k.m x y le k.later;
       }
 
-  -- what a step answers, and what it leaves
-  record StepPair (limit : ℕ) (s z : Step) : Type 0 where
+  -- step `s` of the one node and step `z` of the other are alike: in the fault that they find, and in what they leave
+  record AreStepsAlike (limit : ℕ) (s z : Step) : Type 0 where
     -- both steps find the same fault, or none
     fault : z.fault ≡ s.fault
+    -- the nodes are alike after them
     pair : Pair limit s.progress z.progress
 
-  -- a frame is lawful for both nodes or for neither, and leaves them alike
+  -- frame `f` is lawful for both nodes `P` and `Q` or for neither, and leaves them alike
   arrived_alike : (time : ℕ) (f : Frame) (P Q : NodeProgress) → Pair time P Q →
-      StepPair time (arrived time f P) (arrived time f Q)
+      AreStepsAlike time (arrived time f P) (arrived time f Q)
+  -- each node is the one of its own last turn
   arrived_alike time f P Q k =
-      subst (λ P. StepPair time (arrived time f P) (arrived time f Q)) (sym k.one)
-      (subst (λ Q. StepPair time (arrived time f (prog k.heard k.runs k.l k.acts)) (arrived time f Q)) (sym k.two)
+      subst (λ P. AreStepsAlike time (arrived time f P) (arrived time f Q)) (sym k.one)
+      (subst (λ Q. AreStepsAlike time (arrived time f (prog k.heard k.runs k.l k.acts)) (arrived time f Q)) (sym k.two)
       (go (is_strange (node k.heard k.runs k.l) time f)))
     where
       -- by whether the frame is strange, which the table and the time decide
       go : (b : Bool) →
-          StepPair time (cond b (faulty (prog k.heard k.runs k.l k.acts) StrangeFrame)
+          AreStepsAlike time (cond b (lawless (prog k.heard k.runs k.l k.acts) StrangeFrame)
           (lawful (prog (hear_frame t k.heard f) k.runs k.l k.acts)))
-          (cond b (faulty (prog k.heard k.runs k.m k.acts) StrangeFrame)
+          (cond b (lawless (prog k.heard k.runs k.m k.acts) StrangeFrame)
           (lawful (prog (hear_frame t k.heard f) k.runs k.m k.acts)))
+      -- a strange frame changes nothing
       go true = record {
         fault = refl;
         pair = record {
@@ -480,6 +502,7 @@ module _ (t : NodeTable) (made : IsTable t) where
           later = k.later;
         };
       }
+      -- any other is heard by both
       go false =
           record {
             fault = refl;
@@ -498,57 +521,62 @@ module _ (t : NodeTable) (made : IsTable t) where
             };
           }
 
-  -- an end that may be reported is not reported after its planned end
-  in_time : (h : List Range) (r : List (Option Running)) (l : Option ℕ) (time : ℕ) (e : Ended) (o : Option Running) →
-      may_end_now (node h r l) time e o ≡ true →
+  -- if the end `e` of `run` may be reported at a time, the time isn't after its planned end
+  in_time : (heard : List Range) (runs : List (Option Running)) (l : Option ℕ) (time : ℕ) (e : Ended)
+      (o : Option Running) →
+      may_end_now (node heard runs l) time e o ≡ true →
       (run : Running) →
       o ≡ Some run → time ≤ run.start + get_or (own_in t.own e.process).times e.faults 0
-  in_time h r l time e None ok run is = absurd (none-some run is)
-  in_time h r l time e (Some q) ok run is =
-      let parts = and_parts (is_none q.report && nat_lt q.start time)
-      (nat_le time (q.start + time_of (node h r l) e.process e.faults)) ok in
+  in_time heard runs l time e None ok run is = absurd (none-some run is)
+  in_time heard runs l time e (Some q) ok run is =
+      let tests = and_parts (is_none q.report && nat_lt q.start time)
+      (nat_le time (q.start + time_of (node heard runs l) e.process e.faults)) ok in
       subst (λ (run : Running). time ≤ run.start + get_or (own_in t.own e.process).times e.faults 0)
-      (same_Some q run is) (leb-true time (q.start + time_of (node h r l) e.process e.faults) parts.1)
+      (same_Some q run is) (leb-true time (q.start + time_of (node heard runs l) e.process e.faults) tests.1)
 
   -- a report that may come leaves both nodes alike: each end awaited then was awaited before (`moved`) or isn't before
   -- the report, and so is after both last turns
-  told_alike : (h : List Range) (r : List (Option Running)) (l m : Option ℕ) (time : ℕ) (e : Ended) → Alike r l m →
+  told_alike : (heard : List Range) (runs : List (Option Running)) (l m : Option ℕ) (time : ℕ) (e : Ended) →
+      Alike runs l m →
       is_after l time ≡ true →
       is_after m time ≡ true →
-      may_end (node h r l) time e ≡ true → Alike (zip_with (with_report e) t.own r) l m
-  told_alike h r l m time e a f g ok =
-      let parts = and_parts (may_tell (node h r l) e)
-      (may_end_now (node h r l) time e (running_of (node h r l) e.process)) ok in
-      let some = and_parts (nat_le e.faults t.faults) _ parts.0 in
+      may_end (node heard runs l) time e ≡ true → Alike (zip_with (with_report e) t.own runs) l m
+  told_alike heard runs l m time e alike f g ok =
+      let tests = and_parts (may_tell (node heard runs l) e)
+      (may_end_now (node heard runs l) time e (running_of (node heard runs l) e.process)) ok in
+      let some = and_parts (nat_le e.faults t.faults) _ tests.0 in
       record {
-        count = length_zip (with_report e) t.own r a.count;
+        count = length_zip (with_report e) t.own runs alike.count;
         few =
-            few_zip t.faults (with_report e) (few_report t.faults e (leb-true e.faults t.faults some.0)) t.own r a.few;
+            few_zip t.faults (with_report e) (few_report t.faults e (leb-true e.faults t.faults some.0))
+            t.own runs alike.few;
         reached = λ x c. elim (Contains-append_cases (fixed_times t)
-            (ends_in t.faults t.own (zip_with (with_report e) t.own r)) x c) [
-              | inl fixed ↦ a.reached x (Contains-append_left (fixed_times t) (ends_in t.faults t.own r) x fixed)
-              | inr end ↦ elim (moved t.faults time e t.own r (own_rise t made)
-                  (in_time h r l time e (running_of (node h r l) e.process) parts.1) x end) [
-                    | inl old ↦ a.reached x (Contains-append_right (fixed_times t) (ends_in t.faults t.own r) x old)
+            (ends_in t.faults t.own (zip_with (with_report e) t.own runs)) x c) [
+              | inl fixed ↦ alike.reached x (Contains-append_left (fixed_times t) (ends_in t.faults t.own runs) x fixed)
+              | inr end ↦ elim (moved t.faults time e t.own runs (own_rise t made)
+                  (in_time heard runs l time e (running_of (node heard runs l) e.process) tests.1) x end) [
+                    | inl old ↦ alike.reached x
+                        (Contains-append_right (fixed_times t) (ends_in t.faults t.own runs) x old)
                     | inr late ↦ after_more l time x late f ∙ sym (after_more m time x late g)
                   ]
             ];
       }
 
-  -- an end is lawful for both nodes or for neither, and leaves them alike
+  -- end `e` is lawful for both nodes `P` and `Q` or for neither, and leaves them alike
   ended_step : (time : ℕ) (e : Ended) (P Q : NodeProgress) → Pair time P Q →
-      StepPair time (ended time e P) (ended time e Q)
+      AreStepsAlike time (ended time e P) (ended time e Q)
   ended_step time e P Q k =
-      subst (λ P. StepPair time (ended time e P) (ended time e Q)) (sym k.one)
-      (subst (λ Q. StepPair time (ended time e (prog k.heard k.runs k.l k.acts)) (ended time e Q)) (sym k.two)
+      subst (λ P. AreStepsAlike time (ended time e P) (ended time e Q)) (sym k.one)
+      (subst (λ Q. AreStepsAlike time (ended time e (prog k.heard k.runs k.l k.acts)) (ended time e Q)) (sym k.two)
       (go (may_end (node k.heard k.runs k.l) time e) refl))
     where
       -- by whether the end may be reported, which is asked of the first node
       go : (b : Bool) → may_end (node k.heard k.runs k.l) time e ≡ b →
-          StepPair time (cond b (lawful (prog k.heard (zip_with (with_report e) t.own k.runs) k.l k.acts))
-          (faulty (prog k.heard k.runs k.l k.acts) FalseEnd))
+          AreStepsAlike time (cond b (lawful (prog k.heard (zip_with (with_report e) t.own k.runs) k.l k.acts))
+          (lawless (prog k.heard k.runs k.l k.acts) FalseEnd))
           (cond b (lawful (prog k.heard (zip_with (with_report e) t.own k.runs) k.m k.acts))
-          (faulty (prog k.heard k.runs k.m k.acts) FalseEnd))
+          (lawless (prog k.heard k.runs k.m k.acts) FalseEnd))
+      -- the end is reported: it leaves what runs alike (`told_alike`)
       go true is = record {
         fault = refl;
         pair = record {
@@ -564,6 +592,7 @@ module _ (t : NodeTable) (made : IsTable t) where
           later = k.later;
         };
       }
+      -- an end that may not be reported changes nothing
       go false is =
           record {
             fault = refl;
@@ -587,9 +616,9 @@ module _ (t : NodeTable) (made : IsTable t) where
   bound time (Ending process faults value) = time
   bound time Close = time + 1
 
-  -- an event is lawful for both nodes or for neither, and leaves them alike
+  -- an event is lawful for both nodes `P` and `Q` or for neither, and leaves them alike
   step_alike : (time : ℕ) (event : Event) (P Q : NodeProgress) → Pair time P Q →
-      StepPair (bound time event) (step time event P) (step_fewer time event Q)
+      AreStepsAlike (bound time event) (step time event P) (step_fewer time event Q)
   step_alike time (Arrival f) P Q k =
       arrived_alike time f (turned time P) (turned_fewer time Q) (turned_alike time P Q k)
   step_alike time (Ending process faults value) P Q k =
@@ -600,14 +629,18 @@ module _ (t : NodeTable) (made : IsTable t) where
 
   -- Two streams.
   -- The nodes of both are alike, up to a limit that the time of the last record bounds, and all else is the same.
-  record Twins (s z : LiveState) : Type 0 where
+  record AreStreamsAlike (s z : LiveState) : Type 0 where
+    -- the nodes are alike, and their last turns are before this limit
     limit : ℕ
     pair : Pair limit s.progress z.progress
+    -- the limit isn't after the time of the last record, unless the stream is refused or closed
     up_to : s.lawless ≡ None → s.closed ≡ false → limit ≤ s.time
+    -- all but the nodes is the same
     same : z ≡ record s { progress = z.progress }
 
-  -- streams that are refused for the same reason stay alike
-  refused_twins : (s z : LiveState) (defect : Defect) → Twins s z → Twins (refused s defect) (refused z defect)
+  -- streams `s` and `z` that are refused for the same reason stay alike
+  refused_twins : (s z : LiveState) (defect : Defect) → AreStreamsAlike s z →
+      AreStreamsAlike (refused s defect) (refused z defect)
   refused_twins s z defect k = record {
     limit = k.limit;
     pair = k.pair;
@@ -615,10 +648,11 @@ module _ (t : NodeTable) (made : IsTable t) where
     same = ap (λ z. refused z defect) k.same;
   }
 
-  -- a record leaves both streams alike, whatever is wrong with it
+  -- a record leaves both streams, whose nodes are `P` and `Q`, alike, whatever is wrong with it (`o`)
   settled_twins : (s : LiveState) (P Q : NodeProgress) (time : ℕ) (event : Event) (o : Option Defect) →
       Pair (bound time event) P Q →
-      Twins (settled (record s { progress = P }) time event o) (settled (record s { progress = Q }) time event o)
+      AreStreamsAlike (settled (record s { progress = P }) time event o)
+      (settled (record s { progress = Q }) time event o)
   settled_twins s P Q time event None k =
       record { limit = bound time event; pair = k; up_to = λ _ more. far event more; same = refl }
     where
@@ -630,29 +664,29 @@ module _ (t : NodeTable) (made : IsTable t) where
   settled_twins s P Q time event (Some defect) k =
       record { limit = bound time event; pair = k; up_to = λ none _. absurd (none-some _ (sym none)); same = refl }
 
-  -- a record leaves both streams alike
+  -- a record with event `o`, if its kind is lawful, leaves both streams, whose nodes are that of `s` and `Q`, alike
   judged_twins : (s : LiveState) (Q : NodeProgress) (limit time : ℕ) (o : Option Event) → Pair limit s.progress Q →
       limit ≤ s.time →
-      Twins s (record s { progress = Q }) →
-      Twins (judged s time o) (judged_fewer (record s { progress = Q }) time o)
+      AreStreamsAlike s (record s { progress = Q }) →
+      AreStreamsAlike (judged s time o) (judged_fewer (record s { progress = Q }) time o)
   judged_twins s Q limit time None k le t = refused_twins s (record s { progress = Q }) Kind t
   judged_twins s Q limit time (Some event) k le t = go (nat_lt time s.time) refl
     where
       -- by whether the record's time is before the last one
       go : (b : Bool) → nat_lt time s.time ≡ b →
-          Twins (cond b (refused s Order) (stepped s time event (step time event s.progress)))
+          AreStreamsAlike (cond b (refused s Order) (stepped s time event (step time event s.progress)))
           (cond b (refused (record s { progress = Q }) Order)
           (stepped (record s { progress = Q }) time event (step_fewer time event Q)))
       go true e = refused_twins s (record s { progress = Q }) Order t
       go false e =
           let k' = step_alike time event s.progress Q
           (pair_later limit time s.progress Q (omega (arith, le, ltb-false time s.time e)) k) in
-          subst (λ o. Twins (stepped s time event (step time event s.progress))
+          subst (λ o. AreStreamsAlike (stepped s time event (step time event s.progress))
           (settled (record s { progress = (step_fewer time event Q).progress }) time event o)) (sym k'.fault)
           (settled_twins s (step time event s.progress).progress (step_fewer time event Q).progress time event
           (step time event s.progress).fault k'.pair)
 
-  -- both nodes have the same table
+  -- nodes `P` and `Q` that are alike have the same table
   table_of : (limit : ℕ) (P Q : NodeProgress) → Pair limit P Q → Q.dispatcher.table ≡ P.dispatcher.table
   table_of limit P Q k =
       ap (λ (p : NodeProgress). p.dispatcher.table) k.two ∙ sym (ap (λ (p : NodeProgress). p.dispatcher.table) k.one)
@@ -662,14 +696,14 @@ module _ (t : NodeTable) (made : IsTable t) where
   is_none_of None e = refl
   is_none_of (Some x) e = absurd (true≢false e)
 
-  -- a record that is taken leaves both streams alike
-  record_twins : (s : LiveState) (Q : NodeProgress) (bytes : List ℕ) → Twins s (record s { progress = Q }) →
-      Twins (take_record s bytes) (take_record_fewer (record s { progress = Q }) bytes)
+  -- a record that is taken leaves both streams, whose nodes are that of `s` and `Q`, alike
+  record_twins : (s : LiveState) (Q : NodeProgress) (bytes : List ℕ) → AreStreamsAlike s (record s { progress = Q }) →
+      AreStreamsAlike (take_record s bytes) (take_record_fewer (record s { progress = Q }) bytes)
   record_twins s Q bytes k = go (is_some s.lawless) s.closed refl refl
     where
       -- by whether the stream is refused already, and by whether it is closed
       go : (b c : Bool) → is_some s.lawless ≡ b → s.closed ≡ c →
-          Twins (cond b s (cond c (refused s Length)
+          AreStreamsAlike (cond b s (cond c (refused s Length)
           (judged s (record_of bytes).time (event_of s.progress.dispatcher.table (record_of bytes)))))
           (cond b (record s { progress = Q }) (cond c (refused (record s { progress = Q }) Length)
           (judged_fewer (record s { progress = Q }) (record_of bytes).time
@@ -677,19 +711,20 @@ module _ (t : NodeTable) (made : IsTable t) where
       go true c e f = k
       go false true e f = refused_twins s (record s { progress = Q }) Length k
       go false false e f =
-          subst (λ t. Twins (judged s (record_of bytes).time (event_of s.progress.dispatcher.table (record_of bytes)))
+          subst (λ t. AreStreamsAlike (judged s (record_of bytes).time
+          (event_of s.progress.dispatcher.table (record_of bytes)))
           (judged_fewer (record s { progress = Q }) (record_of bytes).time (event_of t (record_of bytes))))
           (sym (table_of k.limit s.progress Q k.pair))
           (judged_twins s Q k.limit (record_of bytes).time
           (event_of s.progress.dispatcher.table (record_of bytes)) k.pair (k.up_to (is_none_of s.lawless e) f) k)
 
-  -- records that are taken, one after another, leave both streams alike
-  twins_whole : (whole : List (List ℕ)) (s z : LiveState) → Twins s z →
-      Twins (fold take_record s whole) (fold take_record_fewer z whole)
+  -- records that are taken, one after another, leave streams `s` and `z` alike
+  twins_whole : (whole : List (List ℕ)) (s z : LiveState) → AreStreamsAlike s z →
+      AreStreamsAlike (fold take_record s whole) (fold take_record_fewer z whole)
   twins_whole [] s z k = k
   twins_whole (bytes ∷ whole) s z k = twins_whole whole (take_record s bytes) (take_record_fewer z bytes)
-      (subst (λ z. Twins (take_record s bytes) (take_record_fewer z bytes)) (sym k.same)
-      (record_twins s z.progress bytes (subst (Twins s) k.same k)))
+      (subst (λ z. AreStreamsAlike (take_record s bytes) (take_record_fewer z bytes)) (sym k.same)
+      (record_twins s z.progress bytes (subst (AreStreamsAlike s) k.same k)))
 
   -- a node that runs nothing tells few faults
   none_few : (n : ℕ) → All (TellsFew t.faults) (replicate {A = Option Running} n None)
@@ -697,7 +732,7 @@ module _ (t : NodeTable) (made : IsTable t) where
   none_few (suc n) = All-cons (TellsFew t.faults) None (replicate n None) tt (none_few n)
 
   -- both streams are alike before the first byte
-  twins_open : Twins (open_stream t) (open_stream t)
+  twins_open : AreStreamsAlike (open_stream t) (open_stream t)
   twins_open = record {
     limit = 0;
     pair = record {
@@ -717,8 +752,8 @@ module _ (t : NodeTable) (made : IsTable t) where
     same = refl;
   }
 
-  -- two streams that are alike differ in the instant of the last turn alone
-  twin_is : (s z : LiveState) → Twins s z → z ≡ with_last s z.progress.dispatcher.last
+  -- streams `s` and `z` that are alike differ in the instant of the last turn alone
+  twin_is : (s z : LiveState) → AreStreamsAlike s z → z ≡ with_last s z.progress.dispatcher.last
   twin_is s z k = k.same ∙ ap (λ (p : NodeProgress). record s { progress = p })
       (subst (λ P. z.progress ≡ record {
         dispatcher = record P.dispatcher { last = z.progress.dispatcher.last };
@@ -729,7 +764,7 @@ module _ (t : NodeTable) (made : IsTable t) where
         acts = k.pair.acts;
       }) (sym k.pair.two) refl))
 
--- the first bytes of a next record leave the last instant as it is
+-- the first bytes of a next record leave the instant `x` of the last turn as it is
 rest_last : (s : LiveState) (rest : List ℕ) (x : Option ℕ) →
     with_rest (with_last s x) rest ≡ with_last (with_rest s rest) x
 rest_last s rest x = go (is_some s.lawless) (s.closed && nat_lt 0 (length rest))
@@ -746,7 +781,7 @@ rest_last s rest x = go (is_some s.lawless) (s.closed && nat_lt 0 (length rest))
 rest_same : (s : LiveState) (rest : List ℕ) → (with_rest s rest).progress ≡ s.progress
 rest_same s rest = go (is_some s.lawless) (s.closed && nat_lt 0 (length rest))
   where
-    -- by the same cases
+    -- by whether the stream is refused, and by whether bytes come after its close
     go : (b c : Bool) → (cond b s (cond c (refused s Length) (record s { rest = rest }))).progress ≡ s.progress
     go true c = refl
     go false true = refl

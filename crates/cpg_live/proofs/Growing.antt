@@ -1,4 +1,4 @@
--- What was done stays done: acts are added alone.
+-- What a node on a stream did stays done: whatever it takes, its old acts come first among its new ones.
 use Rattle.std.proofs.Common.{◌≡◌, ℕ, zero, suc, ◌+◌, Bool, true, false, cond, List, [], ◌∷◌, ◌++◌, ◌==◌, length}
 use Rattle.std.proofs.Common.{Option, Some, None, refl, sym, ap, ◌∙◌}
 use Rattle.std.specs.Prelude.{is_some, nat_lt}
@@ -9,7 +9,7 @@ use Rattle.cpg_live.specs.declared.lawless.Defect.TheVariants.{Length, Order, Fr
 use Rattle.cpg_live.specs.declared.event.Event.{Event}
 use Rattle.cpg_live.specs.declared.event.Event.TheVariants.{Frame as Arrival, End as Ending, Close}
 use Rattle.cpg_live.specs.Records.{record_of, event_of}
-use Rattle.cpg_live.specs.Stream.{NodeProgress, LiveState, faulty, lawful, instant_below, turn_if, turn_below}
+use Rattle.cpg_live.specs.Stream.{NodeProgress, LiveState, lawless, lawful, instant_below, turn_if, turn_below}
 use Rattle.cpg_live.specs.Stream.{turns_below, turned, may_end, ended, step, refused, settled, stepped, judged}
 use Rattle.cpg_live.specs.Stream.{take_record}
 use Rattle.cpg_live.specs.Feeding.{take_open, take_byte, take_bytes}
@@ -19,16 +19,16 @@ use Rattle.cpg_live.specs.Laws.{Grows}
 same : (xs : List Act) → Grows xs xs
 same xs = ([], sym (append-nil xs))
 
--- what grows from xs to ys and from ys to zs grows from xs to zs
+-- if acts grow from `xs` to `ys` and from `ys` to `zs`, they grow from `xs` to `zs`
 grow_on : (xs ys zs : List Act) → Grows xs ys → Grows ys zs → Grows xs zs
 grow_on xs ys zs p q = (p.0 ++ q.0, q.1 ∙ ap (λ (l : List Act). l ++ q.0) p.1 ∙ append_assoc xs p.0 q.0)
 
--- a turn adds its acts, and no turn adds none
+-- the turn of instant `o` adds its acts to those of node `p`, and no turn adds none
 turn_grows : (p : NodeProgress) (o : Option ℕ) → Grows p.acts (turn_if p o).acts
 turn_grows p None = same p.acts
 turn_grows p (Some time) = (acts_of_turn p.dispatcher time [] [], refl)
 
--- turns add acts alone
+-- up to `n` turns of node `p` add acts alone
 turns_grow : (n limit : ℕ) (p : NodeProgress) → Grows p.acts (turns_below n limit p).acts
 unfolding turns_below
 turns_grow zero limit p = same p.acts
@@ -46,7 +46,7 @@ step_grows time (Arrival f) p = go (is_strange (turned time p).dispatcher time f
   where
     -- by whether the frame is strange
     go : (b : Bool) →
-        Grows p.acts (cond b (faulty (turned time p) StrangeFrame)
+        Grows p.acts (cond b (lawless (turned time p) StrangeFrame)
         (lawful (record (turned time p) { dispatcher = hear (turned time p).dispatcher f }))).progress.acts
     go true = turned_grows time p
     go false = turned_grows time p
@@ -60,7 +60,7 @@ step_grows time (Ending process faults value) p = go (record { process = process
         told : (b : Bool) →
             Grows p.acts
             (cond b (lawful (record (turned time p) { dispatcher = finished (turned time p).dispatcher e }))
-            (faulty (turned time p) FalseEnd)).progress.acts
+            (lawless (turned time p) FalseEnd)).progress.acts
         told true = turned_grows time p
         told false = turned_grows time p
 step_grows time Close p = turned_grows (time + 1) p
@@ -94,7 +94,7 @@ judged_grows s time (Some event) = go (nat_lt time s.time)
 record_grows : (s : LiveState) (bytes : List ℕ) → Grows s.progress.acts (take_record s bytes).progress.acts
 record_grows s bytes = go (is_some s.lawless) s.closed
   where
-    -- by whether a record was lawless, and whether the stream is closed
+    -- by `b`, whether a record was lawless, and `c`, whether the stream is closed
     go : (b c : Bool) →
         Grows s.progress.acts (cond b s (cond c (refused s Length)
         (judged s (record_of bytes).time (event_of s.progress.dispatcher.table (record_of bytes))))).progress.acts
@@ -117,7 +117,7 @@ open_grows s bytes = go (length bytes == 14)
 byte_grows : (s : LiveState) (byte : ℕ) → Grows s.progress.acts (take_byte s byte).progress.acts
 byte_grows s byte = go (is_some s.lawless) s.closed
   where
-    -- by whether a record was lawless, and whether the stream is closed
+    -- by `b`, whether a record was lawless, and `c`, whether the stream is closed
     go : (b c : Bool) →
         Grows s.progress.acts (cond b s (cond c (refused s Length) (take_open s (s.rest ++ byte ∷ [])))).progress.acts
     go true c = same s.progress.acts

@@ -1,4 +1,4 @@
--- Bytes that spell events are taken as these events.
+-- Bytes that spell events are taken as these events: the record of each is read back from its bytes.
 use Rattle.std.proofs.Common.{◌≡◌, ℕ, ◌+◌, ◌-◌, ◌<◌, ◌≤◌, ◌^◌, min, Bool, true, false, cond, ◌&&◌, ◌||◌, ◌==◌, List, []}
 use Rattle.std.proofs.Common.{◌∷◌, ◌++◌, map, fold, Option, Some, None, refl, sym, ap, ◌∙◌, arith}
 use Rattle.std.proofs.Common.{append-nil, append_assoc, true≢false, ltb-true, le-ltb}
@@ -17,7 +17,7 @@ use Rattle.cpg_live.specs.declared.lawless.Defect.TheVariants.{Order, Frame as S
 use Rattle.cpg_live.specs.declared.event.Event.{Event}
 use Rattle.cpg_live.specs.declared.event.Event.TheVariants.{Frame as Arrival, End as Ending, Close}
 use Rattle.cpg_live.specs.Records.{Cut, cut_byte, record_of, event_of}
-use Rattle.cpg_live.specs.Stream.{NodeProgress, Step, LiveState, faulty, lawful, turned, may_end, arrived, ended, step}
+use Rattle.cpg_live.specs.Stream.{NodeProgress, Step, LiveState, lawless, lawful, turned, may_end, arrived, ended, step}
 use Rattle.cpg_live.specs.Stream.{start, is_close, refused, settled, stepped, judged, take_record, with_rest}
 use Rattle.cpg_live.specs.Stream.{open_stream, outcome, after}
 use Rattle.cpg_live.specs.Told.{follow_if, follow}
@@ -27,12 +27,12 @@ use Rattle.cpg_live.proofs.Turns.{turned_table}
 
 -- The numbers of a record are read from its bytes.
 
--- a number that fits is read back from its bytes
+-- a number that fits eight bytes is read back from them
 number_8 : (n : ℕ) → n < 2 ^ 64 → big_number 8 (big_bytes 8 n) ≡ n
 number_8 n fits = let same : big_number 8 (to_be_bytes w64 n) ≡ from_be_bytes w64 (to_be_bytes w64 n) = omega arith in
     same ∙ from_be_bytes-to_be_bytes_8 n fits
 
--- two bytes give back the number that they were made of
+-- a number that fits two bytes is read back from them
 number_2 : (n : ℕ) → n < 2 ^ 16 → big_number 2 (big_bytes 2 n) ≡ n
 number_2 n fits = let same : big_number 2 (to_be_bytes w16 n) ≡ from_be_bytes w16 (to_be_bytes w16 n) = omega arith in
     same ∙ from_be_bytes-to_be_bytes_2 n fits
@@ -65,7 +65,7 @@ told_back : (table : NodeTable) (time : ℕ) (e : Event) → HasRoom table e →
 told_back table time (Arrival f) h =
     go f.value (nat_lt f.item table.first_broadcast) (λ b. h.2 (ltb-true f.item table.first_broadcast b))
   where
-    -- by the value, and by whether the item is a message, whose value is false
+    -- by `v`, the value, and `b`, whether the item is a message, whose value is false
     go : (v b : Bool) → (b ≡ true → v ≡ false) →
         cond (false || nat_lt 1 (bit v) || false || (true && b && (bit v == 1))) None
         (Some (Arrival (record { item = f.item; column = f.column; value = bit v == 1 })))
@@ -91,19 +91,19 @@ cut_records before (e ∷ es) =
 
 -- Events leave the table.
 
--- a frame leaves the table as it is, and so does an end
+-- a frame `f` leaves the table of node `p` as it is, and so does an end
 arrived_table : (time : ℕ) (f : Frame) (p : NodeProgress) →
     (arrived time f p).progress.dispatcher.table ≡ p.dispatcher.table
 arrived_table time f p = go (is_strange p.dispatcher time f)
   where
     -- by whether the frame is strange
     go : (b : Bool) →
-        (cond b (faulty p StrangeFrame)
+        (cond b (lawless p StrangeFrame)
         (lawful (record p { dispatcher = hear p.dispatcher f }))).progress.dispatcher.table ≡ p.dispatcher.table
     go true = refl
     go false = refl
 
--- an end leaves the table as it is
+-- an end `e` leaves the table of node `p` as it is
 ended_table : (time : ℕ) (e : Ended) (p : NodeProgress) →
     (ended time e p).progress.dispatcher.table ≡ p.dispatcher.table
 ended_table time e p = go (may_end p.dispatcher time e)
@@ -111,7 +111,7 @@ ended_table time e p = go (may_end p.dispatcher time e)
     -- by whether the process may end with this report
     go : (b : Bool) →
         (cond b (lawful (record p { dispatcher = finished p.dispatcher e }))
-        (faulty p FalseEnd)).progress.dispatcher.table ≡ p.dispatcher.table
+        (lawless p FalseEnd)).progress.dispatcher.table ≡ p.dispatcher.table
     go true = refl
     go false = refl
 
@@ -126,13 +126,13 @@ step_table time Close p = turned_table (time + 1) p
 
 -- A lawful front.
 
--- after a lawless event, more events change nothing
+-- after a lawless event, more events `es` change nothing of the fault
 stays_faulty : (es : List (ℕ × Event)) (s : Step) (defect : Defect) → s.fault ≡ Some defect →
     (follow s es).fault ≡ Some defect
 stays_faulty [] s defect e = e
 stays_faulty (f ∷ es) s defect e = ap (λ z. (follow z es).fault) (ap (follow_if s f) e) ∙ stays_faulty es s defect e
 
--- if events are lawful, so was the step before them
+-- if events `es` are lawful after step `s`, so was the step
 pub lawful_front : (es : List (ℕ × Event)) (s : Step) → (follow s es).fault ≡ None → s ≡ lawful s.progress
 lawful_front es s e = go s.fault refl
   where
@@ -141,7 +141,7 @@ lawful_front es s e = go s.fault refl
     go None n = ap (λ o. record { progress = s.progress; fault = o }) n
     go (Some defect) n = absurd (none-some defect (sym e ∙ stays_faulty es s defect n))
 
--- if events rise from one time to another, the first isn't after the second
+-- if events `es` rise from one time to another, the first isn't after the second
 pub within_le : (from to : ℕ) (es : List (ℕ × Event)) → RiseWithin from to es → from ≤ to
 within_le from to [] h = h
 within_le from to (e ∷ es) h = omega (arith, h.0, within_le e.0 to es h.2)
@@ -153,8 +153,9 @@ abbrev state : NodeProgress → ℕ → ℕ → Bool → LiveState
 state p taken time closed =
     record { progress = p; taken = taken; time = time; rest = []; closed = closed; lawless = None }
 
+-- given the table of the node
 module _ (table : NodeTable) where
-  -- an open stream takes the bytes of a lawful event as the event
+  -- an open stream with node `p` takes the bytes of a lawful event `e` as the event
   takes_one : (p : NodeProgress) (taken time : ℕ) (e : ℕ × Event) → p.dispatcher.table ≡ table → time ≤ e.0 →
       e.0 < 2 ^ 64 → HasRoom table e.1 →
       (step e.0 e.1 p).fault ≡ None →
@@ -169,8 +170,8 @@ module _ (table : NodeTable) where
       ∙ ap (λ b. cond b (refused s Order) (stepped s e.0 e.1 (step e.0 e.1 p))) (le-ltb e.0 time later)
       ∙ ap (settled (record s { progress = (step e.0 e.1 p).progress }) e.0 e.1) fine
 
-  -- an open stream takes the bytes of lawful events and a close as these events; by induction on the events: each is
-  -- lawful as all are, and leaves an open state at its time
+  -- an open stream, with node `p` and `taken` records so far, takes the bytes of lawful events `es` and a close as
+  -- these events; by induction on the events: each is lawful as all are, and leaves an open state at its time
   takes_all : (close : ℕ) → close < 2 ^ 64 → (es : List (ℕ × Event)) (p : NodeProgress) (taken time : ℕ) →
       p.dispatcher.table ≡ table →
       RiseWithin time close es →

@@ -13,14 +13,14 @@ use Rattle.cpg_node.proofs.Rooms.{room_turn}
 use Rattle.cpg_live.specs.declared.event.Event.{Event}
 use Rattle.cpg_live.specs.declared.event.Event.TheVariants.{Frame as Arrival, End as Ending, Close}
 use Rattle.cpg_live.specs.declared.lawless.Defect.TheVariants.{Frame as StrangeFrame, End as FalseEnd}
-use Rattle.cpg_live.specs.Stream.{NodeProgress, faulty, lawful, take_turn, turned, may_end, may_end_now, may_tell}
+use Rattle.cpg_live.specs.Stream.{NodeProgress, lawless, lawful, take_turn, turned, may_end, may_end_now, may_tell}
 use Rattle.cpg_live.specs.Stream.{arrived, ended, step, is_close}
 use Rattle.cpg_live.specs.Feeding.{IsTurned}
 use Rattle.cpg_live.proofs.Turns.{turned_after}
 
 -- A turn.
 
--- what holds of the value of an option, if it has one, holds of the value that it has
+-- if option `o` has value `t`, what holds of its value holds of `t`
 pub at_some : (o : Option ℕ) (t : ℕ) (P : ℕ → Type 0) → o ≡ Some t → IfSome o P → P t
 at_some o t P e h = subst (λ o. IfSome o P) e h
 
@@ -78,8 +78,8 @@ none_is : {A : Type 0} (o : Option A) → is_none o ≡ true → o ≡ None
 none_is None e = refl
 none_is (Some x) e = absurd (true≢false (sym e))
 
--- if an end may be told now, its execution is such a one: it runs, has no report, started before the time, and could
--- still be running
+-- if end `e` of what runs, `o`, may be told at a time, it runs, has no report, started before the time, and could still
+-- be running
 pub unreported : (d : Dispatcher) (time : ℕ) (e : Ended) (o : Option Running) → may_end_now d time e o ≡ true →
     Unreported o time (time_of d e.process e.faults)
 unreported d time e None h = absurd (true≢false (sym h))
@@ -106,10 +106,10 @@ pub may_finish : (d : Dispatcher) (time : ℕ) (e : Ended) → IsTurned d time �
     may_end d time e ≡ true →
     MayFinish d time e
 may_finish d time e before later h =
-    let parts = and_parts (may_tell d e) (may_end_now d time e (running_of d e.process)) h in
+    let tests = and_parts (may_tell d e) (may_end_now d time e (running_of d e.process)) h in
     let told = and_parts (nat_le e.faults d.table.faults)
-    (is_some (own_of d.table e.process).condition || not e.value) parts.0 in
-    let r = unreported d time e (running_of d e.process) parts.1 in
+    (is_some (own_of d.table e.process).condition || not e.value) tests.0 in
+    let r = unreported d time e (running_of d e.process) tests.1 in
     record {
       run = r.run;
       runs = r.runs;
@@ -124,19 +124,19 @@ may_finish d time e before later h =
 
 -- The last turn stays before the time of the record.
 
--- a frame leaves the last turn before its time, and so does an end
+-- after a frame `f`, the last turn of node `p` is still before the time, and so it is after an end
 arrived_after : (time : ℕ) (f : Frame) (p : NodeProgress) → is_after p.dispatcher.last time ≡ true →
     is_after (arrived time f p).progress.dispatcher.last time ≡ true
 arrived_after time f p h = go (is_strange p.dispatcher time f)
   where
     -- by whether the frame is strange
     go : (b : Bool) →
-        is_after (cond b (faulty p StrangeFrame)
+        is_after (cond b (lawless p StrangeFrame)
         (lawful (record p { dispatcher = hear p.dispatcher f }))).progress.dispatcher.last time ≡ true
     go true = h
     go false = h
 
--- after an end the last turn is still before the time
+-- after an end `e`, the last turn of node `p` is still before the time
 ended_after : (time : ℕ) (e : Ended) (p : NodeProgress) → is_after p.dispatcher.last time ≡ true →
     is_after (ended time e p).progress.dispatcher.last time ≡ true
 ended_after time e p h = go (may_end p.dispatcher time e)
@@ -144,7 +144,7 @@ ended_after time e p h = go (may_end p.dispatcher time e)
     -- by whether the process may end with this report
     go : (b : Bool) →
         is_after (cond b (lawful (record p { dispatcher = finished p.dispatcher e }))
-        (faulty p FalseEnd)).progress.dispatcher.last time ≡ true
+        (lawless p FalseEnd)).progress.dispatcher.last time ≡ true
     go true = h
     go false = h
 

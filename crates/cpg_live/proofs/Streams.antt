@@ -27,7 +27,7 @@ use Rattle.cpg_live.specs.Streams.{stream_lines, IsClosed, IsRefused, IsCutOff, 
 
 -- ---- what a sink took
 
--- a proper prefix of some bytes that was taken is one of them and more
+-- if the bytes that were taken grew from `a` to `b` by a proper prefix of `p`, they grew by a proper prefix of `p ++ q`
 pub took_more : (a b : List ℕ) (p q : List ℕ) → TookPrefix a b p → TookPrefix a b (p ++ q)
 took_more a b p q took =
     let n = took.0 in (
@@ -36,7 +36,8 @@ took_more a b p q took =
       subst (Took a b) (sym (take-append-le n p q (omega (arith, took.1)))) took.2,
     )
 
--- if p was taken and then a proper prefix of q, a proper prefix of p and q was
+-- if the bytes that were taken grew from `a` to `b` by `p`, and then to `c` by a proper prefix of `q`, they grew from
+-- `a` to `c` by a proper prefix of `p ++ q`
 pub took_after : (a b c : List ℕ) (p q : List ℕ) → Took a b p → TookPrefix b c q → TookPrefix a c (p ++ q)
 took_after a b c p q whole took =
     let n = took.0 in (
@@ -66,13 +67,13 @@ end_lawless : (s : LiveState) (count : ℕ) (lawless : LawlessRecord) → s.lawl
 end_lawless s count lawless e =
     ap (λ o. cond (is_none o && nat_lt STREAM_LIMIT count) (Err Long) (end_by (outcome_if s o))) e
 
--- one without, but with more bytes than the limit, ends as too long
+-- a stream without a lawless record, but with more bytes than the limit, ends as too long
 end_long : (s : LiveState) (count : ℕ) → s.lawless ≡ None → STREAM_LIMIT < count → end_of s count ≡ Err Long
 end_long s count e l =
     ap (λ o. cond (is_none o && nat_lt STREAM_LIMIT count) (Err Long) (end_by (outcome_if s s.lawless))) e
     ∙ ap (λ b. cond b (Err Long) (end_by (outcome_if s s.lawless))) (lt-ltb STREAM_LIMIT count l)
 
--- any other ends as the state says
+-- a stream without a lawless record and within the limit ends as its state says
 end_short : (s : LiveState) (count : ℕ) → s.lawless ≡ None → count ≤ STREAM_LIMIT → end_of s count ≡ end_by (outcome s)
 end_short s count e l =
     ap (λ o. cond (is_none o && nat_lt STREAM_LIMIT count) (Err Long) (end_by (outcome_if s s.lawless))) e
@@ -87,14 +88,14 @@ not_long lawless e = true≢false (ap is_lawless e)
     is_lawless (Lawless lawless) = true
     is_lawless Long = false
 
--- all lines of a stream are those of its acts and that of its close, if it has one
+-- all lines of a stream with state `s` are those of its acts and that of its close, if it has one
 lines_of : (h : Head) (table : NodeTable) (bytes : List ℕ) (s : LiveState) (ends : Result ℕ StreamFault) →
     after table (read_part bytes) ≡ s →
     stream_end table bytes ≡ ends →
     stream_lines h table bytes ≡ act_lines h s.progress.acts ++ close_of ends
 lines_of h table bytes s ends same e = ap₂ (λ (t : LiveState) r. act_lines h t.progress.acts ++ close_of r) same e
 
--- an option with a lawless record isn't None
+-- a lawless record that is there isn't `None`
 some_none : (lawless : LawlessRecord) → Some lawless ≡ None → ⊥
 some_none lawless e = true≢false (sym (ap is_none e))
 
@@ -109,7 +110,7 @@ module _ (h : Head) (table : NodeTable) (fetch : Fetch) (sound : fetch.failed �
   ends_as : stream_end table fetch.given ≡ end_of (after table fetch.given) (length fetch.given)
   ends_as = ap (λ bytes. end_of (after table bytes) (length bytes)) read_all
 
-  -- a stream with such an end is refused by it; its lines are those of the acts, as no close adds one
+  -- a stream that ends with the fault `fault` is refused by it; its lines are those of the acts, as no close adds one
   refused_by : (fault : StreamFault) → (fault ≡ Long → IsTooLong table fetch.given) →
       (fault ≢ Long → (after table fetch.given).lawless ≡ None → fetch.ended ≡ true) →
       stream_end table fetch.given ≡ Err fault →
@@ -176,8 +177,8 @@ module _ (h : Head) (table : NodeTable) (fetch : Fetch) (sound : fetch.failed �
               sym (lines_of h table fetch.given (after table fetch.given) (Ok time) (ap (after table) read_all) ends);
         }
 
-  -- if a sink took a proper front of the lines so far, the stream is cut off, since a proper prefix of these is one of
-  -- all its lines
+  -- if the bytes that were taken grew from `a` to `b` by a proper prefix of the lines so far, the stream is cut off,
+  -- since a proper prefix of these is one of all its lines
   pub cut_off : (a b : List ℕ) → TookPrefix a b (act_lines h (after table fetch.given).progress.acts) →
       IsCutOff h table fetch a b
   cut_off a b took =
@@ -192,7 +193,8 @@ module _ (h : Head) (table : NodeTable) (fetch : Fetch) (sound : fetch.failed �
         so_far = inr took;
       }
 
--- if a sink took a proper front of all lines of a closed stream, the stream is cut off
+-- if the bytes that were taken grew from `a` to `b` by a proper prefix of all lines of a closed stream, the stream is
+-- cut off
 pub cut_closed : (h : Head) (table : NodeTable) (fetch : Fetch) (a b : List ℕ) (lines : List ℕ) →
     IsClosed h table fetch lines → TookPrefix a b lines →
     IsCutOff h table fetch a b

@@ -1,4 +1,5 @@
--- A turn of a play is followed on the records of what it takes.
+-- A node on a stream follows each turn of a node in a play, if it is fed the records of the reports and frames that the
+-- turn takes.
 use Rattle.std.proofs.Common.{◌≡◌, ℕ, zero, suc, ◌+◌, ◌≤◌, Bool, true, false, cond, not, ◌||◌, List, [], ◌∷◌, ◌++◌, map}
 use Rattle.std.proofs.Common.{Option, Some, None, refl, sym, ap, ap₂, ◌∙◌, subst, arith, inl, inr, lt-ltb}
 use Rattle.std.proofs.Common.{le-ltb, le-leb}
@@ -12,13 +13,13 @@ use Rattle.cpg_node.proofs.HeardFirst.{hearing_first_is_the_same}
 use Rattle.cpg_node.proofs.Next.{next_is}
 use Rattle.cpg_node.proofs.Turning.{next_reported}
 use Rattle.cpg_live.specs.declared.lawless.Defect.TheVariants.{Frame as StrangeFrame, End as FalseEnd}
-use Rattle.cpg_live.specs.Stream.{NodeProgress, Step, faulty, lawful, take_turn, instant_below, turn_if, turns_below}
+use Rattle.cpg_live.specs.Stream.{NodeProgress, Step, lawless, lawful, take_turn, instant_below, turn_if, turns_below}
 use Rattle.cpg_live.specs.Stream.{turned, may_tell, may_end_now, may_end, arrived, ended}
 use Rattle.cpg_live.specs.Told.{end_event, frame_event, follow_one, follow, after_last, HasCome, MayReport}
 use Rattle.cpg_live.specs.Told.{after_reports, turn_events, TurnsAreFollowed, ClosesAreFollowed}
 use Rattle.cpg_live.proofs.Turns.{floor_after, below_or_not, still, turned_next, turned_last}
 
--- turns below an earlier limit are among those below a later one
+-- after `n` turns below limit `x`, all turns below a later limit `y` lead where they lead from `p` itself
 further : (n x y : ℕ) (p : NodeProgress) → x ≤ y → turned y (turns_below n x p) ≡ turned y p
 unfolding turns_below
 further zero x y p le = refl
@@ -38,8 +39,9 @@ none_before : (d : Dispatcher) (time limit : ℕ) → next d ≡ Some time → l
     instant_below limit (next d) ≡ None
 none_before d time limit e le = ap (instant_below limit) e ∙ ap (λ c. cond c (Some time) None) (le-ltb time limit le)
 
+-- given the time of a turn, and the acts of a node before it
 module _ (time : ℕ) (acts : List Act) where
-  -- with all turns below any r from `from` up to the time, p is the node d with its acts
+  -- with all turns below `r`, which may be any moment from `from` up to the time, p is the node d with its acts
   Holds : ℕ → NodeProgress → Dispatcher → Type 0
   Holds from p d = (r : ℕ) → from ≤ r → r ≤ time → turned r p ≡ at d acts
 
@@ -48,7 +50,7 @@ module _ (time : ℕ) (acts : List Act) where
   unfolding Holds
   itself from d e r le most = turned_last r (at d acts) (none_before d time r e most)
 
-  -- a node on a stream that has come to a play's state stays there up to the time
+  -- a node `p` on a stream that has come to a play's state `d` stays there up to the time
   come : (p : NodeProgress) (d : Dispatcher) → HasCome p d acts → next d ≡ Some time → Holds (after_last d.last) p d
   unfolding Holds
   come p d h e r le most = sym (further (after_last d.last) (after_last d.last) r p le) ∙ ap (turned r) h
@@ -57,7 +59,9 @@ module _ (time : ℕ) (acts : List Act) where
   -- after some events no fault was found, and with all turns up to the time the node is d, whose next instant is the
   -- time
   record Told (s : Step) (d : Dispatcher) : Type 0 where
+    -- no fault was found
     fault : s.fault ≡ None
+    -- the next instant of `d` is the time
     comes : next d ≡ Some time
     -- all turns up to any moment from `from` to the time leave d (`Holds`)
     from : ℕ
@@ -79,7 +83,8 @@ module _ (time : ℕ) (acts : List Act) where
       plain None value h = ap (λ v. false || not v) (h refl)
       plain (Some c) value h = refl
 
-  -- a report that the node may take is followed on its record
+  -- a report `e` that dispatcher `d` may take is followed on its record by node `p`, if all turns up to the time lead
+  -- `p` to `d`
   tell_end : (from : ℕ) (p : NodeProgress) (d : Dispatcher) (e : ℕ × Ended) → Holds from p d → next d ≡ Some time →
       from ≤ e.0 →
       MayFinish d e.0 e.1 →
@@ -88,10 +93,10 @@ module _ (time : ℕ) (acts : List Act) where
   tell_end from p d e h n le m =
       let most : e.0 ≤ time = subst (λ o. IfSome o (λ n. e.0 ≤ n)) n m.before in
       ap (ended e.0 e.1) (h e.0 le most)
-      ∙ ap (λ b. cond b (lawful (at (finished d e.1) acts)) (faulty (at d acts) FalseEnd)) (may_end_is d e.0 e.1 m)
+      ∙ ap (λ b. cond b (lawful (at (finished d e.1) acts)) (lawless (at d acts) FalseEnd)) (may_end_is d e.0 e.1 m)
 
-  -- reports that the node may take one after another are followed on their records; by induction on the reports: none
-  -- changes the next instant
+  -- reports `es` that dispatcher `d` may take one after another are followed on their records by node `p`, if all turns
+  -- up to the time lead `p` to `d`; by induction on the reports: none changes the next instant
   tell_ends : (es : List (ℕ × Ended)) (from : ℕ) (p : NodeProgress) (d : Dispatcher) → Holds from p d →
       next d ≡ Some time → from ≤ time →
       MayReport d from es →
@@ -104,15 +109,17 @@ module _ (time : ℕ) (acts : List Act) where
       (sym (tell_end from p d e h n m.0 m.1))
       (tell_ends es e.0 (at (finished d e.1) acts) (finished d e.1) (itself e.0 (finished d e.1) after) after most m.2)
 
-  -- a frame that isn't strange is followed on its record
+  -- a frame `f` that isn't strange to dispatcher `d` is followed on its record by node `p`, if all turns up to the time
+  -- lead `p` to `d`
   tell_frame : (from : ℕ) (p : NodeProgress) (d : Dispatcher) (f : Frame) → Holds from p d → from ≤ time →
       is_strange d time f ≡ false →
       follow_one (lawful p) (frame_event time f) ≡ lawful (at (hear d f) acts)
   unfolding Holds
   tell_frame from p d f h le fine = ap (arrived time f) (h time le (omega arith))
-      ∙ ap (λ b. cond b (faulty (at d acts) StrangeFrame) (lawful (at (hear d f) acts))) fine
+      ∙ ap (λ b. cond b (lawless (at d acts) StrangeFrame) (lawful (at (hear d f) acts))) fine
 
-  -- frames that aren't strange are followed on their records
+  -- frames `fs` that aren't strange to dispatcher `d` are followed on their records by node `p`, if all turns up to the
+  -- time lead `p` to `d`
   tell_frames : (fs : List Frame) (from : ℕ) (p : NodeProgress) (d : Dispatcher) → Holds from p d → next d ≡ Some time →
       from ≤ time →
       AllFine d time fs →
@@ -127,7 +134,8 @@ module _ (time : ℕ) (acts : List Act) where
   whole : (s : Step) → s.fault ≡ None → lawful s.progress ≡ s
   whole s e = ap (λ o. record { progress = s.progress; fault = o }) (sym e)
 
-  -- the reports and frames of a turn are followed on their records: first the reports, then the frames
+  -- the reports and frames of a turn of dispatcher `d` are followed by node `p` on their records: first the reports,
+  -- then the frames
   tell_all : (p : NodeProgress) (d : Dispatcher) (reports : List (ℕ × Ended)) (frames : List Frame) → HasCome p d acts →
       next d ≡ Some time →
       MayReport d (after_last d.last) reports →
@@ -154,6 +162,7 @@ module _ (time : ℕ) (acts : List Act) where
       ∙ ap (λ c. cond c (Some time) None) (lt-ltb time (time + 1) (omega arith))))
       ∙ turned_last (time + 1) (take_turn time (at d acts)) past
     where
+      -- after its turn at the time, the node has no instant up to the time
       past : instant_below (time + 1) (next (turn d time [] [])) ≡ None
       past = elim (below_or_not (time + 1) (next (turn d time [] []))) [
         | inr z ↦ z.none
@@ -173,7 +182,8 @@ turns_are_followed p d acts time reports frames h n may fine fit =
           ∙ ap₂ at law.0 (ap (λ (more : List Act). acts ++ more) law.1);
     }
 
--- a close that isn't before the last turn of a node without a next instant leads to that node
+-- a close that isn't before the last turn of a node in a play without a next instant leads node `p` to the state and acts of
+-- that node
 pub closes_are_followed : ClosesAreFollowed
 closes_are_followed p d acts time h n late =
     ap lawful (sym (further (after_last d.last) (after_last d.last) (time + 1) p late) ∙ ap (turned (time + 1)) h

@@ -11,7 +11,7 @@ use Rattle.cpg_live.specs.Stream.{NodeProgress, take_turn, instant_below, turn_i
 use Rattle.cpg_live.specs.Told.{after_last}
 use Rattle.cpg_live.specs.Feeding.{IsTurned, AreFewTurns}
 
--- the instants after the last turn
+-- The instants after the last turn.
 
 -- a time after the last turn is not before the first instant after it
 pub floor_after : (last : Option ℕ) (t : ℕ) → is_after last t ≡ true → after_last last ≤ t
@@ -23,7 +23,7 @@ pub after_floor : (last : Option ℕ) (t : ℕ) → after_last last ≤ t → is
 after_floor None t h = refl
 after_floor (Some l) t h = lt-ltb l t (omega arith)
 
--- the next instant isn't before what follows the last turn
+-- the next instant `t` of dispatcher `d` isn't before what follows its last turn
 next_floor : (d : Dispatcher) (t : ℕ) → next d ≡ Some t → after_last d.last ≤ t
 next_floor d t e = floor_after d.last t (next_is d t e).after
 
@@ -33,11 +33,14 @@ pub record Below (limit : ℕ) (o : Option ℕ) : Type 0 where
   pub time : ℕ
   pub is : o ≡ Some time
   pub less : time < limit
+  -- so `instant_below` gives it
   pub found : instant_below limit o ≡ Some time
 
 -- no instant is below a limit
 pub record NotBelow (limit : ℕ) (o : Option ℕ) : Type 0 where
+  -- the instant, if there is one, isn't before the limit
   pub past : IfSome o (λ time. limit ≤ time)
+  -- so `instant_below` gives none
   pub none : instant_below limit o ≡ None
 
 -- an instant is below a limit, or is not
@@ -55,14 +58,14 @@ found_is limit o t e = elim (below_or_not limit o) [
   | inr n ↦ absurd (none-some t (sym n.none ∙ e))
 ]
 
--- if no instant is below the limit, more turns change nothing
+-- if no instant of node `p` is below the limit, more turns, `n`, change nothing
 pub still : (n limit : ℕ) (p : NodeProgress) → instant_below limit (next p.dispatcher) ≡ None →
     turns_below n limit p ≡ p
 unfolding turns_below
 still zero limit p e = refl
 still (suc n) limit p e = ap (λ o. turns_below n limit (turn_if p o)) e ∙ still n limit p e
 
--- if n turns are enough for the limit (instants rise), one more changes nothing; by induction
+-- if `n` turns of node `p` are enough to come to the limit, one more changes nothing; by induction on `n`, as instants rise
 no_more : (n limit : ℕ) (p : NodeProgress) → limit ≤ n + after_last p.dispatcher.last →
     turns_below n limit p ≡ turns_below (suc n) limit p
 unfolding turns_below
@@ -78,7 +81,7 @@ no_more (suc n) limit p h = elim (below_or_not limit (next p.dispatcher)) [
       ∙ sym (ap (λ o. turns_below (suc n) limit (turn_if p o)) m.none ∙ still (suc n) limit p m.none)
 ]
 
--- the step of a loop: a turn below the limit is one of all turns below it
+-- a turn of node `p` at `t`, below the limit, is one of all turns below it: the step of a loop
 pub turned_next : (limit : ℕ) (p : NodeProgress) (t : ℕ) → instant_below limit (next p.dispatcher) ≡ Some t →
     turned limit (take_turn t p) ≡ turned limit p
 unfolding turns_below
@@ -90,8 +93,8 @@ turned_next (suc m) p t e =
 pub turned_last : (limit : ℕ) (p : NodeProgress) → instant_below limit (next p.dispatcher) ≡ None → turned limit p ≡ p
 turned_last limit p e = still limit limit p e
 
--- after enough turns no instant is left below the limit; by induction on n: each turn is at a later instant, and so
--- needs one less
+-- after `n` turns of node `p`, if they are enough, no instant is left below the limit; by induction on `n`: each turn
+-- is at a later instant, and so needs one less
 turns_end : (n limit : ℕ) (p : NodeProgress) → limit ≤ n + after_last p.dispatcher.last →
     IsTurned (turns_below n limit p).dispatcher limit
 unfolding turns_below
@@ -110,7 +113,7 @@ turns_end (suc n) limit p h = elim (below_or_not limit (next p.dispatcher)) [
 pub turned_end : (limit : ℕ) (p : NodeProgress) → IsTurned (turned limit p).dispatcher limit
 turned_end limit p = turns_end limit limit p (omega arith)
 
--- the last turn is before the limit, if it was
+-- after `n` turns below the limit, the last turn of node `p` is before the limit, if it was
 turns_after : (n limit : ℕ) (p : NodeProgress) → is_after p.dispatcher.last limit ≡ true →
     is_after (turns_below n limit p).dispatcher.last limit ≡ true
 unfolding turns_below
@@ -127,7 +130,7 @@ pub turned_after : (limit : ℕ) (p : NodeProgress) → is_after p.dispatcher.la
     is_after (turned limit p).dispatcher.last limit ≡ true
 turned_after limit p h = turns_after limit limit p h
 
--- turns leave the table
+-- `n` turns leave the table of node `p` as it is
 turns_table : (n limit : ℕ) (p : NodeProgress) → (turns_below n limit p).dispatcher.table ≡ p.dispatcher.table
 unfolding turns_below
 turns_table zero limit p = refl
@@ -142,7 +145,7 @@ turns_table (suc n) limit p = turns_table n limit (turn_below limit p) ∙ kept 
 pub turned_table : (limit : ℕ) (p : NodeProgress) → (turned limit p).dispatcher.table ≡ p.dispatcher.table
 turned_table limit p = turns_table limit limit p
 
--- the next turn after n turns makes n + 1
+-- if the next instant after `n` turns of node `p` is `t`, its turn makes `n + 1`
 pub turns_more : (n limit : ℕ) (p : NodeProgress) (t : ℕ) →
     instant_below limit (next (turns_below n limit p).dispatcher) ≡ Some t →
     take_turn t (turns_below n limit p) ≡ turns_below (suc n) limit p
@@ -155,7 +158,8 @@ pub few_none : (limit : ℕ) (p : NodeProgress) → AreFewTurns limit p p
 unfolding turns_below
 few_none limit p = record { turns = 0; few = omega arith; is = refl }
 
--- the turns that a loop has taken and the next one, which leaves fewer instants, stay within the bound
+-- with the next turn, at `t`, which leaves fewer instants, the turns that a loop has taken from `before` on lead to `after`,
+-- and stay within the bound
 pub few_next : (limit : ℕ) (before now after : NodeProgress) (t : ℕ) → AreFewTurns limit before now →
     instant_below limit (next now.dispatcher) ≡ Some t →
     after ≡ take_turn t now →

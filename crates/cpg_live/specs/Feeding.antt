@@ -29,5 +29,7 @@ IsTurned d time = IfSome (next d) (λ instant. time ≤ instant)
 pub record AreFewTurns (limit : ℕ) (before after : NodeProgress) : Type 0 where
   -- how many turns
   pub turns : ℕ
+  -- each of them used up at least one instant
   pub few : turns + instants_left after.dispatcher ≤ instants_left before.dispatcher
+  -- so many turns lead from the one state to the other
   pub is : after ≡ turns_below turns limit before

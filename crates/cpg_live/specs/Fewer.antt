@@ -11,27 +11,27 @@ use Rattle.cpg_live.specs.Records.{Cut, cut, record_of, event_of}
 use Rattle.cpg_live.specs.Stream.{NodeProgress, Step, LiveState, instant_below, turn_if, arrived, ended, lawful}
 use Rattle.cpg_live.specs.Stream.{refused, stepped, with_rest, open_stream, after}
 
--- the node after the turn of the next such instant, if that is below a limit; unchanged if it isn't
+-- the node after the turn of the next awaited instant, if there is one and it is below a limit; unchanged otherwise
 abbrev pub turn_awaited : ℕ → NodeProgress → NodeProgress
 turn_awaited limit p = turn_if p (instant_below limit (next_awaited p.dispatcher))
 
--- the node after up to `count` such turns
+-- the node after up to `count` turns at awaited instants below a limit
 unfoldable pub turns_awaited : ℕ → ℕ → NodeProgress → NodeProgress
 turns_awaited zero limit p = p
 turns_awaited (suc count) limit p = turns_awaited count limit (turn_awaited limit p)
 
--- the node after all such turns below a limit; their instants rise, so there are at most `limit`
+-- the node after all turns at awaited instants below a limit; these instants rise, so there are at most `limit`
 abbrev pub turned_fewer : ℕ → NodeProgress → NodeProgress
 turned_fewer limit p = turns_awaited limit limit p
 
--- the step of an event, after only such turns of those before it
+-- the step of an event at a time, after only those of the turns before it that are at awaited instants
 abbrev pub step_fewer : ℕ → Event → NodeProgress → Step
 step_fewer time (Arrival f) p = arrived time f (turned_fewer time p)
 step_fewer time (Ending process faults value) p =
     ended time (record { process = process; faults = faults; value = value }) (turned_fewer time p)
 step_fewer time Close p = lawful (turned_fewer (time + 1) p)
 
--- the state after a record, given its time and, if its kind is lawful, its event
+-- the state after a record, with fewer turns, given its time and, if its kind is lawful, its event
 abbrev pub judged_fewer : LiveState → ℕ → Option Event → LiveState
 judged_fewer s time None = refused s Kind
 judged_fewer s time (Some event) = if nat_lt time s.time then refused s Order
@@ -42,11 +42,11 @@ abbrev pub take_record_fewer : LiveState → List ℕ → LiveState
 take_record_fewer s bytes = if is_some s.lawless then s else if s.closed then refused s Length
     else judged_fewer s (record_of bytes).time (event_of s.progress.dispatcher.table (record_of bytes))
 
--- the state after bytes that are cut into records
+-- the state after bytes that are cut into records, with fewer turns
 abbrev pub after_cut_fewer : NodeTable → Cut → LiveState
 after_cut_fewer table c = with_rest (fold take_record_fewer (open_stream table) c.whole) c.rest
 
--- the state after bytes, with fewer turns
+-- the state of a node after bytes of its stream, with fewer turns
 abbrev pub after_fewer : NodeTable → List ℕ → LiveState
 after_fewer table bytes = after_cut_fewer table (cut bytes)
 

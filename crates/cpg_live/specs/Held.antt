@@ -22,4 +22,5 @@ pub record IsReady (l : Inside) : Type 0 where
   -- the bytes of the next record that have come, and room for all 14
   pub part : vec_len l.rest < 14
   pub room : 14 ≤ vec_capacity l.rest
+  -- the last turn was before the time of the last record
   pub later : l.lawless ≡ None → l.closed ≡ false → is_after l.progress.dispatcher.last l.time ≡ true

@@ -12,5 +12,7 @@ progress_of p = record { dispatcher = p.node.dispatcher; acts = p.acts.items }
 
 -- the table is lawful, and beside the acts so far there is room for one of each entry that is left
 pub record HasRoom (p : Inside) : Type 0 where
+  -- the table is lawful
   pub made : IsTable p.node.dispatcher.table
+  -- there is room for the acts so far and one of each entry that is left
   pub room : length p.acts.items + length (entries_left p.node.dispatcher) ≤ vec_capacity p.acts

@@ -24,11 +24,15 @@ entry_count table = column_count table.sends + column_count table.starts
 -- the state is that after the bytes `fed`, and there is room for the lines of all acts that the node can do, and for one
 -- more line
 pub record IsFollowing (f : Inside) : Type 0 where
+  -- the bytes that were fed
   pub fed : List ℕ
+  -- the state is that after them
   pub live : f.live ≡ after (table_in f) fed
+  -- their number is kept
   pub read : f.read ≡ length fed
   -- at most a byte more than the limit, which shows that the stream is too long
   pub few : f.read ≤ STREAM_LIMIT + 1
-  -- how many acts have their lines written
+  -- no more acts count as written than were done
   pub told : f.told ≤ length f.live.progress.acts
+  -- there is room for the lines of all acts, and for one more
   pub room : MOST_LINE * (entry_count (table_in f) + 1) ≤ vec_capacity f.lines

@@ -9,10 +9,12 @@ use Rattle.cpg_live.specs.declared.event.Event.TheVariants.{Frame as Arrival, En
 
 -- bytes cut into records: the whole ones, and the bytes of the next one so far
 pub record Cut : Type 0 where
+  -- the whole records, 14 bytes each
   pub whole : List (List ℕ)
+  -- the bytes of the next record so far
   pub rest : List ℕ
 
--- one byte more: with 14, the bytes so far are a whole record
+-- the records with one byte more: when they are 14, the bytes so far are a whole record
 abbrev pub cut_byte : Cut → ℕ → Cut
 cut_byte c byte = if length c.rest + 1 == 14 then record { whole = c.whole ++ ((c.rest ++ byte ∷ []) ∷ []); rest = [] }
     else record { whole = c.whole; rest = c.rest ++ byte ∷ [] }

@@ -12,7 +12,7 @@ AreThoseOf [] es = es ≡ []
 AreThoseOf (f ∷ fs) es = (before : List (ℕ × Event)) × (after : List (ℕ × Event)) × (es ≡ before ++ f ∷ after) ×
     AreThoseOf fs (before ++ after)
 
--- If events are lawful in one order that rises in time, they are lawful in every such order, and lead to the same
+-- If events are lawful in one order in which time doesn't fall, they are lawful in every such order, and lead to the same
 -- state.
 abbrev pub EventsOfOneTimeCommute : Type 0
 EventsOfOneTimeCommute = (p : NodeProgress) (from to : ℕ) (es fs : List (ℕ × Event)) → RiseWithin from to es →

@@ -74,7 +74,9 @@ closed_at es close = es ++ ((close, Close) ∷ [])
 -- the bytes of the events and a close are a lawful stream, which ends with this close; and they lead the node where the
 -- events lead it
 pub record AreTaken (table : NodeTable) (es : List (ℕ × Event)) (close : ℕ) : Type 0 where
+  -- the stream is lawful, and ends with the close
   pub ends : outcome (after table (stream_bytes (closed_at es close))) ≡ Ok close
+  -- the node comes to where the events lead it
   pub comes : (after table (stream_bytes (closed_at es close))).progress
       ≡ (follow (lawful (start table)) (closed_at es close)).progress
 

@@ -16,7 +16,9 @@ use Rattle.cpg_live.specs.Records.{Cut, cut, record_of, event_of}
 
 -- the state of a node, and the acts of all its turns so far, in order
 pub record NodeProgress : Type 0 where
+  -- the state of the node
   pub dispatcher : Dispatcher
+  -- the acts of all its turns so far, in order
   pub acts : List Act
 
 -- a node before its first turn
@@ -57,12 +59,14 @@ turned limit p = turns_below limit limit p
 
 -- the node after an event, and what is wrong with the event, if anything
 pub record Step : Type 0 where
+  -- the node after the event; if that is lawless, after the turns before it
   pub progress : NodeProgress
+  -- what is wrong with the event; `None` if it is lawful
   pub fault : Option Defect
 
 -- the step of a lawless event
-abbrev pub faulty : NodeProgress → Defect → Step
-faulty p defect = record { progress = p; fault = Some defect }
+abbrev pub lawless : NodeProgress → Defect → Step
+lawless p defect = record { progress = p; fault = Some defect }
 
 -- the step of a lawful event
 abbrev pub lawful : NodeProgress → Step
@@ -85,13 +89,13 @@ may_end d time e = may_tell d e && may_end_now d time e (running_of d e.process)
 
 -- the step of a frame that arrives at a time, after the turns before it: a strange one is lawless
 abbrev pub arrived : ℕ → Frame → NodeProgress → Step
-arrived time f p = if is_strange p.dispatcher time f then faulty p StrangeFrame
+arrived time f p = if is_strange p.dispatcher time f then lawless p StrangeFrame
     else lawful (record p { dispatcher = hear p.dispatcher f })
 
 -- the step of an end that is reported at a time, after the turns before it
 abbrev pub ended : ℕ → Ended → NodeProgress → Step
 ended time e p = if may_end p.dispatcher time e then lawful (record p { dispatcher = finished p.dispatcher e })
-    else faulty p FalseEnd
+    else lawless p FalseEnd
 
 -- the step of an event at a time: first the turns before that time (at a close, also the one at it), and then the event
 abbrev pub step : ℕ → Event → NodeProgress → Step
@@ -104,6 +108,7 @@ step time Close p = lawful (turned (time + 1) p)
 
 -- the state of a node after bytes of a stream
 pub record LiveState : Type 0 where
+  -- the node, with its acts so far
   pub progress : NodeProgress
   -- how many lawful records were taken; the count stops at 2 ^ 64 - 1
   pub taken : ℕ

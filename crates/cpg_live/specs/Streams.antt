@@ -39,12 +39,12 @@ defect_text Order = codes "order"
 defect_text Frame = codes "frame"
 defect_text End = codes "end"
 
--- the words for why a stream is rejected, after the number of the refusal
+-- why a stream is refused: the number of the refusal, and what is wrong
 abbrev pub fault_text : StreamFault → List ℕ
 fault_text (Lawless lawless) = codes "21 stream " ++ decimal lawless.index ++ codes " " ++ defect_text lawless.defect
 fault_text Long = codes "16 long stream"
 
--- the line of a stream that is rejected
+-- the line that says that a stream is refused, and why
 abbrev pub fault_line : StreamFault → List ℕ
 fault_line fault = codes "cpgc: refused " ++ fault_text fault ++ codes "\n"
 
@@ -52,7 +52,7 @@ fault_line fault = codes "cpgc: refused " ++ fault_text fault ++ codes "\n"
 abbrev pub read_part : List ℕ → List ℕ
 read_part bytes = take (STREAM_LIMIT + 1) bytes
 
--- the same end, with a lawless record as the fault of a stream
+-- the end of a stream, by how its records end: a lawless record is the stream's fault
 abbrev pub end_by : Result ℕ LawlessRecord → Result ℕ StreamFault
 end_by (Ok time) = Ok time
 end_by (Err lawless) = Err (Lawless lawless)
@@ -61,11 +61,11 @@ end_by (Err lawless) = Err (Lawless lawless)
 abbrev pub end_of : LiveState → ℕ → Result ℕ StreamFault
 end_of s count = if is_none s.lawless && nat_lt STREAM_LIMIT count then Err Long else end_by (outcome s)
 
--- how a stream of these bytes ends: the time of its close, or why it is rejected
+-- how a stream of these bytes ends: the time of its close, or why it is refused
 abbrev pub stream_end : NodeTable → List ℕ → Result ℕ StreamFault
 stream_end table bytes = end_of (after table (read_part bytes)) (length (read_part bytes))
 
--- the line of a stream's close, if the stream has one
+-- the line of a stream's close, by how the stream ends; nothing if it has none
 abbrev pub close_of : Result ℕ StreamFault → List ℕ
 close_of (Ok time) = closed_line time
 close_of (Err fault) = []
@@ -81,26 +81,33 @@ pub record IsClosed (h : Head) (table : NodeTable) (fetch : Fetch) (lines : List
   -- all bytes of the stream came, and no fault of the shelf
   pub ended : fetch.ended ≡ true
   pub sound : fetch.failed ≡ false
+  -- there are no more bytes than the limit
   pub short : length fetch.given ≤ STREAM_LIMIT
+  -- the time of the close
   pub time : ℕ
   -- the close is the last record, and has this time
   pub ends : stream_end table fetch.given ≡ Ok time
+  -- these are all lines of the stream
   pub spelled : lines ≡ stream_lines h table fetch.given
 
 -- a stream is too long: as many records as the limit allows are lawful, none of them is a close, and another byte came
 pub record IsTooLong (table : NodeTable) (bytes : List ℕ) : Type 0 where
+  -- more bytes came than the limit
   pub more : STREAM_LIMIT < length bytes
+  -- no record within the limit is lawless
   pub lawful : (after table (read_part bytes)).lawless ≡ None
   -- 2^24 records of 14 bytes are as many bytes as the limit
   pub taken : (after table (read_part bytes)).taken ≡ 16777216
+  -- and none is a close
   pub not_closed : (after table (read_part bytes)).closed ≡ false
 
--- A stream is rejected because of the bytes that came; `lines` are all its lines. The bytes have a lawless record, are
--- too many, or are all that there are.
+-- A stream is refused because of the bytes that came; `lines` are all its lines. The bytes have a lawless record, are too
+-- many, or are all that there are, without a close.
 pub record IsRefused (h : Head) (table : NodeTable) (fetch : Fetch) (fault : StreamFault)
     (lines : List ℕ) : Type 0 where
   -- the shelf met no fault
   pub sound : fetch.failed ≡ false
+  -- at most a byte more than the limit came
   pub few : length fetch.given ≤ STREAM_LIMIT + 1
   -- how the stream ends is a fault of its bytes
   pub ends : stream_end table fetch.given ≡ Err fault
@@ -108,21 +115,28 @@ pub record IsRefused (h : Head) (table : NodeTable) (fetch : Fetch) (fault : Str
   pub long : fault ≡ Long → IsTooLong table fetch.given
   -- a stream without a lawless record that isn't too long is refused only at its end, as it has no close
   pub all : fault ≢ Long → (after table fetch.given).lawless ≡ None → fetch.ended ≡ true
+  -- these are all its lines
   pub spelled : lines ≡ stream_lines h table fetch.given
 
 -- the shelf met a fault; all records of the bytes that came before are lawful, and `lines` are the lines of their acts
 pub record IsLawfulSoFar (h : Head) (table : NodeTable) (fetch : Fetch) (lines : List ℕ) : Type 0 where
   -- the shelf met a fault before the end
   pub failed : fetch.failed ≡ true
+  -- no more bytes came than the limit
   pub few : length fetch.given ≤ STREAM_LIMIT
+  -- no record of them is lawless
   pub lawful : (after table fetch.given).lawless ≡ None
+  -- these are the lines of their acts
   pub spelled : lines ≡ act_lines h (after table fetch.given).progress.acts
 
 -- of all lines of the bytes that came only a proper prefix was written. If the bytes haven't come to their end, it is one
 -- of the acts' lines, without a part of the close's
 pub record IsCutOff (h : Head) (table : NodeTable) (fetch : Fetch) (old new : List ℕ) : Type 0 where
+  -- the shelf met no fault
   pub sound : fetch.failed ≡ false
+  -- at most a byte more than the limit came
   pub few : length fetch.given ≤ STREAM_LIMIT + 1
   -- the sink had taken `old` before the stream, and has taken `new` now
   pub front : TookPrefix old new (stream_lines h table fetch.given)
+  -- the bytes have come to their end, or it is a proper prefix of the acts' lines alone
   pub so_far : (fetch.ended ≡ true) ⊎ TookPrefix old new (act_lines h (after table fetch.given).progress.acts)

@@ -22,7 +22,7 @@ abbrev pub follow_if : Step → ℕ × Event → Option Defect → Step
 follow_if s e None = step e.0 e.1 s.progress
 follow_if s e (Some defect) = s
 
--- the same, by the step so far
+-- the step of one more event after the step `s`; the same step if that found a lawless event
 abbrev pub follow_one : Step → ℕ × Event → Step
 follow_one s e = follow_if s e s.fault
 
@@ -35,7 +35,8 @@ abbrev pub after_last : Option ℕ → ℕ
 after_last None = 0
 after_last (Some last) = last + 1
 
--- with all turns up to the last one of a node in a play, a node on a stream is in its state d and has done its acts
+-- node `p` on a stream, after all turns up to the last one of a node in a play, is in the state `d` of that node, and has
+-- done the same `acts`
 abbrev pub HasCome : NodeProgress → Dispatcher → List Act → Type 0
 HasCome p d acts = turned (after_last d.last) p ≡ record { dispatcher = d; acts = acts }
 
@@ -55,7 +56,9 @@ turn_events time reports frames = map end_event reports ++ map (frame_event time
 -- these events are lawful, and lead a node on a stream to the state after the turn, and to its acts
 pub record IsFollowed (p : NodeProgress) (d : Dispatcher) (acts : List Act) (time : ℕ) (reports : List (ℕ × Ended))
     (frames : List Frame) : Type 0 where
+  -- no event is lawless
   pub none : (follow (lawful p) (turn_events time reports frames)).fault ≡ None
+  -- the node on the stream comes to the state and the acts after the turn
   pub comes : HasCome (follow (lawful p) (turn_events time reports frames)).progress
       (turn (after_reports d reports) time [] frames) (acts ++ acts_of_turn (after_reports d reports) time [] frames)
 

@@ -76,7 +76,7 @@ fn append_done(out: &mut Vec<u8>, head: &Head, item: Item)
     }
 }
 
-/// Appends the line of an act.
+/// Appends the line of an act, in at most `MOST_LINE` bytes: its time, and what is done.
 fn append_act(out: &mut Vec<u8>, head: &Head, act: &Act)
     requires { vec_len out.old + MOST_LINE ≤ vec_capacity out.old }
     ensures bytes { out.new.items ≡ out.old.items ++ act_line head.now act.now }
@@ -100,7 +100,7 @@ pub fn append_acts(out: &mut Vec<u8>, head: &Head, acts: &[Act])
     }
 }
 
-/// Appends the line of a close.
+/// Appends the line of a close at this time.
 pub fn append_closed(out: &mut Vec<u8>, time: u64)
     requires { vec_len out.old + MOST_LINE ≤ vec_capacity out.old }
     ensures bytes { out.new.items ≡ out.old.items ++ closed_line time }
@@ -143,7 +143,7 @@ fn append_fault(out: &mut Vec<u8>, fault: StreamFault)
     }
 }
 
-/// Appends the line of a stream that is refused.
+/// Appends the line that says that a stream is refused, and why.
 pub fn append_refused(out: &mut Vec<u8>, fault: StreamFault)
     requires { vec_len out.old + MOST_LINE ≤ vec_capacity out.old }
     ensures bytes { out.new.items ≡ out.old.items ++ fault_line fault }

@@ -73,7 +73,8 @@ fn may_end_now(node: &Node, time: u64, ended: &Ended) -> bool
     time - start <= time_of(node, ended.process, ended.faults)
 }
 
-/// Returns whether a process may report this end at a time.
+/// Returns whether a process may report this end at a time: the end has at most the faults of a cycle and a true value only
+/// if the process has a condition, and the process may end then.
 pub fn may_end(node: &Node, time: u64, ended: &Ended) -> bool
     ensures { result ≡ may_end node.now.dispatcher time ended.now }
 {

@@ -25,7 +25,8 @@ fn is_plain(read: &Record) -> bool
     read.item == 0 && read.number == 0 && read.value == 0
 }
 
-/// Returns whether the kind of a record is lawless on the node of a table.
+/// Returns whether the kind of a record is lawless on the node of a table: it is above 2, the value is above 1, a close has
+/// an item, a number or a value other than 0, or the frame of a message has the value 1.
 fn is_unkind(table: &NodeTable, read: &Record) -> bool
     ensures { result ≡ is_unkind table.now read.now }
 {
@@ -66,7 +67,7 @@ fn told(read: &Record) -> Event
     Event::Close
 }
 
-/// Returns the event of a record, or `None` if its kind is lawless.
+/// Returns the event of a record, or `None` if its kind is lawless on the node of this table.
 pub fn event_of(table: &NodeTable, read: &Record) -> Option<Event>
     ensures { result ≡ event_of table.now read.now }
 {

@@ -1,4 +1,4 @@
-//! A node of a pack that follows a stream.
+//! A node of a pack that follows a stream of a shelf, piece by piece, and writes the lines of what it does.
 ghost use Rattle.std.specs.Prelude.{◌≡◌, ◌+◌, ◌*◌, ◌≤◌, ◌<◌, Err, IfErr, IfOk, IfSome, OnErr, OnOk, drop, length};
 ghost use Rattle.cpg_history.specs.Fetch.{failed};
 ghost use Rattle.cpg_io.specs.Agreement.{LeavesRest};
@@ -35,7 +35,7 @@ pub fn stream_limit_is_this()
 pub enum StreamFault {
     /// Its first lawless record. If the stream ends without a close and no record is lawless, that is the next one.
     Lawless(LawlessRecord),
-    /// It has more than 16,777,216 records, of which the first 16,777,216 are lawful and none is a close.
+    /// It has more bytes than the limit. The 16,777,216 records up to there are lawful, and none is a close.
     Long,
 }
 
@@ -121,7 +121,8 @@ impl Follower {
         })
     }
 
-    /// Reads the next piece of the stream and feeds it; `Err` only if the shelf meets a fault, and then nothing is fed.
+    /// Reads the next piece of the stream into `buffer`, and feeds it; `Err` only if the shelf meets a fault, and then
+    /// nothing is fed.
     fn feed_piece<S: Shelf>(&mut self, shelf: &mut S, buffer: &mut [u8]) -> Result<Fed, Failed>
         requires some { 0 < length buffer.old }
         requires few { self.old.read ≤ STREAM_LIMIT }
@@ -164,9 +165,9 @@ impl Follower {
         write_all(out, self.lines.as_slice())
     }
 
-    /// Reads the next piece of the stream, feeds it, and writes the lines of the acts that it brings, before anything else
-    /// is read. Returns how many bytes the piece has, which is 0 only at the end of the stream. `Err` says that the shelf or
-    /// the sink met a fault, or that the stream is refused.
+    /// Reads the next piece of the stream into `buffer`, feeds it, and writes the lines of the acts that it brings to `out`,
+    /// before anything else is read. Returns how many bytes the piece has, which is 0 only at the end of the stream. `Err`
+    /// says that the shelf or the sink met a fault, or that the stream is refused.
     pub fn follow_piece<S: Shelf, O: Sink>(
         &mut self,
         shelf: &mut S,
@@ -205,7 +206,7 @@ impl Follower {
         Ok(fed.count)
     }
 
-    /// Writes the line of a close; `Err` only if the sink meets a fault.
+    /// Writes the line of a close at this time; `Err` only if the sink meets a fault.
     fn write_close<O: Sink>(&mut self, time: u64, out: &mut O) -> Result<(), Failed>
         ensures same { self.new ≡ self.old }
         ensures whole { OnOk result (Took (O.state out.old).taken (O.state out.new).taken (closed_line time)) }

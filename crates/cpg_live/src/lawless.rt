@@ -1,4 +1,4 @@
-//! Why a stream is refused.
+//! The first lawless record of a stream, and what is wrong with it.
 
 /// What is wrong with a record. The cases are tested in this order.
 #[derive(Clone, Copy, Debug, PartialEq, Eq)]

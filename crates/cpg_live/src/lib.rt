@@ -35,7 +35,7 @@ pub fn closes_are_followed()
     ensures { ClosesAreFollowed }
 {}
 
-/// Events in any two orders that rise in time lead to the same state, if they are lawful in one of them.
+/// Events in any two orders in which time doesn't fall lead to the same state, if they are lawful in one of them.
 pub fn events_of_one_time_commute()
     ensures { EventsOfOneTimeCommute }
 {}

@@ -1,4 +1,4 @@
-//! A node that follows a stream of records.
+//! One node on a stream of records that comes in pieces: it takes the bytes, and with them the records and the turns.
 ghost use Rattle.std.specs.Prelude.{◌≡◌, None, true, false, IfOk, IfSome};
 ghost use Rattle.cpg_node.specs.Dispatcher.{is_after};
 ghost use Rattle.cpg_live.specs.Records.{event_of};
@@ -135,7 +135,7 @@ impl Live {
         }
     }
 
-    /// Notes that the next record is lawless.
+    /// Notes that the next record is lawless, and what is wrong with it.
     fn refuse(&mut self, defect: Defect)
         ensures { self.new ≡ refused self.old defect }
     {

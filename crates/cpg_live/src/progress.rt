@@ -168,7 +168,7 @@ impl NodeProgress {
                 self.end(time, process, number, value)
             }
             Event::Close => {
-                // a close also ends the turn at its own time
+                // a close also takes the turn at its own time
                 self.turn_to(time);
                 None
             }

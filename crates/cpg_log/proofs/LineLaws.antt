@@ -15,7 +15,7 @@ use Rattle.std.proofs.lemmas.Str.Parse.{digit_from_value}
 use Rattle.cpg_base.proofs.Lists.{list_any_false}
 use Rattle.cpg_log.specs.Lines.{IsParted, lines, with_byte}
 
--- bytes are parted at place i, if the byte is there and not before; by induction on i
+-- bytes `xs` are parted at place `i`, if the byte is there and not before; by induction on `i`
 parts_at : (byte : ℕ) (xs : List ℕ) (i : ℕ) → i < length xs → (get_or xs i 0 == byte) ≡ true →
     ((k : ℕ) → k < i → (get_or xs k 0 == byte) ≡ false) →
     IsParted byte xs (take i xs) (drop (suc i) xs)
@@ -28,14 +28,14 @@ parts_at byte (x ∷ xs) (suc i) l e h =
       first = or_from (x == byte) (list_any (λ b. b == byte) (take i xs)) (h 0 (omega arith)) r.first;
     }
 
--- bytes are parted at the first place of a byte, as `position` finds it
+-- bytes `xs` are parted at place `i`, which `position` finds as the first place of the byte
 pub parted_at : (byte : ℕ) (xs : List ℕ) (i : ℕ) → position (λ b. b == byte) xs ≡ Some i →
     IsParted byte xs (take i xs) (drop (i + 1) xs)
 parted_at byte xs i e = let r = position-Some (λ b. b == byte) xs i 0 e in
     subst (λ n. IsParted byte xs (take i xs) (drop n xs)) (let same : suc i ≡ i + 1 = omega arith in
     same) (parts_at byte xs i r.0 r.1 r.2)
 
--- if a byte has no place in a list, it isn't in it
+-- if `position` finds no place of a byte in `xs`, the byte isn't in it
 pub not_there : (byte : ℕ) (xs : List ℕ) → position (λ b. b == byte) xs ≡ None → list_any (λ b. b == byte) xs ≡ false
 not_there byte xs e =
     list_any_false (λ b. b == byte) xs (λ x c. elim (cases_lt (position_or_len (λ b. b == byte) xs) (length xs)) [
@@ -44,7 +44,8 @@ not_there byte xs e =
       | inr m ↦ subst (λ y. (y == byte) ≡ false) c.2 (fails_before_first (λ b. b == byte) xs c.0 x (omega (arith, c.1)))
     ])
 
--- a line without a line feed, a line feed and a rest have the lines of the rest after that line; by induction
+-- the lines of a line without a line feed, a line feed and a rest are that line and the lines of the rest; by induction on
+-- the line
 pub lines_cut : (line rest : List ℕ) → list_any (λ b. b == 10) line ≡ false →
     lines (line ++ 10 ∷ rest) ≡ line ∷ lines rest
 lines_cut [] rest h = refl
@@ -64,7 +65,8 @@ lines_whole (b ∷ c ∷ bs) l h = let p = or_parts (b == 10) (list_any (λ b. b
     cond-false (b == 10) ([] ∷ lines (c ∷ bs)) (with_byte b (lines (c ∷ bs))) p.0
     ∙ ap (with_byte b) (lines_whole (c ∷ bs) (omega arith) p.1)
 
--- bytes are parted at the first of some byte in one way only; by induction on the first parts
+-- bytes are parted at the first of some byte in one way only, so `d` and `e` are equal, and `t` and `u`; by induction
+-- on the first parts
 pub same_parts : (byte : ℕ) (d e t u : List ℕ) → list_any (λ b. b == byte) d ≡ false →
     list_any (λ b. b == byte) e ≡ false → d ++ byte ∷ t ≡ e ++ byte ∷ u →
     (d ≡ e) × (t ≡ u)
@@ -83,7 +85,7 @@ spaceless [] d = refl
 spaceless (c ∷ cs) d = or_from (c == 32) (list_any (λ b. b == 32) cs)
     (ne_eqb c 32 (λ e. omega (arith, digit_from_value c d.0, e))) (spaceless cs d.1)
 
--- the text of a number below 2^60 has no space
+-- the decimal digits of a number below 2^60 have no blank among them
 pub decimal_spaceless : (n : ℕ) → n < 2 ^ 60 → list_any (λ b. b == 32) (decimal n) ≡ false
 decimal_spaceless n h = spaceless (decimal n) (decimal_is_IsNumeral n (omega arith)).0.1
 

@@ -45,14 +45,14 @@ unlogged (m ∷ ls) x e k d l = elim (cases_eq m.item x) [
       other k l
 ]
   where
-    -- the item of no act is x: not of the first, and not of a later one
+    -- no act of `m ∷ ls` is of item `x`: not the first, `m`, and not one at a later place
     at : ((j : ℕ) (f : Logged) → j < length ls → (get_or ls j f).item ≢ x) → m.item ≢ x → (k : ℕ) →
         k < length (m ∷ ls) →
         (get_or (m ∷ ls) k d).item ≢ x
     at rest other zero l = other
     at rest other (suc j) l = rest j d (omega arith)
 
--- what holds of each element of a list and of y holds of each with y at the end
+-- if `P` holds of each element of `xs` and of `y`, it holds of each element of `xs` with `y` at the end
 all_push : {X : Type 0} (P : X → Type 0) (xs : List X) (y : X) → All P xs → P y → All P (xs ++ y ∷ [])
 all_push P [] y h p zero d l = p
 all_push P [] y h p (suc k) d l = absurd (omega arith)
@@ -69,17 +69,17 @@ log_more g log act is may = record {
       (λ k d l. unlogged log.acts act.item may.new k d l);
 }
 
--- the first elements of xs and ys, as many as xs has, are xs
+-- the first elements of `xs ++ ys`, as many as `xs` has, are `xs`
 take_front : {X : Type 0} (xs ys : List X) → take (length xs) (xs ++ ys) ≡ xs
 take_front [] ys = refl
 take_front (x ∷ xs) ys = ap (λ zs. x ∷ zs) (take_front xs ys)
 
--- two lists, one after another, are as long as both
+-- `xs ++ ys` is as long as `xs` and `ys` together
 long_front : {X : Type 0} (xs ys : List X) → length (xs ++ ys) ≡ length xs + length ys
 long_front [] ys = omega arith
 long_front (x ∷ xs) ys = omega (arith, long_front xs ys)
 
--- an element between two lists may be grouped with either
+-- element `y` between lists `xs` and `ys` may be grouped with either
 shifted : {X : Type 0} (xs : List X) (y : X) (ys : List X) → xs ++ y ∷ ys ≡ (xs ++ y ∷ []) ++ ys
 shifted [] y ys = refl
 shifted (x ∷ xs) y ys = ap (λ zs. x ∷ zs) (shifted xs y ys)
@@ -101,7 +101,7 @@ module _ (g : Graph) (ls : List (List ℕ)) (log : Log) (rest : List ℕ) (is : 
 
 -- ---- a line that makes no log
 
--- equal lists of lines have equal first lines
+-- if two lists of lines are equal, so are their first lines, `a` and `b`
 head_of_cons : (a b : List ℕ) (xs ys : List (List ℕ)) → a ∷ xs ≡ b ∷ ys → a ≡ b
 head_of_cons a b xs ys e = ap (λ zs. get_or zs 0 []) e
 
@@ -135,8 +135,8 @@ module _ (g : Graph) (limits : IsWithinLimits g) (named : HaveNames g (item_coun
       one_more xs ys (λ k d l. by (suc k) d (omega arith)) (λ k d l. is (suc k) d (omega arith)) (ap (drop 1) e) in
       (r.0, (λ i. same i ∷ r.1 i), r.2)
 
--- if no two acts are of one item, those before the last don't name its item; by induction on those before: the first
--- one and the last are a pair, so they are of different items
+-- if no two acts are of one item, those before the last, `ls`, don't name its item; by induction on these: the first
+-- one and the last, `l`, are a pair, so they are of different items
 before_last : (ls : List Logged) (l : Logged) → AllPairs (λ (a b : Logged). a.item ≢ b.item) (ls ++ l ∷ []) →
     logged_time ls l.item ≡ None
 before_last [] l pairs = refl
@@ -145,12 +145,13 @@ before_last (m ∷ ls) l pairs = cond-false (m.item == l.item) (Some m.time) (lo
     (same ∙ sym (ap (λ (z : Logged). z.item) (at_end ls l)))))
     ∙ before_last ls l (λ i j d a b. pairs (suc i) (suc j) d (omega arith) (omega arith))
   where
-    -- the last element is the one that was appended
+    -- in `xs` with `x` appended, the element at the length of `xs` is `x`
     at_end : (xs : List Logged) (x : Logged) → get_or (xs ++ x ∷ []) (length xs) l ≡ x
     at_end [] x = refl
     at_end (y ∷ xs) x = at_end xs x
 
--- given the same of a file for a graph whose nodes have well-formed names
+-- given a graph whose nodes have well-formed names, and the lines `ls` of a file, which are those of a lawful log and then
+-- those of the rest
 module _ (g : Graph) (limits : IsWithinLimits g) (named : HaveNames g (item_count g)) (ls : List (List ℕ)) (log : Log)
     (rest : List ℕ) (is : IsLog g log)
     (spelled : ls ≡ log_lines g log ++ lines rest) where
@@ -199,7 +200,7 @@ module _ (g : Graph) (limits : IsWithinLimits g) (named : HaveNames g (item_coun
 
 -- ---- a log's file has no bad line
 
--- if no two acts are of one item, so no two of the first n are
+-- if no two acts of `ls` are of one item, no two of the first `n` are
 apart_take : (ls : List Logged) (n : ℕ) → AllPairs (λ (a b : Logged). a.item ≢ b.item) ls →
     AllPairs (λ (a b : Logged). a.item ≢ b.item) (take n ls)
 apart_take ls n pairs i j d a b e =
@@ -212,6 +213,10 @@ apart_take ls n pairs i j d a b e =
 pub no_bad_line : (g : Graph) (bytes : List ℕ) (log : Log) → IsLogOf g bytes log → (n : ℕ) →
     IsBadLine g (lines bytes) n → ⊥
 no_bad_line g bytes log is n bad = bad.none (record { until = log.until; acts = take n log.acts })
-    (record { until = is.lawful.until; acts = All-take (IsActBy g log.until) n log.acts is.lawful.acts; apart = apart_take log.acts n is.lawful.apart })
+    (record {
+      until = is.lawful.until;
+      acts = All-take (IsActBy g log.until) n log.acts is.lawful.acts;
+      apart = apart_take log.acts n is.lawful.apart;
+    })
     (ap (λ m. take m (lines bytes)) (let m : n + 1 ≡ suc n = omega arith in m) ∙ ap (take (suc n)) is.spelled
     ∙ ap (λ xs. until_line log.until ∷ xs) (take-map (act_line g) n log.acts))

@@ -25,12 +25,12 @@ use Rattle.cpg_log.specs.Log.{Logged, IsActBy, is_act, act_text, act_line}
 use Rattle.cpg_log.specs.Reading.{HaveNames}
 use Rattle.cpg_log.proofs.LineLaws.{same_parts, decimal_spaceless}
 
--- a part of a true disjunction is true
+-- if `a || b` is true, so is `a` or `b`
 or_cases : (a b : Bool) → (a || b) ≡ true → (a ≡ true) ⊎ (b ≡ true)
 or_cases true b e = inl refl
 or_cases false b e = inr e
 
--- what a node starts or sends is an item of the graph
+-- if `x` is what a node starts or sends, it is an item of `g`
 pub act_within : (g : Graph) (x : ℕ) → is_act g x ≡ true → x < item_count g
 act_within g x e = elim (or_cases (nat_lt x (process_count g)) (nat_lt x (item_count g) && is_sent g x) e) [
   | inl l ↦ omega (arith, ltb-true x (process_count g) l)
@@ -45,12 +45,12 @@ module _ (g : Graph) (texts : List (String Global))
   texts_long =
       sym (length-map texts string_bytes) ∙ ap length are ∙ length-map-range_with_len (act_text g) 0 (item_count g)
 
-  -- the text at an item's number is that of the item
+  -- the text at place `x` of `texts` is that of item `x`
   pub text_at : (x : ℕ) (d : String Global) → x < item_count g → string_bytes (get_or texts x d) ≡ act_text g x
   text_at x d l = sym (get_or-map string_bytes texts x d [] (omega (arith, texts_long, l)))
       ∙ ap (λ ts. get_or ts x []) are ∙ get_or-map-below (act_text g) (item_count g) x [] l
 
--- if the nodes of the items below n have well-formed names, and so has that of item n, so have those below n + 1
+-- if the nodes of the items below `n` have well-formed names, and so has that of item `n`, so have those below `n + 1`
 pub names_more : (g : Graph) (n : ℕ) → HaveNames g n → IsName (get_or g.nodes (home g n) []) → HaveNames g (n + 1)
 names_more g n h name x l = elim (cases_lt x n) [
   | inl m ↦ h x m
@@ -65,12 +65,13 @@ name_spaceless bytes name = list_any_false (λ b. b == 32) bytes (λ b c. ne_eqb
     let plain : is_name_byte b ≡ true = All-contains (λ b. is_name_byte b ≡ true) bytes b name.plain c in
     true≢false (sym (subst (λ d. is_name_byte d ≡ true) e plain))))
 
--- the text of a blank is the byte 32
+-- between `a` and `t`, the text of a blank is the byte 32
 pub spaced : (a t : List ℕ) → a ++ codes " " ++ t ≡ a ++ 32 ∷ t
 spaced a t = append_assoc a (32 ∷ []) t
 
+-- given a graph within its limits
 module _ (g : Graph) (limits : IsWithinLimits g) where
-  -- two processes of one name are one
+  -- processes `p` and `q` of `g` that have one name are one
   same_process : (p q : ℕ) → p < process_count g → q < process_count g → (process_at g p).name ≡ (process_at g q).name →
       p ≡ q
   same_process p q l h e = elim (cases_order p q) [
@@ -79,19 +80,19 @@ module _ (g : Graph) (limits : IsWithinLimits g) where
     | inr (inr above) ↦ absurd (limits.process_names q p _ above l (sym e))
   ]
 
-  -- two processes with one label are one
+  -- processes `p` and `q` of `g` that have one label are one
   same_label : (p q : ℕ) → p < process_count g → q < process_count g →
       process_name (labels_of g) p ≡ process_name (labels_of g) q → p ≡ q
   same_label p q l h e = same_process p q l h (sym (process_called g p) ∙ e ∙ process_called g q)
 
-  -- two conditions with one name are one
+  -- conditions `c` and `d` of `g` that have one name are one
   same_teller : (c d : ℕ) → c < condition_count g → d < condition_count g →
       condition_name (labels_of g) c ≡ condition_name (labels_of g) d → c ≡ d
   same_teller c d l h e = same_condition g c d l h
       (same_process (process_of g c) (process_of g d) (process_of_below g c l) (process_of_below g d h)
       (sym (condition_called g c l) ∙ e ∙ condition_called g d h))
 
-  -- the text of what a node did with an item
+  -- the text of what a node does with an item, without the node
   abbrev text : Item → List ℕ
   text = done_text (labels_of g)
 

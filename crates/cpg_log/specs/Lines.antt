@@ -14,5 +14,7 @@ lines (b ∷ bs) = if b == 10 then [] ∷ lines bs else with_byte b (lines bs)
 
 -- `before` are the bytes before the first one that is `byte`, and `after` those after it
 pub record IsParted (byte : ℕ) (bytes before after : List ℕ) : Type 0 where
+  -- the byte stands between the two parts
   pub whole : bytes ≡ before ++ byte ∷ after
+  -- it isn't in the first part
   pub first : list_any (λ b. b == byte) before ≡ false

@@ -9,7 +9,9 @@ pub use Rattle.cpg_log.specs.declared.log.Logged.{Logged}
 
 -- the time up to which the log goes, and its acts
 pub record Log : Type 0 where
+  -- the time up to which it names all acts
   pub until : ℕ
+  -- the acts up to then, in the order of the file
   pub acts : List Logged
 
 -- whether x is the number of something that a node starts or sends: a process, a message between two nodes or, if there
@@ -33,15 +35,20 @@ until_line until = codes "until " ++ decimal until
 abbrev pub log_lines : Graph → Log → List (List ℕ)
 log_lines g log = until_line log.until ∷ map (act_line g) log.acts
 
--- an act may be in a log up to a time: a node starts or sends its item, and its time isn't after that
+-- an act may be in a log up to the time `until`: a node starts or sends its item, by then
 pub record IsActBy (g : Graph) (until : ℕ) (l : Logged) : Type 0 where
+  -- some node starts or sends the item
   pub item : is_act g l.item ≡ true
+  -- it does so by the time
   pub time : l.time ≤ until
 
 -- a log goes up to a time below 2^60, its acts may be in such a log, and no two of them are of one item
 pub record IsLog (g : Graph) (log : Log) : Type 0 where
+  -- the log goes up to a time below 2^60
   pub until : log.until < 2 ^ 60
+  -- its acts are by then, of items that nodes start or send
   pub acts : All (IsActBy g log.until) log.acts
+  -- no two of them are of one item
   pub apart : AllPairs (λ a b. a.item ≢ b.item) log.acts
 
 -- the time at which a log's acts name item x; None if they don't

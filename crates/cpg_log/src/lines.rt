@@ -31,8 +31,8 @@ pub fn are_same(first: &[u8], second: &[u8]) -> bool
     first == second
 }
 
-/// Returns the first line of some bytes, and the bytes after its line feed. The last line may lack that: the rest is empty
-/// then.
+/// Returns the first line of some bytes, which aren't none, and the bytes after its line feed. The last line may lack that:
+/// the rest is empty then.
 pub fn first_line(bytes: &[u8]) -> (&[u8], &[u8])
     requires { 0 < length bytes.now }
     ensures lines { lines bytes.now ≡ result.0.now ∷ lines result.1.now }

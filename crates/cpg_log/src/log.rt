@@ -1,4 +1,4 @@
-//! Logs.
+//! A log: what the nodes did up to a time, as a file names it.
 ghost use Rattle.std.specs.Prelude.{◌≡◌};
 ghost use Rattle.cpg_log.specs.Log.{logged_time};
 

@@ -1,4 +1,4 @@
-//! Times in a log.
+//! Reading a time of a log: the decimal digits of a number below 2^60.
 ghost use Rattle.std.specs.Prelude.{◌≡◌, ◌≢◌, ◌^◌, ◌<◌, ℕ, IfNone, IfOk, IfSome, Some, string_bytes};
 ghost use Rattle.std.specs.Fmt.{decimal};
 

@@ -1,4 +1,4 @@
-//! Reading logs.
+//! Reading the log that a file spells, line by line.
 ghost use Rattle.std.specs.Prelude.{◌≡◌, ◌≢◌, ◌^◌, ◌<◌, ℕ, Err, IfNone, IfOk, IfSome, length, map, string_bytes};
 ghost use Rattle.std.specs.Bool.{OnFalse, OnTrue};
 ghost use Rattle.cpg_base.specs.Graph.{item_count};
@@ -19,8 +19,8 @@ use std::alloc::Global;
 /// The word that the first line begins with.
 const UNTIL: &[u8] = b"until";
 
-/// Returns the time up to which a log goes by its first line, or `None` if the line isn't of this form, and `Err` only
-/// if memory runs out.
+/// Returns the time up to which a log goes by its first line: that after `until` and a blank. `None` if the line doesn't say
+/// a time below 2^60 so, and `Err` only if memory runs out.
 fn until_of(alloc: Global, line: &[u8]) -> Result<Option<u64>, OutOfMemory>
     ensures some { IfOk result (λ r. IfSome r (λ until. (line.now ≡ until_line until) × (until < 2 ^ 60))) }
     ensures none { IfOk result (λ r. IfNone r ((until : ℕ) → until < 2 ^ 60 → line.now ≢ until_line until)) }
@@ -66,7 +66,7 @@ fn act_of(
 }
 
 /// Adds the act of a line to a log; false exactly if the line is of none that the log may go on with, and `Err` only if
-/// memory runs out.
+/// memory runs out. `texts` are those of all items.
 fn go_on(
     alloc: Global,
     problem: &Problem,
@@ -87,7 +87,8 @@ fn go_on(
 }
 
 /// Adds the act of the first line of some bytes to a log, and returns the bytes after that line. `Bad` with the number of
-/// the line exactly if it is of no act that the log may go on with; the only other error is `OutOfMemory`.
+/// the line exactly if it is of no act that the log may go on with; the only other error is `OutOfMemory`. `texts` are
+/// those of all items.
 fn read_line<'a>(
     alloc: Global,
     problem: &Problem,

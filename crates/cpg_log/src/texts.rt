@@ -13,7 +13,7 @@ use cpg_base::{OutOfMemory, Problem};
 use cpg_label::write_item;
 use std::alloc::{AllocError, Global};
 
-/// Returns whether a node starts or sends an item.
+/// Returns whether a node starts or sends an item: a process, or a message or broadcast that is sent on the bus.
 fn is_act(problem: &Problem, item: u32) -> bool
     requires { item < item_count problem.now }
     ensures { result ≡ is_act problem.now item }
@@ -67,7 +67,8 @@ fn text_of<'a>(problem: &Problem, texts: &'a [String], item: u32) -> &'a [u8]
     texts[item as usize].as_bytes()
 }
 
-/// Returns whether a text is that of an item, some node starts or sends the item, and the log doesn't name it yet.
+/// Returns whether a text is that of an item, some node starts or sends the item, and the log doesn't name it yet. `texts`
+/// are those of all items.
 fn is_named(problem: &Problem, texts: &[String], log: &Log, item: u32, text: &[u8]) -> bool
     requires texts { map string_bytes texts.now ≡ map (act_text problem.now) (numbers_below (item_count problem.now)) }
     requires item { item < item_count problem.now }
@@ -84,7 +85,7 @@ fn is_named(problem: &Problem, texts: &[String], log: &Log, item: u32, text: &[u
 }
 
 /// Returns the item whose text this is, of those that a node starts or sends and that the log doesn't name yet; `None`
-/// exactly if there is none.
+/// exactly if there is none. `texts` are those of all items.
 pub fn item_named(problem: &Problem, texts: &[String], log: &Log, text: &[u8]) -> Option<u32>
     requires { map string_bytes texts.now ≡ map (act_text problem.now) (numbers_below (item_count problem.now)) }
     ensures some { IfSome result (IsNew problem.now log.now text.now) }

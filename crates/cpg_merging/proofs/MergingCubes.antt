@@ -22,12 +22,12 @@ use Rattle.cpg_merging.specs.Merged.{HaveNoWhole}
 use Rattle.cpg_merging.specs.Merging.{shorn, all_shorn, without, raised}
 use Rattle.cpg_cube.proofs.Ranges.{same_literal}
 
--- two lists with the same low of v have so with one literal more in front
+-- if xs and ys have the same low of v, they still do with the literal l in front of both
 same_low : (l : Literal) (xs ys : List Literal) (v : ℕ) → low_in xs v ≡ low_in ys v →
     low_in (l ∷ xs) v ≡ low_in (l ∷ ys) v
 same_low l xs ys v e = ap (λ n. cond (l.variable == v) l.low n) e
 
--- two lists with the same high of v have so with one literal more in front
+-- if xs and ys have the same high of v, they still do with the literal l in front of both
 same_high : (k : ℕ) (l : Literal) (xs ys : List Literal) (v : ℕ) → high_in k xs v ≡ high_in k ys v →
     high_in k (l ∷ xs) v ≡ high_in k (l ∷ ys) v
 same_high k l xs ys v e = ap (λ n. cond (l.variable == v) l.high n) e
@@ -42,11 +42,11 @@ whole-low k l e = eqb-true l.low 0 (and_parts (l.low == 0) (l.high == top k l.va
 whole-high : (k : ℕ) (l : Literal) → is_whole k l ≡ true → l.high ≡ top k l.variable
 whole-high k l e = eqb-true l.high (top k l.variable) (and_parts (l.low == 0) (l.high == top k l.variable) e).1
 
--- in a rising cube the literals behind the first are on other variables, so they allow its variable from 0 on
+-- in a rising cube the literals behind the first allow the first one's variable from 0 on, since they are on others
 rest-low : (l : Literal) (ls : List Literal) → IsRising (l ∷ ls) → low_in ls l.variable ≡ 0
 rest-low l ls r = low_in-none ls l.variable (λ m c e. let h = rising_first l m ls r c in omega arith)
 
--- and they allow it up to its greatest number
+-- in a rising cube the literals behind the first allow the first one's variable up to its greatest number
 rest-high : (k : ℕ) (l : Literal) (ls : List Literal) → IsRising (l ∷ ls) → high_in k ls l.variable ≡ top k l.variable
 rest-high k l ls r = high_in-none k ls l.variable (λ m c e. let h = rising_first l m ls r c in omega arith)
 
@@ -85,7 +85,7 @@ module _ (k : ℕ) where
       (λ (n : l.variable ≢ v). sym (low_in-later l ls v n))
       (cases_eq l.variable v)
 
-  -- leaving it out changes no high
+  -- leaving out a first literal of the whole range changes no high
   left_out-high : (l : Literal) (ls : List Literal) (v : ℕ) → IsRising (l ∷ ls) → is_whole k l ≡ true →
       high_in k ls v ≡ high_in k (l ∷ ls) v
   left_out-high l ls v r w = ⊎_elim
@@ -151,11 +151,11 @@ module _ (v : ℕ) where
   not_there cube l c = eqb-false l.variable v
       (not-true (l.variable == v) (Contains-filter_parts (λ m. not (m.variable == v)) cube l c).1)
 
-  -- without the literals on v, its low is 0
+  -- without the literals on v, a cube's low of v is 0
   pub without-low_here : (cube : List Literal) → low_in (without v cube) v ≡ 0
   without-low_here cube = low_in-none (without v cube) v (not_there cube)
 
-  -- without the literals on v, its high is its greatest number
+  -- without the literals on v, a cube's high of v is the top of v
   pub without-high_here : (k : ℕ) (cube : List Literal) → high_in k (without v cube) v ≡ top k v
   without-high_here k cube = high_in-none k (without v cube) v (not_there cube)
 
@@ -295,7 +295,8 @@ before_next cube i d r h = λ k e l.
     subst (λ (x : Literal). x.variable < (get_or cube i d).variable)
     (get_or_default cube k d e (omega arith) ∙ sym (get_or-take i cube k e (omega arith))) (r k i d (omega arith) h)
 
--- so are those of them that aren't of the whole range
+-- in a rising cube those literals before place i that aren't of the whole range are on lower variables than the one
+-- there
 pub shorn_before : (k : ℕ) (cube : List Literal) (i : ℕ) (d : Literal) (front : List Literal) → IsRising cube →
     i < length cube →
     front ≡ shorn k (take i cube) →
@@ -305,7 +306,8 @@ shorn_before k cube i d front r h e =
     (All-filter (λ l. not (is_whole k l)) (λ (l : Literal). l.variable < (get_or cube i d).variable) (take i cube)
     (before_next cube i d r h))
 
--- so are they with the range of one variable raised
+-- in a rising cube the literals before place i, with the range of one variable raised, are on lower variables than
+-- the one there
 pub raised_before : (v high : ℕ) (cube : List Literal) (i : ℕ) (d : Literal) (front : List Literal) → IsRising cube →
     i < length cube →
     front ≡ raised v high (take i cube) →

@@ -94,7 +94,7 @@ column_there columns s t m =
     let q = Contains-filter_parts (λ (z : Column). matches z.cube s) columns r.0 r.1 in
     (r.0, q.0, q.1)
 
--- the column at a number is the one at that place of the list
+-- if c is the column at place i of the list, `get_or` answers c there
 at_number : (columns : List Column) (i : ℕ) (c d : Column) → IsColumn columns i c → get_or columns i d ≡ c
 -- by induction on the list
 at_number [] i c d e = cc

@@ -23,17 +23,17 @@ use Rattle.cpg_merging.proofs.MergingTotals.{of_range, spoken, sum_parts, touch_
 
 -- if two columns of one kind ask differently, both are candidates: a place stores one amount, so a difference is noted
 -- there
-pub both_chosen : (told : List ℕ) (differing : List Bool) (columns : List Column) → length differing ≡ length told →
-    AreTold told differing (map kind_of columns) →
+pub both_chosen : (amounts : List ℕ) (differing : List Bool) (columns : List Column) → length differing ≡ length amounts →
+    AreTold amounts differing (map kind_of columns) →
     HoldCandidates columns (filter (is_candidate differing) columns)
-both_chosen told differing columns long tell c d there other same apart = (
+both_chosen amounts differing columns long tell c d there other same apart = (
   Contains-filter (is_candidate differing) columns c (chosen c d there other same apart) there,
   Contains-filter (is_candidate differing) columns d (chosen d c other there (sym same) (λ e. apart (sym e))) other,
 )
   where
     -- the place of a column's kind in the table
     at : Column → ℕ
-    at x = place_in (length told) (kind_of x).number
+    at x = place_in (length amounts) (kind_of x).number
 
     -- columns of one kind that ask differently are both candidates
     chosen : (x y : Column) → Contains columns x → Contains columns y → (kind_of x).number ≡ (kind_of y).number →
@@ -47,9 +47,9 @@ both_chosen told differing columns long tell c d there other same apart = (
         go false off =
             let off_x : ¬ IsMarked differing (at x) = λ on. true≢false (sym on
             ∙ ap (λ (m : ℕ). get_or differing (place_in m (kind_of x).number) false) (sym long) ∙ off) in
-            let places : at x ≡ at y = ap (place_in (length told)) e in
+            let places : at x ≡ at y = ap (place_in (length amounts)) e in
             absurd (n (sym (tell (kind_of x) (Contains-map kind_of columns x cx) off_x)
-            ∙ ap (λ (p : ℕ). get_or told p 0) places ∙
+            ∙ ap (λ (p : ℕ). get_or amounts p 0) places ∙
             tell (kind_of y) (Contains-map kind_of columns y cy)
             (subst (λ (p : ℕ). ¬ IsMarked differing p) places off_x)))
 
@@ -61,14 +61,14 @@ one_of l = 1
 
 -- given: a variable of the graph
 module _ (g : Graph) (few : process_count g ≤ 128) (faults : g.faults ≤ 8) (v : ℕ) (known : IsVariable g v) where
-  -- columns of one time that touch are of one kind and ask differently
+  -- if good columns c and d of one time touch at v, they are of one kind and ask differently
   touch_kinds : (c d : Column) → IsGood g c.cube → IsGood g d.cube → c.time ≡ d.time →
       TouchAt g.faults v c.cube d.cube →
       ((kind_of c).number ≡ (kind_of d).number) ×
       ((kind_of c).asked ≢ (kind_of d).asked)
   touch_kinds c d good_c good_d same touch =
       -- both have a literal on v and the same literals on other variables, so the sums over literals, over variables
-      -- and of lower ends differ by that literal alone: the numbers are equal, and the lower ends differ
+      -- and of lows differ by that literal alone: the numbers are equal, and the lows differ
       let k = g.faults in
       let next : high_in k c.cube v + 1 ≡ low_in d.cube v = touch.next in
       let low_c = low-le-high k c.cube good_c.met v in

@@ -40,7 +40,7 @@ module _ (g : Graph) where
         (y.0, y.1, y.2 ∙ x.2, wider_through g.faults y.0.cube x.0.cube e.cube y.3 x.3);
   }
 
-  -- two lists that give a scenario the same times do so with one column more in front
+  -- two lists that give a scenario the same times do so with a column c in front of both
   times_cons : (c : Column) (a b : List Column) (s : Scenario) → times_in a s ≡ times_in b s →
       times_in (c ∷ a) s ≡ times_in (c ∷ b) s
   times_cons c a b s e = go (matches c.cube s)
@@ -54,7 +54,7 @@ module _ (g : Graph) where
       go true = ap (λ ts. c.time ∷ ts) e
       go false = e
 
-  -- a join of a list is one with one column more in front of both
+  -- if b is a join of a, it is one with a column c in front of both
   pub joins_cons : (c : Column) (a b : List Column) → IsJoinOf g a b → IsJoinOf g (c ∷ a) (c ∷ b)
   -- the new first column is held by itself, and any other by the column that holds it in the join
   joins_cons c a b h = record {
@@ -178,14 +178,14 @@ module _ (g : Graph) (few : process_count g ≤ 128) (v : ℕ) (known : IsVariab
 
   -- ---- all joins of sorted columns
 
-  -- what a walk over columns gives: a join of them, of good columns, which are fewer or the same
-  pub record Walked (before after : List Column) : Type 0 where
-    -- the columns after it are a join of those before
-    pub joins : IsJoinOf g before after
-    -- they are good
-    pub good : AreGood g after
-    -- they are fewer, or the same
-    pub fewer : (length after < length before) ⊎ (after ≡ before)
+  -- `left` is what a walk over good columns leaves of them
+  pub record Walked (columns left : List Column) : Type 0 where
+    -- it is a join of the columns
+    pub joins : IsJoinOf g columns left
+    -- its cubes are good
+    pub good : AreGood g left
+    -- it has fewer columns, or is the same
+    pub fewer : (length left < length columns) ⊎ (left ≡ columns)
 
   -- a walk over good columns gives good columns that are a join of them: fewer ones, or the same
   pub walk : (c : Column) (ds : List Column) → AreGood g (c ∷ ds) → Walked (c ∷ ds) (walked g.faults v c ds)

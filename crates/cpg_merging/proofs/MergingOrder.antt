@@ -40,7 +40,7 @@ equal_from Greater h = cc
 pub number_equal : (x y : ℕ) → nat_cmp x y ≡ Equal → x ≡ y
 number_equal x y e = ranked x y Equal (sym e)
 
--- a number that is not greater than another is at most that one
+-- if y doesn't compare as less than x, x is at most y
 pub not_less-le : (x y : ℕ) → is_lt (nat_cmp y x) ≡ false → x ≤ y
 not_less-le x y h = grind (arith, common_steps)
 
@@ -60,7 +60,7 @@ literal_equal l m h =
     same_literal l m (number_equal l.variable m.variable a.0) (number_equal l.low m.low b.0)
     (number_equal l.high m.high b.1)
 
--- lists of literals that compare as equal are equal
+-- if the lists of literals xs and ys compare as equal, they are equal
 literals_equal : (xs ys : List Literal) → slice_cmp literal_cmp xs ys ≡ Equal → xs ≡ ys
 literals_equal [] [] h = refl
 literals_equal [] (y ∷ ys) h = cc
@@ -75,7 +75,7 @@ module _ (v : ℕ) where
   beside_total = then_total (on_total (λ (c : Column). c.time) nat_cmp_total)
       (on_total (λ (c : Column). without v c.cube) (lists_total literal_total))
 
-  -- so is the order that then goes by the low of v
+  -- the order by time, literals on other variables and then the low of v is total
   pub column_total : IsTotalOrder (column_cmp v)
   column_total = then_total beside_total (on_total (λ (c : Column). low_in c.cube v) nat_cmp_total)
 

@@ -57,15 +57,15 @@ low-le-high k cube met v = low_in-high k cube v (λ l c.
 pub wider_itself : (k : ℕ) (a : List Literal) → IsWider k a a
 wider_itself k a = λ v. (omega arith, omega arith)
 
--- a cube as wide as one that is as wide as a third is as wide as the third
+-- if a is as wide as b, and b is as wide as c, a is as wide as c
 pub wider_through : (k : ℕ) (a b c : List Literal) → IsWider k a b → IsWider k b c → IsWider k a c
 wider_through k a b c h i = λ v. let x = h v in let y = i v in (omega arith, omega arith)
 
--- without its literals of the whole range a cube allows all that it did
+-- a cube without its literals of the whole range allows all that the cube does
 pub shorn_wider : (k : ℕ) (cube : List Literal) → IsRising cube → IsWider k (shorn k cube) cube
 shorn_wider k cube r = λ v. let a = shorn-low k cube r v in let b = shorn-high k cube r v in (omega arith, omega arith)
 
--- and with them it allows no less than without
+-- a cube allows all that it does without its literals of the whole range
 pub wider_shorn : (k : ℕ) (cube : List Literal) → IsRising cube → IsWider k cube (shorn k cube)
 wider_shorn k cube r = λ v. let a = shorn-low k cube r v in let b = shorn-high k cube r v in (omega arith, omega arith)
 
@@ -73,11 +73,11 @@ wider_shorn k cube r = λ v. let a = shorn-low k cube r v in let b = shorn-high 
 pub shorn_rising : (k : ℕ) (cube : List Literal) → IsRising cube → IsRising (shorn k cube)
 shorn_rising k cube r = AllPairs-filter (λ (l m : Literal). l.variable < m.variable) (λ l. not (is_whole k l)) cube r
 
--- without them, what holds of all its literals still does
+-- what holds of all literals of a cube holds of those that aren't of the whole range
 pub shorn_all : (k : ℕ) (P : Literal → Type 0) (cube : List Literal) → All P cube → All P (shorn k cube)
 shorn_all k P cube a = All-filter (λ l. not (is_whole k l)) P cube a
 
--- without them, no literal has the whole range of its variable or goes past it
+-- a cube without its literals of the whole range has none that has the whole range of its variable or goes past it
 pub shorn_narrow : (k : ℕ) (cube : List Literal) → All (λ l. l.high ≤ top k l.variable) cube → IsNarrow k (shorn k cube)
 shorn_narrow k cube w =
     All-from_each {P = λ l. (is_whole k l ≡ false) × (l.high ≤ top k l.variable)} (shorn k cube) (λ l c.
@@ -127,7 +127,7 @@ module _ (g : Graph) (few : process_count g ≤ 128) where
       (matches_wider cube (shorn g.faults cube) s i is (wider_shorn g.faults cube is.rising))
       (matches_wider (shorn g.faults cube) cube s i (cube_shorn cube is) (shorn_wider g.faults cube is.rising))
 
-  -- a cube that some scenario matches is good without its whole literals
+  -- a cube that scenario s matches is good without its whole literals
   pub good_shorn : (cube : List Literal) (s : Scenario) → IsScenario g s → matches cube s ≡ true → IsCube g cube →
       All (λ l. l.high ≤ top g.faults l.variable) cube →
       IsGood g (shorn g.faults cube)
@@ -150,23 +150,23 @@ module _ (g : Graph) (few : process_count g ≤ 128) where
     abbrev pub both : List Literal
     both = shorn g.faults wide
 
-    -- the highs of the first are within the tops
+    -- no literal of a goes past the top of its variable
     within_a : All (λ l. l.high ≤ top g.faults l.variable) a
     within_a = All-from_each {P = λ l. l.high ≤ top g.faults l.variable} a
         (λ l c. (All-contains (λ (m : Literal). (is_whole g.faults m ≡ false) × (m.high ≤ top g.faults m.variable)) a l
         good_a.narrow c).1)
 
-    -- the highs of the second cube are within the tops
+    -- no literal of b goes past the top of its variable
     within_b : All (λ l. l.high ≤ top g.faults l.variable) b
     within_b = All-from_each {P = λ l. l.high ≤ top g.faults l.variable} b
         (λ l c. (All-contains (λ (m : Literal). (is_whole g.faults m ≡ false) × (m.high ≤ top g.faults m.variable)) b l
         good_b.narrow c).1)
 
-    -- no low of the first is above its high
+    -- no low of a is above its high
     open_a : (u : ℕ) → low_in a u ≤ high_in g.faults a u
     open_a u = low-le-high g.faults a good_a.met u
 
-    -- no low of the second cube is above its high
+    -- no low of b is above its high
     open_b : (u : ℕ) → low_in b u ≤ high_in g.faults b u
     open_b u = low-le-high g.faults b good_b.met u
 
@@ -183,11 +183,11 @@ module _ (g : Graph) (few : process_count g ≤ 128) where
     pub both-low : (u : ℕ) → low_in both u ≡ low_in a u
     both-low u = shorn-low g.faults wide rising_wide u ∙ raised-low v (high_in g.faults b v) a u
 
-    -- and the highs of a, except of v
+    -- of each variable but v the two made one have the high of a
     pub both-high : (u : ℕ) → u ≢ v → high_in g.faults both u ≡ high_in g.faults a u
     both-high u n = shorn-high g.faults wide rising_wide u ∙ raised-high v (high_in g.faults b v) g.faults a u n
 
-    -- of v they have b's high
+    -- of v the two made one have the high of b
     pub both-high_here : high_in g.faults both v ≡ high_in g.faults b v
     both-high_here = shorn-high g.faults wide rising_wide v ∙ raised-high_here v (high_in g.faults b v) g.faults a
         (let t = touch.next in let o = open_b v in let h = high_in-top g.faults b within_b v in omega arith)
@@ -206,7 +206,7 @@ module _ (g : Graph) (few : process_count g ≤ 128) where
           (cases_eq u v),
     )
 
-    -- and all that b does
+    -- the two made one allow all that b does
     pub wider_second : IsWider g.faults both b
     wider_second = λ u. let l = both-low u in ⊎_elim
         (λ (e : u ≡ v). let h = both-high_here in let t = touch.next in let o = open_a v in let m = both-low v in

@@ -47,7 +47,7 @@ apart_pairs {X} p (x ∷ xs) h = AllPairs-cons_by (λ x y. p x ≡ true → p y 
     rest true l = omega arith
     rest false l = l
 
-    -- if at most one element passes, a first that does leaves no other
+    -- if at most one element passes, and x does, no element y of the rest does
     both : (y : X) → p x ≡ true → Contains (filter p xs) y → (b : Bool) → b ≡ true →
         length (cond b (x ∷ filter p xs) (filter p xs)) ≤ 1 → ⊥
     both y px c true e l = omega (arith, c.1)
@@ -61,8 +61,9 @@ pairs_apart g columns h = λ i j d l k s is. apart_pairs (λ (c : Column). match
     (let e = length-map (filter (λ (c : Column). matches c.cube s) columns) (λ (c : Column). c.time) in
     let m = h s is in omega arith) i j d l k
 
+-- given: a graph of at most 128 processes
 module _ (g : Graph) (few : process_count g ≤ 128) where
-  -- If two cubes have the same ranges of all other variables, and b's low of v is within a's range of v, some scenario
+  -- If a and b have the same ranges of all variables but v, and b's low of v is within a's range of v, some scenario
   -- matches both.
   pub share : (v : ℕ) (a b : List Literal) → IsGood g a → IsGood g b →
       ((u : ℕ) → u ≢ v → (low_in a u ≡ low_in b u) × (high_in g.faults a u ≡ high_in g.faults b u)) →
@@ -156,7 +157,7 @@ module _ (g : Graph) (few : process_count g ≤ 128) where
     without_rising cube r =
         AllPairs-filter (λ (l m : Literal). l.variable < m.variable) (λ l. not (l.variable == v)) cube r
 
-    -- cubes with the same ranges of other variables have the same literals on these
+    -- if good cubes a and b have the same ranges of all variables but v, they have the same literals on these
     pub same_without : (a b : List Literal) → IsGood g a → IsGood g b →
         ((u : ℕ) → u ≢ v → (low_in a u ≡ low_in b u) × (high_in g.faults a u ≡ high_in g.faults b u)) →
         without v a ≡ without v b

@@ -133,7 +133,7 @@ module _ (g : Graph) (few : process_count g ≤ 128) where
     length_times zs s = length-map (filter (λ c. matches c.cube s) zs) (λ (c : Column). c.time)
         ∙ length-filter (λ (c : Column). matches c.cube s) zs
 
-    -- in another order no scenario matches two of them either
+    -- if no scenario matches two of the columns, none matches two of them in another order
     pub single_permuted : AreSingle g xs → AreSingle g ys
     single_permuted h = λ s i.
         let a = length_times xs s in
@@ -146,10 +146,10 @@ module _ (g : Graph) (few : process_count g ≤ 128) where
     pub good_permuted : AreGood g xs → AreGood g ys
     good_permuted h = All-permutation (λ (x : Column). IsGood g x.cube) xs ys p h
 
-  -- a time that a scenario has of columns it has of them in another order
-  times_contained : (xs ys : List Column) → IsPermutation xs ys → (s : Scenario) (t : ℕ) → Contains (times_in xs s) t →
+  -- if t is a time that scenario s has in the columns `xs`, it has t in `ys` too, the same columns in another order
+  times_permuted : (xs ys : List Column) → IsPermutation xs ys → (s : Scenario) (t : ℕ) → Contains (times_in xs s) t →
       Contains (times_in ys s) t
-  times_contained xs ys p s t m =
+  times_permuted xs ys p s t m =
       let r = Contains-map_parts (λ (c : Column). c.time) (filter (λ (c : Column). matches c.cube s) xs) t m in
       let q = Contains-filter_parts (λ (c : Column). matches c.cube s) xs r.0 r.1 in
       subst (Contains (times_in ys s)) r.2
@@ -160,7 +160,7 @@ module _ (g : Graph) (few : process_count g ≤ 128) where
   pub joins_permuted : (xs ys : List Column) → IsPermutation xs ys → AreSingle g xs → IsJoinOf g xs ys
   joins_permuted xs ys p h = record {
     times = λ s i. one_same (times_in ys s) (times_in xs s) (single_permuted xs ys p h s i) (h s i)
-        (times_contained ys xs (IsPermutation-sym xs ys p) s) (times_contained xs ys p s);
+        (times_permuted ys xs (IsPermutation-sym xs ys p) s) (times_permuted xs ys p s);
     held = λ e m. (e, Contains-permutation xs ys e p m, refl, wider_itself g.faults e.cube);
   }
 
@@ -317,7 +317,8 @@ module _ (g : Graph) where
 
 -- ---- columns that are known to be sorted
 
--- if columns are known to be sorted after two steps, they are those of before
+-- If the listing `middle` is made of `before`, and `after` of `middle`, and `after` is known to be sorted, so was
+-- `before`, and both have the same columns.
 pub sorted_through : (before middle after : Listing) → IsSortedAs before middle → IsSortedAs middle after →
     IsSortedAs before after
 sorted_through before middle after h k t =

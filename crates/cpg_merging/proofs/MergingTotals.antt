@@ -108,7 +108,7 @@ sum_parts f v (m ∷ ms) rising l c e = elim (Contains-cases m ms l c) [
 
 -- ---- so sums of columns that touch differ in one literal
 
--- if x and r with one number are equal modulo 2 ^ 64, they are so with any other number
+-- if x + h and r + h are equal modulo 2 ^ 64, so are x + i and r + i
 pub one_rest : (x r h i : ℕ) → (x + h) % 2 ^ 64 ≡ (r + h) % 2 ^ 64 → (x + i) % 2 ^ 64 ≡ (r + i) % 2 ^ 64
 one_rest x r h i e = omega (arith, e)
 
@@ -149,7 +149,7 @@ module _ (g : Graph) (few : process_count g ≤ 128) (v : ℕ) (known : IsVariab
       (subst (Contains totals)
       (ap (λ n. n % 2 ^ 64) sum_c ∙ ap (λ (l : Literal). (rest + hash_of l) % 2 ^ 64) end) there)
     where
-      -- two sums in which one part is taken apart
+      -- if s is r, and t is w and h, the sum of s and t is that of r, w and h
       add_parts : (s t r w h : ℕ) → s ≡ r → t ≡ w + h → s + t ≡ r + w + h
       add_parts s t r w h e f = omega (arith, e, f)
 
@@ -182,7 +182,7 @@ all_more P xs i d within before here m c =
       | inr e ↦ subst P e here
     ]
 
--- what holds of the elements before a place past the end holds of all
+-- what holds of the first i elements holds of all, if there are at most i
 pub all_of : {X : Type 0} (P : X → Type 0) (xs : List X) (i : ℕ) → length xs ≤ i →
     ((m : X) → Contains (take i xs) m → P m) → (m : X) → Contains xs m → P m
 all_of P xs i long before m c = before m (subst (λ ys. Contains ys m) (sym (take_all i xs long)) c)
@@ -241,7 +241,7 @@ mark_kept marks place b off v on = elim (cases_eq v place) [
   | inr n ↦ get_or-set_other marks place v b false n ∙ on
 ]
 
--- if a place isn't marked after its mark was written, false was written
+-- if a place isn't marked once b was written there, b is false
 pub mark_off : (marks : List Bool) (place : ℕ) (b : Bool) → place < length marks →
     ¬ IsMarked (slice_set marks place b) place → b ≡ false
 mark_off marks place true within off = absurd (off (get_or-set_same marks place true false within))

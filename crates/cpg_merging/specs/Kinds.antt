@@ -23,15 +23,15 @@ kind_by time literals = record {
 abbrev pub kind_of : Column → ColumnKind
 kind_of c = kind_by c.time c.cube
 
--- `told` has an amount for each place, and `differing` says where columns of one place ask differently. If that isn't
+-- `amounts` has an amount for each place, and `differing` says where columns of one place ask differently. If that isn't
 -- noted at the place of this kind, the amount there is the one that the kind asks.
 abbrev pub IsTold : List ℕ → List Bool → ColumnKind → Type 0
-IsTold told differing kind = ¬ IsMarked differing (place_in (length told) kind.number) →
-    get_or told (place_in (length told) kind.number) 0 ≡ kind.asked
+IsTold amounts differing kind = ¬ IsMarked differing (place_in (length amounts) kind.number) →
+    get_or amounts (place_in (length amounts) kind.number) 0 ≡ kind.asked
 
--- what `told` and `differing` say is right for each of these kinds (`IsTold`)
+-- what `amounts` and `differing` say is right for each of these kinds (`IsTold`)
 abbrev pub AreTold : List ℕ → List Bool → List ColumnKind → Type 0
-AreTold told differing kinds = (kind : ColumnKind) → Contains kinds kind → IsTold told differing kind
+AreTold amounts differing kinds = (kind : ColumnKind) → Contains kinds kind → IsTold amounts differing kind
 
 -- whether the place of the column's kind has columns that ask differently
 abbrev pub is_candidate : List Bool → Column → Bool

@@ -63,11 +63,13 @@ pub record IsMergeOf (g : Graph) (order : List ℕ) (entries columns : List Colu
   -- a column allows all that an entry allows which matches together with it
   pub wider : (s : Scenario) (e c : Column) → IsScenario g s → Contains entries e → Contains columns c →
       IsTrue (matches e.cube s) → IsTrue (matches c.cube s) → IsWider g.faults c.cube e.cube
-  -- literals are on variables of the graph, don't go past their numbers, and have no whole range; each column matches
-  -- some scenario
+  -- their literals are on variables of the graph, in rising order
   pub cubes : All (λ c. IsCube g c.cube) columns
+  -- no literal goes past the greatest number of its variable
   pub within : AreWithin g.faults columns
+  -- no literal has the whole range of its variable
   pub not_whole : HaveNoWhole g.faults columns
+  -- each matches some scenario of the graph
   pub met : AreMet g order columns
   -- they stand by the least scenario that each matches
   pub ordered : AreOrdered g order columns

@@ -83,19 +83,19 @@ pub record IsShorn (g : Graph) (columns : List Column) : Type 0 where
   -- no literal has the whole range of its variable
   pub not_whole : HaveNoWhole g.faults columns
 
--- `after` is `before` with some columns made one
-pub record IsJoinOf (g : Graph) (before after : List Column) : Type 0 where
+-- `joins` is `columns` with some of them made one
+pub record IsJoinOf (g : Graph) (columns joins : List Column) : Type 0 where
   -- the scenarios have the same times in both
-  pub times : (s : Scenario) → IsScenario g s → times_in after s ≡ times_in before s
-  -- each column of `before` lies within a column of `after` with the same time
-  pub held : (e : Column) → Contains before e →
-      (c : Column) × Contains after c × (c.time ≡ e.time) × IsWider g.faults c.cube e.cube
+  pub times : (s : Scenario) → IsScenario g s → times_in joins s ≡ times_in columns s
+  -- each of the columns lies within one of `joins` with the same time
+  pub held : (e : Column) → Contains columns e →
+      (c : Column) × Contains joins c × (c.time ≡ e.time) × IsWider g.faults c.cube e.cube
 
--- the cubes have equal ranges of all variables but v, and b's range of v begins right behind the end of a's
+-- cubes a and b have equal ranges of all variables but v, and b's range of v begins right behind the end of a's
 pub record TouchAt (k : ℕ) (v : ℕ) (a b : List Literal) : Type 0 where
-  -- any variable other than v has equal ranges
+  -- any variable u other than v has equal ranges
   pub others : (u : ℕ) → u ≢ v → (low_in a u ≡ low_in b u) × (high_in k a u ≡ high_in k b u)
-  -- the second's range begins right behind the first's end
+  -- b's range of v begins right behind the end of a's
   pub next : high_in k a v + 1 ≡ low_in b v
 
 -- no column of one time follows another at variable v
@@ -103,28 +103,31 @@ abbrev pub IsSettledOn : ℕ → ℕ → List Column → Type 0
 IsSettledOn k v columns =
     (c d : Column) → Contains columns c → Contains columns d → c.time ≡ d.time → TouchAt k v c.cube d.cube → ⊥
 
--- What going over some variables does: columns become fewer, or none touch at any of these (`over`).
-pub record IsPassed (g : Graph) (over : ℕ → Type 0) (before after : List Column) : Type 0 where
-  -- the columns after it are a join of those before; they may be merged too, and no literal has a whole range
-  pub joins : IsJoinOf g before after
-  pub good : IsShorn g after
+-- What going over the variables of which `over` holds makes of `columns`: fewer columns (`passed`), or the same ones, of which
+-- none touch at any of these variables.
+pub record IsPassed (g : Graph) (over : ℕ → Type 0) (columns passed : List Column) : Type 0 where
+  -- `passed` is a join of the columns
+  pub joins : IsJoinOf g columns passed
+  -- the columns of `passed` may be merged too, and no literal has a whole range
+  pub good : IsShorn g passed
   -- either there are fewer columns, or the same ones in some order, of which none touch at the variables gone over
-  pub fewer : (length after < length before) ⊎
-      (IsPermutation before after × ((v : ℕ) → over v → IsSettledOn g.faults v after))
+  pub fewer : (length passed < length columns) ⊎
+      (IsPermutation columns passed × ((v : ℕ) → over v → IsSettledOn g.faults v passed))
 
 -- v is at least `first` and below `end`
 abbrev pub IsBetween : ℕ → ℕ → ℕ → Type 0
 IsBetween first end v = (first ≤ v) × (v < end)
 
--- `after` is `before`, joined until no column of one time follows another at any variable of the graph
-pub record AreSettled (g : Graph) (before after : List Column) : Type 0 where
-  -- they are a join of those before; they may be merged too, and no literal has a whole range
-  pub joins : IsJoinOf g before after
-  pub good : IsShorn g after
+-- `made_one` is `columns`, joined until no column of one time follows another at any variable of the graph
+pub record AreSettled (g : Graph) (columns made_one : List Column) : Type 0 where
+  -- `made_one` is a join of the columns
+  pub joins : IsJoinOf g columns made_one
+  -- the columns of `made_one` may be merged too, and no literal has a whole range
+  pub good : IsShorn g made_one
   -- no column of one time follows another at any variable
-  pub settled : (v : ℕ) → IsVariable g v → IsSettledOn g.faults v after
+  pub settled : (v : ℕ) → IsVariable g v → IsSettledOn g.faults v made_one
 
--- if `after` is known to be sorted, then `before` was, and the columns are the same in the same order
+-- if the listing `made` is known to be sorted, the listing that it is made of was, and has the same columns in the same order
 abbrev pub IsSortedAs : Listing → Listing → Type 0
-IsSortedAs before after =
-    after.is_sorted ≡ true → (before.is_sorted ≡ true) × (after.columns.items ≡ before.columns.items)
+IsSortedAs listing made =
+    made.is_sorted ≡ true → (listing.is_sorted ≡ true) × (made.columns.items ≡ listing.columns.items)

@@ -70,9 +70,9 @@ IsSieve sieve numbers = (n : ℕ) → Contains numbers n → IsMarked sieve (pla
 
 -- totals, the least first, with a sieve that marks each
 pub record AreSums (sorted : List ℕ) (sieve : List Bool) : Type 0 where
-  -- they are sorted
+  -- the totals are sorted
   pub up : DoNotFall sorted
-  -- the sieve has a place
+  -- the sieve has at least one place
   pub some : 0 < length sieve
   -- each total is marked
   pub marked : IsSieve sieve sorted

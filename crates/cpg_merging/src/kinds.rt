@@ -54,42 +54,42 @@ fn kinds(alloc: Global, columns: &[Column]) -> Result<Vec<ColumnKind>, OutOfMemo
 /// Returns, for each of `count` places, how much the last column of the place asks; 0 if it has none.
 fn last_asked(alloc: Global, count: usize, kinds: &[ColumnKind]) -> Result<Vec<u8>, OutOfMemory>
     requires { 0 < count }
-    ensures { IfOk result (λ told. length told.items ≡ count) }
+    ensures { IfOk result (λ amounts. length amounts.items ≡ count) }
 {
-    let mut told = vec![in alloc; 0u8; count]?;
+    let mut amounts = vec![in alloc; 0u8; count]?;
     for kind in kinds {
         let place = place_in(count, kind.number);
-        told.as_mut_slice()[place] = kind.asked;
+        amounts.as_mut_slice()[place] = kind.asked;
     }
-    Ok(told)
+    Ok(amounts)
 }
 
-/// Notes a difference at the place of a column if it doesn't ask what the last column of the place does, which `told`
+/// Notes a difference at the place of a column if it doesn't ask what the last column of the place does, which `amounts`
 /// has.
-fn note(told: &[u8], kind: ColumnKind, differing: &mut [bool])
-    requires some { 0 < length told.now }
-    requires long { length differing.old ≡ length told.now }
-    ensures long { length differing.new ≡ length told.now }
+fn note(amounts: &[u8], kind: ColumnKind, differing: &mut [bool])
+    requires some { 0 < length amounts.now }
+    requires long { length differing.old ≡ length amounts.now }
+    ensures long { length differing.new ≡ length amounts.now }
     ensures kept { (p : ℕ) → IsMarked differing.old p → IsMarked differing.new p }
-    ensures noted { IsTold told.now differing.new kind }
+    ensures noted { IsTold amounts.now differing.new kind }
 {
-    let place = place_in(told.len(), kind.number);
+    let place = place_in(amounts.len(), kind.number);
     // it asks what the last column of the place asks
-    if told[place] == kind.asked {
+    if amounts[place] == kind.asked {
         return;
     }
     differing[place] = true;
 }
 
-/// Returns at which places some column doesn't ask what the last one of the place does, which `told` has.
-fn differing(alloc: Global, told: &[u8], kinds: &[ColumnKind]) -> Result<Vec<bool>, OutOfMemory>
-    requires { 0 < length told.now }
-    ensures long { IfOk result (λ differing. length differing.items ≡ length told.now) }
-    ensures told { IfOk result (λ differing. AreTold told.now differing.items kinds.now) }
+/// Returns at which places some column doesn't ask what the last one of the place does, which `amounts` has.
+fn differing(alloc: Global, amounts: &[u8], kinds: &[ColumnKind]) -> Result<Vec<bool>, OutOfMemory>
+    requires { 0 < length amounts.now }
+    ensures long { IfOk result (λ differing. length differing.items ≡ length amounts.now) }
+    ensures told { IfOk result (λ differing. AreTold amounts.now differing.items kinds.now) }
 {
-    let mut differing = vec![in alloc; false; told.len()]?;
+    let mut differing = vec![in alloc; false; amounts.len()]?;
     for kind in kinds {
-        note(told, *kind, differing.as_mut_slice());
+        note(amounts, *kind, differing.as_mut_slice());
     }
     Ok(differing)
 }
@@ -128,8 +128,8 @@ pub(crate) fn candidates<'a>(
         .len()
         .saturating_add(1)
         .saturating_mul(PLACES_PER_COLUMN);
-    let told = last_asked(alloc, count, kinds.as_slice())?;
-    let differing = differing(alloc, told.as_slice(), kinds.as_slice())?;
+    let amounts = last_asked(alloc, count, kinds.as_slice())?;
+    let differing = differing(alloc, amounts.as_slice(), kinds.as_slice())?;
     let chosen = chosen(alloc, differing.as_slice(), kinds.as_slice(), columns)?;
     Ok(chosen)
 }

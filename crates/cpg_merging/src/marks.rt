@@ -18,7 +18,7 @@ fn mark_at(sums: Sums<'_>, total: u64, literal: Literal, marks: &mut [bool; VARI
     ensures kept { (v : ℕ) → IsMarked marks.old v → IsMarked marks.new v }
     ensures marked { ¬ IsMarked marks.new literal.variable → HasNoPartner sums.entry.sorted.now total literal }
 {
-    // mostly a literal begins at 0, and no range ends before 0
+    // mostly a literal begins at 0; then no column follows another one at it, as no range ends before 0
     if literal.low == 0 {
         return;
     }
@@ -74,8 +74,8 @@ fn mark(sums: Sums<'_>, total: u64, literals: &[Literal], marks: &mut [bool; VAR
     mark_each(sums, total, left, marks);
 }
 
-/// Returns at which variables some column may follow one whose total is among the sums, by number. `totals` are those
-/// of the columns.
+/// Returns at which variables some column may follow one whose total is among those of `sums`, by number. `totals` has
+/// those of the columns.
 fn marks_by(sums: Sums<'_>, totals: &[u64], columns: &[&Column]) -> [bool; VARIABLES]
     requires sums { AreSums sums.sorted.now sums.sieve.now }
     requires totals { totals.now ≡ map total_of (map (λ b. b.now) columns.now) }
@@ -114,7 +114,7 @@ fn marks_of(
     requires { IsShorn problem.now columns.now }
     ensures { IfOk result (λ marks. AreMarked problem.now marks columns.now) }
 {
-    // called for its contract: the graph is within its limits
+    // asked only for its clause: the graph is within its limits
     let _processes = problem.processes();
     // usually no two columns of one time ask differently, so none touch
     let differ = do_amounts_differ(alloc, columns)?;

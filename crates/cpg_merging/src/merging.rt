@@ -56,17 +56,17 @@ fn joined_at(
     ensures marked { IfOk result (λ r. AreMarked problem.now r.marks r.listing.columns.items) }
     ensures sorted { IfOk result (λ r. IsSortedAs marked.listing r.listing) }
 {
-    // called for its contract: the graph is within its limits
+    // asked only for its clause: the graph is within its limits
     let _processes = problem.processes();
     // no two columns touch at this variable
     if !marked.marks[variable as usize] {
         return Ok(marked);
     }
     let Marked { listing, marks } = marked;
-    let before = listing.columns.len();
+    let count = listing.columns.len();
     let columns = joined_on(alloc, problem, variable, listing.columns)?;
     // none was joined, so the marks stay right, but the sort has moved columns
-    if columns.len() == before {
+    if columns.len() == count {
         return Ok(Marked {
             listing: unsorted(columns),
             marks,
@@ -111,7 +111,8 @@ fn joined_once(alloc: Global, problem: &Problem, marked: Marked) -> Result<Marke
     if !marked.marks.contains(&true) {
         return Ok(marked);
     }
-    // the variables are the fault counts, from 0 on, and the values, from `FIRST_VALUE` on
+    // the variables are the fault counts, from 0 on, and the values, from `FIRST_VALUE` on; there are at most 128 and 32 of
+    // them, so the casts keep their counts
     let processes = problem.processes().len() as u8;
     let marked = joined_over(alloc, problem, 0, processes, marked)?;
     let end = FIRST_VALUE + problem.conditions() as u8;
@@ -127,9 +128,9 @@ fn settled(alloc: Global, problem: &Problem, listing: Listing) -> Result<Listing
 {
     let mut marked = Marked::of(alloc, problem, listing)?;
     loop {
-        let before = marked.listing.columns.len();
+        let count = marked.listing.columns.len();
         marked = joined_once(alloc, problem, marked)?;
-        if marked.listing.columns.len() == before {
+        if marked.listing.columns.len() == count {
             return Ok(marked.listing);
         }
     }
@@ -169,7 +170,7 @@ pub fn merged_tidy(
     requires sorted { OnTrue listing.is_sorted (AreByLows (λ c. c.cube) problem.now order.now listing.columns.items) }
     ensures { IfOk result (λ r. IsMergeOf problem.now order.now listing.columns.items r.items) }
 {
-    // called for its contract: the graph is within its limits
+    // asked only for its clause: the graph is within its limits
     let _processes = problem.processes();
     let listing = settled(alloc, problem, listing)?;
     listing.sorted(alloc, problem, order)

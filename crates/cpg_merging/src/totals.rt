@@ -37,9 +37,9 @@ fn number_of(literal: Literal) -> u64
 fn hash_of(literal: Literal) -> u64
     ensures { result ≡ hash_of literal }
 {
-    let first = mixed(1, number_of(literal));
+    let spread = mixed(1, number_of(literal));
     // a product isn't linear in the literal's number, so that differences of literals don't cancel out
-    first.wrapping_mul(first / HALF)
+    spread.wrapping_mul(spread / HALF)
 }
 
 /// Returns the total of a time and literals: their hashes, added up.
@@ -72,6 +72,7 @@ pub(crate) fn place_in(count: usize, number: u64) -> usize
     ensures place { result ≡ place_in count number }
     ensures within { result < count }
 {
+    // the quotient is below `count`, so the cast keeps it
     (u128::from(number / HALF) * count as u128 / u128::from(HALF)) as usize
 }
 
@@ -104,7 +105,7 @@ pub(crate) fn sieve_of(alloc: Global, numbers: &[u64]) -> Result<Vec<bool>, OutO
     Ok(sieve)
 }
 
-/// Totals of columns.
+/// The totals of some columns, sorted, with a sieve that shows most numbers not to be among them.
 #[derive(Clone, Copy)]
 pub(crate) struct Sums<'a> {
     /// The totals, the least first.

@@ -23,6 +23,7 @@ has_row (row ∷ rows) x i l = go (row.item == x) (has_row rows x i) l
     go true later l = refl
     go false later l = later l
 
+-- given: a node's table, a time, and a frame f
 module _ (table : OwnTable) (arrival : ℕ) (f : Frame) where
   -- a frame that names a column arrives at a time if and only if the column has that time: the first two conditions of
   -- `arrives`, that there is a row and such a column, hold

@@ -15,7 +15,7 @@ use Rattle.cpg_node.specs.Dispatcher.{no_column, is_contradicted, is_strange}
 use Rattle.cpg_node.specs.State.{running_in, running_of, MayFinish}
 use Rattle.cpg_node.proofs.Turning.{next_reported}
 
--- a report leaves the execution of another process as it is
+-- ---- a report leaves the execution of another process as it is
 
 kept_run : (f : Ended) (o : Own) (run : Option Running) → o.process ≢ f.process → with_report f o run ≡ run
 kept_run f o None ne = refl
@@ -39,7 +39,7 @@ other_running f p ne (o ∷ os) (run ∷ runs) = elim (cases_eq o.process p) [
 pub next_same : (d : Dispatcher) (f : Ended) → next (finished d f) ≡ next d
 next_same d f = next_reported f d.table d.heard d.running d.last
 
--- a report that may come may still come after another one, and could have come before it
+-- ---- a report that may come may still come after another one, and could have come before it
 
 -- an execution that may be reported may still be reported after the report of another process: neither its run nor the
 -- next instant changes
@@ -73,7 +73,7 @@ may_before d f time e ne m = record {
   before = subst (λ o. IfSome o (λ n. time ≤ n)) (next_same d f) m.before;
 }
 
--- two reports leave the same in either order
+-- ---- two reports leave the same in either order
 
 -- the reports of two processes leave the same executions in either order: at each place at least one of the two changes
 -- nothing
@@ -98,7 +98,7 @@ pub swap : (d : Dispatcher) (x y : Ended) → x.process ≢ y.process →
 swap d x y ne = ap (λ runs. record { table = d.table; heard = d.heard; running = runs; last = d.last })
     (swapped x y ne d.table.own d.running)
 
--- an execution is reported once
+-- ---- an execution is reported once
 
 -- after the report of a process, its execution, if it has one, has that report; by induction on the own processes
 reported_run : (f : Ended) (os : List Own) (runs : List (Option Running)) →
@@ -133,7 +133,7 @@ reported_once d f run e none = go (running_of d f.process) (sym (reported_run f 
     go None e = none-some run e
     go (Some before) e = none-some f (sym none ∙ ap (λ (r : Running). r.report) (sym (same_Some _ _ e)))
 
--- Frames of one time may be heard in either order.
+-- ---- frames of one time may be heard in either order
 
 -- a range that is cut by two literals is the same in either order
 cut_ranges : (r : Range) (a b : Literal) → cut_range (cut_range r a) b ≡ cut_range (cut_range r b) a
@@ -155,8 +155,8 @@ cut_same h v a b within =
     ap (λ r. set (set h v one) v (cut_range r b)) (get_or-set_same h v one nothing within)
     ∙ set-set h v one (cut_range one b)
 
--- ranges are the same cut by a and then b as by b and then a. A variable past the list's end changes nothing; on one
--- variable the greatest low and the least high stay, in either order; two variables have places of their own
+-- Ranges are the same cut by a and then b as by b and then a. A variable past the list's end changes nothing; on one
+-- variable the greatest low and the least high stay, in either order; two variables have places of their own.
 cut_twice : (h : List Range) (a b : Literal) → cut (cut h a) b ≡ cut (cut h b) a
 cut_twice h a b =
     let one : Range = cut_range (range_of h a.variable) a in
@@ -194,8 +194,8 @@ pub hear_either : (d : Dispatcher) (x y : Frame) → hear (hear d x) y ≡ hear 
 hear_either d x y = ap (λ h. record { table = d.table; heard = h; running = d.running; last = d.last })
     (cuts_either (frame_literals d.table x) (frame_literals d.table y) d.heard)
 
--- if no range is empty (contradicted) after variable v was cut by a literal, none was before: the cut range was at
--- least as wide. By induction to the place v
+-- If no range is empty (contradicted) after variable v was cut by a literal, none was before: the cut range was at
+-- least as wide. By induction to the place v.
 uncut : (h : List Range) (v : ℕ) (l : Literal) →
     list_any is_contradicted (set h v (cut_range (range_of h v) l)) ≡ false →
     list_any is_contradicted h ≡ false
@@ -213,9 +213,9 @@ uncut_all : (ls : List Literal) (h : List Range) → list_any is_contradicted (c
 uncut_all [] h e = e
 uncut_all (l ∷ ls) h e = uncut h l.variable l (uncut_all ls (cut h l) e)
 
--- if x isn't strange, and y isn't after x was heard, then y isn't strange, and x isn't after y was heard. Whether a
+-- If x isn't strange, and y isn't after x was heard, then y isn't strange, and x isn't after y was heard. Whether a
 -- frame is unknown (has no row or no column of the time) doesn't hang on what was heard; both orders leave the same
--- ranges, and before the second frame fewer literals were heard
+-- ranges, and before the second frame fewer literals were heard.
 pub fine_either : (d : Dispatcher) (time : ℕ) (x y : Frame) → is_strange d time x ≡ false →
     is_strange (hear d x) time y ≡ false →
     (is_strange d time y ≡ false) × (is_strange (hear d y) time x ≡ false)

@@ -38,6 +38,7 @@ match_of tables s x c h = let q = Contains-filter_parts (λ (c : Column). matche
 abbrev ever : ℕ → Bool
 ever moment = true
 
+-- given: tables of a graph, a node, a time, and a scenario s of the graph
 module _ (g : Graph) (tables : List NodeTable) (node time : ℕ) (s : Scenario) (law : IsScenario g s) where
   -- each fact of a node is one that it learns at some time: from the end of one of its processes, or from a frame that
   -- it hears

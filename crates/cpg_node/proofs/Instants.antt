@@ -1,4 +1,5 @@
--- A node comes to finitely many instants: each turn leaves fewer.
+-- A node comes to finitely many instants: each turn leaves fewer. In the lemmas o is what a node knows of a process of
+-- its own, os of all of them, and xs are times.
 use Rattle.std.proofs.Common.{◌≡◌, ◌≢◌, ℕ, ◌+◌, ◌*◌, ◌<◌, ◌≤◌, Bool, true, false, cond, ◌||◌, ◌==◌, List, [], ◌∷◌, ◌++◌}
 use Rattle.std.proofs.Common.{length, filter, fold, Contains, Option, Some, None, refl, sym, ap, ◌∙◌, subst}
 use Rattle.std.proofs.Common.{arith, inl, inr, ◌⊎◌, true≢false, ltb, lt-ltb, ltb-true, le-ltb, eq-eqb, ne_eqb}
@@ -23,7 +24,7 @@ use Rattle.cpg_node.proofs.Rooms.{all_left, times_count, room_turn, room_open}
 use Rattle.cpg_node.proofs.TableBounds.{HaveFewEnds, DoRise, own_rise, own_few_ends}
 use Rattle.cpg_node.specs.Instants.{left_of, planned_times, end_times, entries_left, instants_left}
 
--- fewer times are left after a later turn
+-- ---- fewer times are left after a later turn
 
 -- what is after a turn (`time`) is after the turn before it (`last`)
 after_both : (last : Option ℕ) (time x : ℕ) → is_after last time ≡ true → is_after (Some time) x ≡ true →
@@ -75,7 +76,7 @@ front_left p x xs = go (p x)
     go true = omega arith
     go false = omega arith
 
--- the possible ends of executions
+-- ---- the possible ends of executions
 
 -- a process with at most 9 durations has at most 9 possible ends
 few_each : (o : Own) (run : Option Running) → length o.times ≤ 9 → length (possible_ends o run) ≤ 9
@@ -94,7 +95,7 @@ few_ends (o ∷ os) (run ∷ runs) h = omega (
   length-append (possible_ends o run) (flat_map (λ ends. ends) (zip_with possible_ends os runs)),
 )
 
--- a turn starts no more executions than it has acts
+-- ---- a turn starts no more executions than it has acts
 
 -- no more pass one of two tests than pass the first and pass the second, added up; by induction on the list, by which
 -- of the tests the first one passes
@@ -189,7 +190,7 @@ grown_ends p ended acts time (o ∷ os) (run ∷ runs) h =
     go false false new old more l =
         omega (arith, l, kept_parts p (possible_ends o run) new, kept_parts p (possible_ends o run) old)
 
--- the instants of a node
+-- ---- the instants of a node
 
 -- the next instant is a planned time or a possible end, as it is one of the candidates, or 0 before the first turn
 instant_is : (d : Dispatcher) (time : ℕ) → next d ≡ Some time →
@@ -271,7 +272,7 @@ reported_left d (e ∷ es) = reported_left (finished d e) es ∙ ap
     (λ l. left_of d.last (planned_times d) + left_of d.last (flat_map (λ ends. ends) l) + length (entries_left d) * 9)
     (ends_reported e d.table.own d.running)
 
--- how many instants there are at all
+-- ---- how many instants there are at all
 
 -- a table has a time for each of its columns
 fixed_count : (t : OwnTable) → length (fixed_times t) ≡ column_count (rows_of t)

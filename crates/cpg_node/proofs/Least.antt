@@ -33,7 +33,7 @@ fold_min a b (y ∷ ys) = ap (λ m. fold min m ys) (min_assoc a b y) ∙ fold_mi
     min_assoc : (a b y : ℕ) → min (min a b) y ≡ min a (min b y)
     min_assoc a b y = omega arith
 
--- the earlier of a time and None is the time, and of None and None None
+-- the earlier of a time and None is the time; of None and None it is None
 pub earlier_none : (o : Option ℕ) → earlier o None ≡ o
 earlier_none None = refl
 earlier_none (Some t) = refl
@@ -70,32 +70,32 @@ pub least_more : (p : ℕ → Bool) (first : Option ℕ) (xs ys : List ℕ) (who
 least_more p first xs ys whole e = earlier_assoc first (least_of (filter p xs)) (least_of (filter p ys))
     ∙ ap (earlier first) (sym (least_passing p xs ys)) ∙ e
 
--- the step of a loop over two lists whose elements, place by place, give times: if the least so far (`first`) and what
--- the places from n on give make the whole, so do the least with the times of place n (`now`), and the places after it
+-- the step of a loop over two lists whose elements, place by place, give times: if the least so far (`so_far`) and what
+-- the places from n on give make the whole, so do the least with the times of place n (`with_next`), and the places after it
 pub least_zip : {A B : Type 0} (p : ℕ → Bool) (f : A → B → List ℕ) (n : ℕ) (os : List A) (rs : List B) (a : A) (b : B)
-    (first now : Option ℕ) (whole : Option ℕ) → n < length os →
+    (so_far with_next : Option ℕ) (whole : Option ℕ) → n < length os →
     length os ≡ length rs → a ≡ get_or os n a →
-    now ≡ earlier first (least_of (filter p (f a (get_or rs n b)))) →
-    earlier first (least_of (filter p (flat_map (λ l. l) (zip_with f (drop n os) (drop n rs))))) ≡ whole →
-    earlier now (least_of (filter p (flat_map (λ l. l) (zip_with f (drop (n + 1) os) (drop (n + 1) rs))))) ≡ whole
-least_zip p f n os rs a b first now whole l e at is h =
+    with_next ≡ earlier so_far (least_of (filter p (f a (get_or rs n b)))) →
+    earlier so_far (least_of (filter p (flat_map (λ l. l) (zip_with f (drop n os) (drop n rs))))) ≡ whole →
+    earlier with_next (least_of (filter p (flat_map (λ l. l) (zip_with f (drop (n + 1) os) (drop (n + 1) rs))))) ≡ whole
+least_zip p f n os rs a b so_far with_next whole l e at is h =
     let rest = flat_map (λ l. l) (zip_with f (drop (n + 1) os) (drop (n + 1) rs)) in
     ap (λ o. earlier o (least_of (filter p rest))) is
-    ∙ least_more p first (f a (get_or rs n b)) rest whole
-    (ap (λ a. earlier first (least_of (filter p (f a (get_or rs n b) ++ rest)))) at
-    ∙ ap (λ l. earlier first (least_of (filter p (flat_map (λ l. l) l)))) (sym (zip_with-drop f n os rs a b l e)) ∙ h)
+    ∙ least_more p so_far (f a (get_or rs n b)) rest whole
+    (ap (λ a. earlier so_far (least_of (filter p (f a (get_or rs n b) ++ rest)))) at
+    ∙ ap (λ l. earlier so_far (least_of (filter p (flat_map (λ l. l) l)))) (sym (zip_with-drop f n os rs a b l e)) ∙ h)
 
 -- the step of a loop over the times that f makes of a list: if the least so far and those from place n on make the
 -- whole, so do the least with that of place n (`end` if it passes), and those after it
-pub least_map : (p : ℕ → Bool) (f : ℕ → ℕ) (n : ℕ) (ts : List ℕ) (d : ℕ) (first now end whole : Option ℕ) →
+pub least_map : (p : ℕ → Bool) (f : ℕ → ℕ) (n : ℕ) (ts : List ℕ) (d : ℕ) (so_far with_next end whole : Option ℕ) →
     n < length ts →
     end ≡ least_of (filter p (f (get_or ts n d) ∷ [])) →
-    now ≡ earlier first end →
-    earlier first (least_of (filter p (map f (drop n ts)))) ≡ whole →
-    earlier now (least_of (filter p (map f (drop (n + 1) ts)))) ≡ whole
-least_map p f n ts d first now end whole l at is h =
+    with_next ≡ earlier so_far end →
+    earlier so_far (least_of (filter p (map f (drop n ts)))) ≡ whole →
+    earlier with_next (least_of (filter p (map f (drop (n + 1) ts)))) ≡ whole
+least_map p f n ts d so_far with_next end whole l at is h =
     let rest = map f (drop (n + 1) ts) in
-    ap (λ o. earlier o (least_of (filter p rest))) (is ∙ ap (earlier first) at)
-    ∙ least_more p first (f (get_or ts n d) ∷ []) rest whole
-    (ap (λ l. earlier first (least_of (filter p (map f l))))
+    ap (λ o. earlier o (least_of (filter p rest))) (is ∙ ap (earlier so_far) at)
+    ∙ least_more p so_far (f (get_or ts n d) ∷ []) rest whole
+    (ap (λ l. earlier so_far (least_of (filter p (map f l))))
     (sym (drop-cons ts n d l ∙ ap (λ m. get_or ts n d ∷ drop m ts) (sym (add-one n)))) ∙ h)

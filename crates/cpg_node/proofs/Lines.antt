@@ -1,4 +1,4 @@
--- Things in order of time, and the place of the last turn among them.
+-- Lists in order of time, and the place in them where what is after the last turn begins.
 use Rattle.std.proofs.Common.{◌≡◌, ℕ, ◌<◌, ◌≤◌, true, false, List, [], ◌∷◌, filter, length, get_or, slice_get, Contains}
 use Rattle.std.proofs.Common.{Option, Some, None, refl, sym, ap, ◌∙◌, subst, arith, inl, inr, true≢false}
 use Rattle.std.proofs.Common.{ltb-true, lt-ltb, le-ltb}
@@ -7,56 +7,56 @@ use Rattle.std.proofs.lemmas.Option.{slice_get-get_or, slice_get_past}
 use Rattle.std.proofs.lemmas.List.{get_or_default}
 use Rattle.cpg_base.proofs.Lists.{Contains-first, Contains-filter, Contains-filter_parts}
 use Rattle.cpg_node.specs.Dispatcher.{is_after, least_of}
-use Rattle.cpg_node.specs.Plan.{IsLine}
+use Rattle.cpg_node.specs.Plan.{IsPlaceAfter}
 use Rattle.cpg_node.proofs.Least.{least_is}
 
 -- a time that isn't after the last turn is no later than it
 pub reached_time : (last time : ℕ) → is_after (Some last) time ≡ false → time ≤ last
 reached_time last time e = ltb-false last time e
 
--- after a turn at `now` the place is `next`, if all from the old place up to it are no later than the turn, and the one
--- at `next` is: what was before the old place isn't after the last turn, and so not after this one; what is behind
--- `next` is no earlier than it
-pub moves_on : {X : Type 0} (time : X → ℕ) (last : Option ℕ) (xs : List X) (place next now : ℕ) →
-    IsLine time last xs place →
-    is_after last now ≡ true →
-    place ≤ next → next ≤ length xs → ((i : ℕ) (d : X) → place ≤ i → i < next → time (get_or xs i d) ≤ now) →
-    ((d : X) → next < length xs → now < time (get_or xs next d)) →
-    IsLine time (Some now) xs next
-moves_on {X = X} time last xs place next now line after l w before here = record {
+-- after a turn at `instant` the place is `next`, if all elements from the old place up to `next` are no later than the turn,
+-- and the one at `next` is: what stands before the old place isn't after the last turn, and so not after this one; what
+-- stands behind `next` is no earlier than it
+pub moves_on : {X : Type 0} (time : X → ℕ) (last : Option ℕ) (xs : List X) (place next instant : ℕ) →
+    IsPlaceAfter time last xs place →
+    is_after last instant ≡ true →
+    place ≤ next → next ≤ length xs → ((i : ℕ) (d : X) → place ≤ i → i < next → time (get_or xs i d) ≤ instant) →
+    ((d : X) → next < length xs → instant < time (get_or xs next d)) →
+    IsPlaceAfter time (Some instant) xs next
+moves_on {X = X} time last xs place next instant at_place after l w before here = record {
   within = w;
-  rises = line.rises;
-  reached = λ i d h. le-ltb now (time (get_or xs i d)) (elim (cases_lt i place) [
-    | inl k ↦ early last after (time (get_or xs i d)) (line.reached i d k)
+  rises = at_place.rises;
+  reached = λ i d h. le-ltb instant (time (get_or xs i d)) (elim (cases_lt i place) [
+    | inl k ↦ early last after (time (get_or xs i d)) (at_place.reached i d k)
     | inr k ↦ before i d k h
   ]);
-  left = λ i d h k. lt-ltb now (time (get_or xs i d)) (omega (arith, here d (omega arith), line.rises next i d h k));
+  left = λ i d h k. lt-ltb instant (time (get_or xs i d)) (omega (arith, here d (omega arith), at_place.rises next i d h k));
 }
   where
     -- what is at the last turn or earlier isn't after this one
-    early : (last : Option ℕ) → is_after last now ≡ true → (t : ℕ) → is_after last t ≡ false → t ≤ now
+    early : (last : Option ℕ) → is_after last instant ≡ true → (t : ℕ) → is_after last t ≡ false → t ≤ instant
     early None a t e = absurd (true≢false e)
-    early (Some s) a t e = omega (arith, ltb-true s now a, reached_time s t e)
+    early (Some s) a t e = omega (arith, ltb-true s instant a, reached_time s t e)
 
 -- `moves_on` for a loop whose clauses are of an equal list (`seen`)
-pub moves_on_seen : {X : Type 0} (time : X → ℕ) (last : Option ℕ) (xs seen : List X) (place next now : ℕ) →
-    IsLine time last xs place → is_after last now ≡ true → seen ≡ xs →
-    (place ≤ next) × (next ≤ length seen) → ((i : ℕ) (d : X) → place ≤ i → i < next → time (get_or seen i d) ≤ now) →
-    ((d : X) → next < length seen → now < time (get_or seen next d)) →
-    IsLine time (Some now) xs next
-moves_on_seen {X = X} time last xs seen place next now line after e inside before here =
-    moves_on time last xs place next now line after inside.0 (omega (arith, inside.1, ap length e))
-    (subst (λ (ys : List X). (i : ℕ) (d : X) → place ≤ i → i < next → time (get_or ys i d) ≤ now) e before)
-    (subst (λ (ys : List X). (d : X) → next < length ys → now < time (get_or ys next d)) e here)
+pub moves_on_seen : {X : Type 0} (time : X → ℕ) (last : Option ℕ) (xs seen : List X) (place next instant : ℕ) →
+    IsPlaceAfter time last xs place → is_after last instant ≡ true → seen ≡ xs →
+    (place ≤ next) × (next ≤ length seen) → ((i : ℕ) (d : X) → place ≤ i → i < next → time (get_or seen i d) ≤ instant) →
+    ((d : X) → next < length seen → instant < time (get_or seen next d)) →
+    IsPlaceAfter time (Some instant) xs next
+moves_on_seen {X = X} time last xs seen place next instant at_place after e inside before here =
+    moves_on time last xs place next instant at_place after inside.0 (omega (arith, inside.1, ap length e))
+    (subst (λ (ys : List X). (i : ℕ) (d : X) → place ≤ i → i < next → time (get_or ys i d) ≤ instant) e before)
+    (subst (λ (ys : List X). (d : X) → next < length ys → instant < time (get_or ys next d)) e here)
 
--- the time at the place, if there is one, is the least of those after the last turn: it is one of them, and the others
--- stand after it. If the place is past the list's end, there are none
-pub first_left : (last : ℕ) (xs : List ℕ) (place : ℕ) → IsLine (λ t. t) (Some last) xs place →
+-- The time at the place, if there is one, is the least of those after the last turn: it is one of them, and the others
+-- stand after it. If the place is past the list's end, there are none.
+pub first_left : (last : ℕ) (xs : List ℕ) (place : ℕ) → IsPlaceAfter (λ t. t) (Some last) xs place →
     slice_get xs place ≡ least_of (filter (is_after (Some last)) xs)
-first_left last xs place line = elim (cases_lt place (length xs)) [
+first_left last xs place at_place = elim (cases_lt place (length xs)) [
   | inl h ↦ let x = get_or xs place 0 in
       slice_get-get_or xs place 0 h ∙ sym (least_is (filter (is_after (Some last)) xs) x
-      (Contains-filter (is_after (Some last)) xs x (line.left place 0 (omega arith) h)
+      (Contains-filter (is_after (Some last)) xs x (at_place.left place 0 (omega arith) h)
       (place, h, get_or_default xs place x 0 h))
       (λ y c. least y (Contains-filter_parts (is_after (Some last)) xs y c)))
   | inr h ↦ slice_get_past xs place h ∙ sym (ap least_of
@@ -66,7 +66,7 @@ first_left last xs place line = elim (cases_lt place (length xs)) [
     -- a member that is after the last turn stands at the place or after it
     stands : (y i : ℕ) → i < length xs → get_or xs i y ≡ y → is_after (Some last) y ≡ true → place ≤ i
     stands y i l e a = elim (cases_lt i place) [
-      | inl k ↦ absurd (true≢false (sym a ∙ ap (is_after (Some last)) (sym e) ∙ line.reached i y k))
+      | inl k ↦ absurd (true≢false (sym a ∙ ap (is_after (Some last)) (sym e) ∙ at_place.reached i y k))
       | inr k ↦ k
     ]
 
@@ -75,7 +75,7 @@ first_left last xs place line = elim (cases_lt place (length xs)) [
     least y ((i, l, e), a) = omega (
       arith,
       e,
-      line.rises place i y (stands y i l e a) l,
+      at_place.rises place i y (stands y i l e a) l,
       get_or_default xs place y 0 (omega (arith, stands y i l e a)),
     )
 

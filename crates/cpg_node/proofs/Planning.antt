@@ -1,4 +1,4 @@
--- What is planned for a time, and the acts of a turn.
+-- What is planned for a time, and the acts of a turn. In the lemmas p is an entry of a plan.
 use Rattle.std.proofs.Common.{◌≡◌, ℕ, suc, zero, ◌<◌, ◌≤◌, ◌+◌, ◌-◌, Bool, true, false, cond, ◌&&◌, ◌==◌, List, [], ◌∷◌}
 use Rattle.std.proofs.Common.{◌++◌, map, filter, length, take, drop, get_or, Contains, refl, sym, ap, ap₂}
 use Rattle.std.proofs.Common.{◌∙◌, subst, arith, drop-cons, add-one, eqb-true, eq-eqb}
@@ -53,14 +53,14 @@ plan_times place (row ∷ rows) =
     map-append (λ (p : Planned). p.time) (plan_of_columns place row.item 0 row.columns) (plan_from (place + 1) rows)
     ∙ ap₂ ◌++◌ (times_of_columns place row.item 0 row.columns) (plan_times (place + 1) rows)
 
--- the acts of a time are those of what is planned for it, in its order
+-- ---- the acts of a time are those of what is planned for it, in its order
 
 -- an entry that is planned for the time, and whose literals have been heard
 abbrev is_due : List Row → List Range → ℕ → Planned → Bool
 is_due rows heard time p = (p.time == time) && takes rows heard p
 
--- the acts of the columns of a row from column i on are those of their planned entries that are due; by induction on
--- the columns. `at`: they are the columns at `place` in the table, where `takes` looks up their cubes
+-- The acts of the columns of a row from column i on are those of their planned entries that are due; by induction on
+-- the columns. `at`: they are the columns at `place` in the table, where `takes` looks up their cubes.
 acts_of_row : (rows : List Row) (heard : List Range) (time place x i : ℕ) (cs : List Column) →
     ((k n : ℕ) → n ≡ i + k → get_or (get_or rows place no_row).columns n no_column ≡ get_or cs k no_column) →
     acts_of_columns heard time x i cs ≡ map act_of (filter (is_due rows heard time) (plan_of_columns place x i cs))
@@ -176,7 +176,7 @@ acts_next test ps n d acts more l is m =
     ∙ ap (λ m. get_or ps n d ∷ drop m ps) (sym (add-one n))) ∙ acts_more test (get_or ps n d) (drop (n + 1) ps)))
     ∙ is
 
--- members of plans
+-- ---- members of plans
 
 -- an entry of one of two plans with the same entries at each time is one of the other
 pub planned_in : (ps qs : List Planned) → SameAtEachTime ps qs → (p : Planned) → Contains ps p → Contains qs p
@@ -190,7 +190,7 @@ pub planned_time : (t : OwnTable) (p : Planned) → Contains (plan_of t) p →
 planned_time t p c = subst (λ l. Contains l p.time) (plan_times 0 (t.sends ++ t.starts))
     (Contains-map (λ (p : Planned). p.time) (plan_of t) p c)
 
--- two times of which neither is less, as `nat_cmp` has it, are the same
+-- ---- two times of which neither is less, as `nat_cmp` has it, are the same
 
 tie_is : (a b : ℕ) → (not (is_lt (nat_cmp a b)) && not (is_lt (nat_cmp b a))) ≡ (b == a)
 tie_is a b = grind (arith, nat_tests)

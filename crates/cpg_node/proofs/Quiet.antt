@@ -21,7 +21,7 @@ use Rattle.cpg_node.specs.Plan.{fixed_times}
 use Rattle.cpg_node.specs.Quiet.{QuietTurnsChangeNothing, awaited_faults, awaited_end, TurnsLeftOutAreQuiet, TellsFew}
 use Rattle.cpg_node.specs.Quiet.{AwaitedAreCandidates}
 
--- a quiet turn
+-- ---- a quiet turn
 
 -- a turn without ends and acts leaves all executions as they are
 same_runs : (time : ℕ) (os : List Own) (runs : List (Option Running)) → length runs ≡ length os →
@@ -42,7 +42,7 @@ quiet_turns d time count q =
     ∙ same_runs time d.table.own d.running count in
     (λ i. record { table = d.table; heard = heard i; running = runs i; last = Some time }, acts)
 
--- an instant at which nothing is awaited
+-- ---- an instant at which nothing is awaited
 
 -- at a time that none of its columns has, a row has no act
 no_acts_of : (heard : List Range) (time x i : ℕ) (cs : List Column) →
@@ -120,7 +120,7 @@ turns_left_out d time n heard = record {
     ends : List ℕ
     ends = flat_map (λ ends. ends) (zip_with (awaited_end d.table.faults) d.table.own d.running)
 
--- an awaited end is one of the possible ends
+-- ---- an awaited end is one of the possible ends
 
 -- a process has a duration for each number of faults
 abbrev HasAll : ℕ → Own → Type 0

@@ -18,7 +18,7 @@ use Rattle.cpg_node.specs.Instants.{entries_left}
 abbrev now : ℕ → List ℕ → List ℕ
 now time ts = filter (λ t. t == time) ts
 
--- a turn does no more acts than there are entries of its time
+-- ---- a turn does no more acts than there are entries of its time
 
 -- a row has no more acts at a time than columns of that time; by induction on the columns: one of the time acts if its
 -- cube has been heard
@@ -114,7 +114,7 @@ times_count (row ∷ rows) = length-append (map (λ (c : Column). c.time) row.co
     ∙ ap₂ (λ m n. m + n) (length-map row.columns (λ (c : Column). c.time)) (times_count rows)
     ∙ sym (sum_by-cons (λ (row : Row). length row.columns) row rows)
 
--- at most all entries are left
+-- ---- at most all entries are left
 
 -- no more entries are left than there are columns of what the node sends and starts
 pub room_open : (d : Dispatcher) → length (entries_left d) ≤ column_count d.table.sends + column_count d.table.starts

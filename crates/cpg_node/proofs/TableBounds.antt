@@ -1,4 +1,5 @@
--- What the laws of a table say of its own processes, rows and times.
+-- What the laws of a table say of its own processes, rows and times. In the lemmas t is a table, and o what it says of
+-- a process of its own.
 use Rattle.std.proofs.Common.{◌≡◌, ℕ, ◌<◌, ◌≤◌, ◌+◌, ◌^◌, Bool, true, false, cond, ◌==◌, List, [], ◌∷◌, ◌++◌, length}
 use Rattle.std.proofs.Common.{map, Contains, Some, None, refl, sym, ap, ◌∙◌, subst, arith, inl, inr}
 use Rattle.std.specs.Prelude.{All}

@@ -21,7 +21,7 @@ use Rattle.cpg_node.specs.Dispatcher.{ends_in_turn, turn}
 use Rattle.cpg_table.specs.Table.{Row}
 use Rattle.cpg_cube.specs.declared.column.Column.{Column}
 use Rattle.cpg_node.specs.State.{NodeState, earlier, IsTimed, AreTimed}
-use Rattle.cpg_node.specs.Plan.{Planned, IsLine, fixed_times, SameAtEachTime, plan_of, act_of, takes}
+use Rattle.cpg_node.specs.Plan.{Planned, IsPlaceAfter, fixed_times, SameAtEachTime, plan_of, act_of, takes}
 use Rattle.cpg_node.proofs.Least.{least_passing, least_same}
 use Rattle.cpg_node.proofs.Lines.{first_left, moves_on}
 use Rattle.cpg_node.proofs.Next.{NextIs, next_is, not_by, least_of_parts}
@@ -30,8 +30,8 @@ use Rattle.cpg_node.proofs.TableBounds.{AreShort, times_short, fixed_early}
 use Rattle.cpg_node.proofs.Planning.{filter_run, acts_same, planned_in, planned_time}
 
 -- before the first turn all is left, and the place is at the front
-pub line_open : {X : Type 0} (time : X → ℕ) (xs : List X) → IsNonDecreasingBy time xs → IsLine time None xs 0
-line_open time xs up =
+pub place_open : {X : Type 0} (time : X → ℕ) (xs : List X) → IsNonDecreasingBy time xs → IsPlaceAfter time None xs 0
+place_open time xs up =
     record { within = omega arith; rises = up; reached = λ i d h. absurd (omega arith); left = λ i d h k. refl }
 
 -- no number is less than 0
@@ -45,17 +45,17 @@ next_open d e =
     sym (ap (λ last. least_of (filter (is_after last) (cond (is_some last) (candidates d) (0 ∷ candidates d)))) e
     ∙ ap Some (fold_zero (filter (is_after None) (candidates d))))
 
--- after a turn the next instant is the table's time at the place, or the least possible end after the turn if that is
+-- After a turn the next instant is the table's time at the place, or the least possible end after the turn if that is
 -- earlier. The sorted times have the same members as the table's, so the least of those that are left is the one at the
--- place
+-- place.
 pub next_found : (table : OwnTable) (heard : List Range) (running : List (Option Running)) (last : ℕ) (times : List ℕ)
     (place : ℕ) →
     IsPermutation (fixed_times table) times →
-    IsLine (λ t. t) (Some last) times place →
+    IsPlaceAfter (λ t. t) (Some last) times place →
     next (record { table = table; heard = heard; running = running; last = Some last })
     ≡ earlier (slice_get times place)
     (least_of (filter (is_after (Some last)) (flat_map (λ ends. ends) (zip_with possible_ends table.own running))))
-next_found table heard running last times place p line =
+next_found table heard running last times place p at_place =
     let a = is_after (Some last) in
     let ends : List ℕ = flat_map (λ ends. ends) (zip_with possible_ends table.own running) in
     let d : Dispatcher = record { table = table; heard = heard; running = running; last = Some last } in
@@ -64,7 +64,7 @@ next_found table heard running last times place p line =
     ∙ ap (λ o. earlier o (least_of (filter a ends)))
     (least_same (filter a (fixed_times table)) (filter a times) (kept (fixed_times table) times p)
     (kept times (fixed_times table) (IsPermutation-sym (fixed_times table) times p)) ∙
-    sym (first_left last times place line))
+    sym (first_left last times place at_place))
   where
     -- permuted lists have the same times after the last turn
     kept : (xs ys : List ℕ) → IsPermutation xs ys → (x : ℕ) → Contains (filter (is_after (Some last)) xs) x →
@@ -72,7 +72,7 @@ next_found table heard running last times place p line =
     kept xs ys p x c = let r = Contains-filter_parts (is_after (Some last)) xs x c in
         Contains-filter (is_after (Some last)) ys x r.1 (Contains-permutation xs ys x p r.0)
 
--- a report changes no time
+-- ---- a report changes no time
 
 -- a report leaves the possible ends of an execution as they were
 same_ends : (e : Ended) (o : Own) (run : Option Running) → possible_ends o (with_report e o run) ≡ possible_ends o run
@@ -160,23 +160,23 @@ length_zip f [] rs e = refl
 length_zip f (o ∷ os) [] e = absurd (omega arith)
 length_zip f (o ∷ os) (r ∷ rs) e = ap (λ n. suc n) (length_zip f os rs (omega arith))
 
--- what a turn does
+-- ---- what a turn does
 
 -- parts that were worked out one by one make the state after the turn, and its acts: the reports that are due, what has
 -- been heard after the ends, the due ones and the frames, the acts then, and what runs then
 pub turn_is : (table : OwnTable) (heard : List Range) (running : List (Option Running)) (last : Option ℕ) (time : ℕ)
     (ended due : List Ended) (frames : List Frame)
-    (after : List Range) (acts : List Act) (runs : List (Option Running)) →
+    (known : List Range) (acts : List Act) (runs : List (Option Running)) →
     due ≡ due_reports (record { table = table; heard = heard; running = running; last = last }) time →
-    after ≡ fold (hear_frame table) (fold (hear_end table) (fold (hear_end table) heard ended) due) frames →
-    acts ≡ acts_at table after time →
+    known ≡ fold (hear_frame table) (fold (hear_end table) (fold (hear_end table) heard ended) due) frames →
+    acts ≡ acts_at table known time →
     runs ≡ zip_with (running_after (ended ++ due) acts time) table.own running →
     let d : Dispatcher = record { table = table; heard = heard; running = running; last = last } in
-    (record { table = table; heard = after; running = runs; last = Some time } ≡ turn d time ended frames) ×
+    (record { table = table; heard = known; running = runs; last = Some time } ≡ turn d time ended frames) ×
     (acts ≡ acts_of_turn d time ended frames)
-turn_is table heard running last time ended due frames after acts runs is h a r =
+turn_is table heard running last time ended due frames known acts runs is h a r =
     let d : Dispatcher = record { table = table; heard = heard; running = running; last = last } in
-    let heard' : after ≡ heard_after d time ended frames = h ∙ ap (λ l. fold (hear_frame table) l frames)
+    let heard' : known ≡ heard_after d time ended frames = h ∙ ap (λ l. fold (hear_frame table) l frames)
     (sym (fold-append (hear_end table) heard ended due) ∙ ap (λ l. fold (hear_end table) heard (ended ++ l)) is) in
     let acts' : acts ≡ acts_of_turn d time ended frames = a ∙ ap (λ l. acts_at table l time) heard' in
     let runs' : runs ≡ zip_with (running_after (ends_in_turn d time ended) (acts_of_turn d time ended frames) time)
@@ -184,13 +184,13 @@ turn_is table heard running last time ended due frames after acts runs is h a r 
     r ∙ ap₂ (λ es bs. zip_with (running_after (ended ++ es) bs time) table.own running) is acts' in
     ((λ i. record { table = table; heard = heard' i; running = runs' i; last = Some time }), acts')
 
--- the entries of the turn stand together after the place
--- `same`, `line`: the plan has the columns of the table, in order of time. `comes`: the next instant is `time`.
--- `seen`, `sliced`: ps and qs are the plan. `inside`, `before`, `here`: the entries from `place` to `end` are those
--- of no later time, and the next one is later.
+-- given: the next instant of a node, and a part of its plan
+-- `same`, `at_place`: the plan has the columns of the table, in order of time, and `place` is where those after the last
+-- turn begin. `comes`: the next instant is `time`. `seen`, `sliced`: ps and qs are the plan. `inside`, `before`, `here`:
+-- the entries from `place` to before `end` are no later than `time`, and the one at `end`, if there is one, is later.
 module _ (table : OwnTable) (heard : List Range) (running : List (Option Running)) (last : Option ℕ) (time : ℕ)
     (plan ps qs : List Planned) (place end : ℕ)
-    (same : SameAtEachTime plan (plan_of table)) (line : IsLine (λ (p : Planned). p.time) last plan place)
+    (same : SameAtEachTime plan (plan_of table)) (at_place : IsPlaceAfter (λ (p : Planned). p.time) last plan place)
     (comes : next (record { table = table; heard = heard; running = running; last = last }) ≡ Some time)
     (seen : ps ≡ plan) (sliced : qs ≡ plan)
     (inside : (place ≤ end) × (end ≤ length ps))
@@ -245,7 +245,7 @@ module _ (table : OwnTable) (heard : List Range) (running : List (Option Running
     arith,
     before' i d k l,
     next'.least (get_or plan i d).time (candidate i d (omega (arith, within)))
-        (not_by last (get_or plan i d).time (line.left i d k (omega (arith, within)))),
+        (not_by last (get_or plan i d).time (at_place.left i d k (omega (arith, within)))),
   )
 
   -- a time that isn't after the last turn isn't the instant
@@ -260,28 +260,28 @@ module _ (table : OwnTable) (heard : List Range) (running : List (Option Running
   -- the entries of the instant are just those from the place to the end, the run
   run : filter (λ (p : Planned). p.time == time) plan ≡ take (end - place) (drop place plan)
   run = filter_run (λ (p : Planned). p.time == time) plan place end from within
-      (λ i d l. other (get_or plan i d).time (line.reached i d l))
+      (λ i d l. other (get_or plan i d).time (at_place.reached i d l))
       (λ i d k l. eq-eqb (get_or plan i d).time time (at_time i d k l))
-      (λ i d k l. later (get_or plan i d).time (omega (arith, here' d (omega arith), line.rises end i d k l)))
+      (λ i d k l. later (get_or plan i d).time (omega (arith, here' d (omega arith), at_place.rises end i d k l)))
 
   -- the acts of the entries in the run whose literals have been heard are those of the table at the instant
-  pub acts_are : (after : List Range) (acts : List Act) →
-      acts ≡ map act_of (filter (takes (table.sends ++ table.starts) after) (take (end - place) (drop place qs))) →
-      acts ≡ acts_at table after time
-  acts_are after acts e = e ∙ ap
-      (λ l. map act_of (filter (takes (table.sends ++ table.starts) after) (take (end - place) (drop place l)))) sliced
-      ∙ sym (acts_same table after time plan same
-      ∙ ap (λ l. map act_of (filter (takes (table.sends ++ table.starts) after) l)) run)
+  pub acts_are : (known : List Range) (acts : List Act) →
+      acts ≡ map act_of (filter (takes (table.sends ++ table.starts) known) (take (end - place) (drop place qs))) →
+      acts ≡ acts_at table known time
+  acts_are known acts e = e ∙ ap
+      (λ l. map act_of (filter (takes (table.sends ++ table.starts) known) (take (end - place) (drop place l)))) sliced
+      ∙ sym (acts_same table known time plan same
+      ∙ ap (λ l. map act_of (filter (takes (table.sends ++ table.starts) known) l)) run)
 
   -- after the turn the place of the plan is the end of the run
-  pub line_moves : IsLine (λ (p : Planned). p.time) (Some time) plan end
-  line_moves = moves_on (λ (p : Planned). p.time) last plan place end time line next'.after from within before' here'
+  pub place_moves : IsPlaceAfter (λ (p : Planned). p.time) (Some time) plan end
+  place_moves = moves_on (λ (p : Planned). p.time) last plan place end time at_place next'.after from within before' here'
 
   -- a turn that does something is below 2^60: its run has an entry, whose time it is
-  pub early_turn : (after : List Range) (acts : List Act) →
-      acts ≡ map act_of (filter (takes (table.sends ++ table.starts) after) (take (end - place) (drop place qs))) →
+  pub early_turn : (known : List Range) (acts : List Act) →
+      acts ≡ map act_of (filter (takes (table.sends ++ table.starts) known) (take (end - place) (drop place qs))) →
       All (λ (p : Planned). p.time < 2 ^ 60) plan → 0 < length acts → time < 2 ^ 60
-  early_turn after acts e early some = elim (cases_lt place end) [
+  early_turn known acts e early some = elim (cases_lt place end) [
     | inl l ↦ let d : Planned = record { time = 0; row = 0; item = 0; column = 0 } in
         omega (arith, at_time place d (omega arith) l, early place d (omega (arith, within)))
     | inr l ↦ absurd (omega (arith, some, ap length e ∙ none (end - place) (omega arith)))
@@ -289,34 +289,34 @@ module _ (table : OwnTable) (heard : List Range) (running : List (Option Running
     where
       -- an empty run has no entries, so it gives no acts
       none : (n : ℕ) → n ≡ 0 →
-          length (map act_of (filter (takes (table.sends ++ table.starts) after) (take n (drop place qs)))) ≡ 0
+          length (map act_of (filter (takes (table.sends ++ table.starts) known) (take n (drop place qs)))) ≡ 0
       none n z =
-          ap (λ n. length (map act_of (filter (takes (table.sends ++ table.starts) after) (take n (drop place qs))))) z
+          ap (λ n. length (map act_of (filter (takes (table.sends ++ table.starts) known) (take n (drop place qs))))) z
 
--- the clauses of a turn, about the state as a caller sees it
+-- ---- the clauses of a turn, about the state as a caller sees it
 
 -- a turn of the dispatcher is one of the state that a caller sees
-pub returned_turn : (now : NodeState) (d : Dispatcher) (acts : List Act) (time : ℕ) (after : Dispatcher)
+pub returned_turn : (state : NodeState) (d : Dispatcher) (acts : List Act) (time : ℕ) (made : Dispatcher)
     (ended : List Ended) (frames : List Frame) →
-    record { dispatcher = d; acts = acts } ≡ now →
+    record { dispatcher = d; acts = acts } ≡ state →
     next d ≡ Some time →
-    after ≡ turn d time ended frames → IfSome (next now.dispatcher) (λ t. after ≡ turn now.dispatcher t ended frames)
-returned_turn now d acts time after ended frames view comes is =
-    subst (λ (s : NodeState). IfSome (next s.dispatcher) (λ t. after ≡ turn s.dispatcher t ended frames)) view
-    (subst (λ o. IfSome o (λ t. after ≡ turn d t ended frames)) (sym comes) is)
+    made ≡ turn d time ended frames → IfSome (next state.dispatcher) (λ t. made ≡ turn state.dispatcher t ended frames)
+returned_turn state d acts time made ended frames view comes is =
+    subst (λ (s : NodeState). IfSome (next s.dispatcher) (λ t. made ≡ turn s.dispatcher t ended frames)) view
+    (subst (λ o. IfSome o (λ t. made ≡ turn d t ended frames)) (sym comes) is)
 
 -- the acts of a turn of the dispatcher are those of the state that a caller sees
-pub returned_acts : (now : NodeState) (d : Dispatcher) (acts : List Act) (time : ℕ) (after : List Act)
+pub returned_acts : (state : NodeState) (d : Dispatcher) (acts : List Act) (time : ℕ) (made : List Act)
     (ended : List Ended) (frames : List Frame) →
-    record { dispatcher = d; acts = acts } ≡ now →
+    record { dispatcher = d; acts = acts } ≡ state →
     next d ≡ Some time →
-    after ≡ acts_of_turn d time ended frames →
-    IfSome (next now.dispatcher) (λ t. after ≡ acts_of_turn now.dispatcher t ended frames)
-returned_acts now d acts time after ended frames view comes is =
-    subst (λ (s : NodeState). IfSome (next s.dispatcher) (λ t. after ≡ acts_of_turn s.dispatcher t ended frames)) view
-    (subst (λ o. IfSome o (λ t. after ≡ acts_of_turn d t ended frames)) (sym comes) is)
+    made ≡ acts_of_turn d time ended frames →
+    IfSome (next state.dispatcher) (λ t. made ≡ acts_of_turn state.dispatcher t ended frames)
+returned_acts state d acts time made ended frames view comes is =
+    subst (λ (s : NodeState). IfSome (next s.dispatcher) (λ t. made ≡ acts_of_turn s.dispatcher t ended frames)) view
+    (subst (λ o. IfSome o (λ t. made ≡ acts_of_turn d t ended frames)) (sym comes) is)
 
--- times stay small
+-- ---- times stay small
 
 -- each possible end is below 2^61: a start and a duration, both below 2^60; by induction on the own processes
 ends_early : (os : List Own) (runs : List (Option Running)) → All AreShort os → AreTimed runs → (t : ℕ) →

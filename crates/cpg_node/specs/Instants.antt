@@ -20,7 +20,7 @@ end_times d = flat_map (λ ends. ends) (zip_with possible_ends d.table.own d.run
 abbrev pub entries_left : Dispatcher → List ℕ
 entries_left d = filter (is_after d.last) (times_in (d.table.sends ++ d.table.starts))
 
--- a bound on how many instants a node may still come to: those of its table, the possible ends of what runs, and those
--- of what its entries may still start. An execution may end at 9 times at most, with 0 to 8 faults
+-- A bound on how many instants a node may still come to: those of its table, the possible ends of what runs, and those
+-- of what its entries may still start. An execution may end at 9 times at most, with 0 to 8 faults.
 abbrev pub instants_left : Dispatcher → ℕ
 instants_left d = left_of d.last (planned_times d) + left_of d.last (end_times d) + length (entries_left d) * 9

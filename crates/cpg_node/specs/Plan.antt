@@ -49,8 +49,8 @@ abbrev pub SameAtEachTime : List Planned → List Planned → Type 0
 SameAtEachTime ps qs =
     (time : ℕ) → filter (λ (p : Planned). p.time == time) ps ≡ filter (λ (p : Planned). p.time == time) qs
 
--- the elements of a list are in order of time; those before a place aren't after the last turn, and the others are
-pub record IsLine {X : Type 0} (time : X → ℕ) (last : Option ℕ) (xs : List X) (place : ℕ) : Type 0 where
+-- the elements of xs are in order of time, and `place` is where those after the last turn begin
+pub record IsPlaceAfter {X : Type 0} (time : X → ℕ) (last : Option ℕ) (xs : List X) (place : ℕ) : Type 0 where
   pub within : place ≤ length xs
   pub rises : IsNonDecreasingBy time xs
   -- those before the place are no later than the last turn

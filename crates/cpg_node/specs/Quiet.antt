@@ -32,11 +32,11 @@ abbrev pub awaited : Dispatcher → List ℕ
 awaited d = times_in d.table.starts ++ times_in d.table.sends ++ times_in d.table.hears
     ++ flat_map (λ ends. ends) (zip_with (awaited_end d.table.faults) d.table.own d.running)
 
--- the least of them after the last turn
+-- the next instant at which such a turn is taken: the least awaited time after the last turn
 abbrev pub next_awaited : Dispatcher → Option ℕ
 next_awaited d = least_of (filter (is_after d.last) (awaited d))
 
--- at each other time the node is quiet, whatever was heard
+-- at each time that isn't awaited the node is quiet, whatever was heard
 abbrev pub TurnsLeftOutAreQuiet : Type 0
 TurnsLeftOutAreQuiet = (d : Dispatcher) (time : ℕ) → (Contains (awaited d) time → ⊥) → (heard : List Range) →
     IsQuiet (record d { heard = heard }) time
@@ -45,7 +45,7 @@ TurnsLeftOutAreQuiet = (d : Dispatcher) (time : ℕ) → (Contains (awaited d) t
 abbrev pub TellsFew : ℕ → Option Running → Type 0
 TellsFew k run = IfSome run (λ (run : Running). IfSome run.report (λ (e : Ended). e.faults ≤ k))
 
--- each of these times is also one at which a node that takes all turns may take one
+-- each awaited time is a candidate: a node that takes all turns may take one at it
 abbrev pub AwaitedAreCandidates : Type 0
 AwaitedAreCandidates = (d : Dispatcher) → IsTable d.table → All (TellsFew d.table.faults) d.running → (time : ℕ) →
     Contains (awaited d) time → Contains (candidates d) time

@@ -51,11 +51,11 @@ fn first_end(times: &[u64], start: u64, last: u64) -> Option<u64>
     requires start { start < 2 ^ 60 }
     ensures { result ≡ least_of (filter (is_after (Some last)) (map (λ d. start + d) times.now)) }
 {
-    let mut first = None;
+    let mut earliest = None;
     for duration in times {
-        first = earlier(first, end_after(start, *duration, last));
+        earliest = earlier(earliest, end_after(start, *duration, last));
     }
-    first
+    earliest
 }
 
 /// Returns the first possible end of a process after the last turn, or `None` if there is none.
@@ -79,11 +79,11 @@ pub fn earliest_end(own: &[Own], running: &[Option<Running>], last: u64) -> Opti
     // the least of all ends that may come after the last turn, over all that runs
     ensures { result ≡ least_of (filter (is_after (Some last)) (flat_map (λ ends. ends) (zip_with possible_ends own.now running.now))) }
 {
-    let mut first = None;
+    let mut earliest = None;
     for (place, own) in own.iter().enumerate() {
-        first = earlier(first, first_end_of(own, running[place], last));
+        earliest = earlier(earliest, first_end_of(own, running[place], last));
     }
-    first
+    earliest
 }
 
 /// Returns what a process runs after a report, which its execution keeps if the report is of this process; `None` exactly

@@ -15,7 +15,8 @@ use cpg_cube::{Column, Literal};
 use cpg_table::NodeTable;
 use std::alloc::Global;
 
-/// How many variables there may be: those of fault counts, and after them those of values.
+/// How many variables there may be: those of fault counts, and after them those of values. With 128 and 32 of them the sum
+/// fits a byte.
 const VARIABLES: u8 = FIRST_VALUE + MOST_CONDITIONS as u8;
 
 /// Returns the range of a variable of which nothing has been heard.
@@ -198,18 +199,18 @@ pub fn arrives(table: &NodeTable, arrival: u64, frame: &Frame) -> bool
 }
 
 /// Hears a frame and returns true, unless it contradicts what has been heard: then nothing changes, and it returns false.
-/// `before` is memory for a copy of what has been heard.
-pub fn hears(table: &NodeTable, heard: &mut [Range], before: &mut [Range], frame: &Frame) -> bool
-    requires { length heard.old ≡ length before.old }
+/// `saved` is memory for a copy of what has been heard.
+pub fn hears(table: &NodeTable, heard: &mut [Range], saved: &mut [Range], frame: &Frame) -> bool
+    requires { length heard.old ≡ length saved.old }
     ensures fits { result ≡ not (list_any is_contradicted (hear_frame table.now heard.old frame.now)) }
     ensures heard { OnTrue result (heard.new ≡ hear_frame table.now heard.old frame.now) }
     ensures same { OnFalse result (heard.new ≡ heard.old) }
 {
     // what was heard is kept, so that a frame that contradicts it can be taken back
-    before.copy_from_slice(heard);
+    saved.copy_from_slice(heard);
     hear_frame(table, heard, frame);
     if are_contradicted(heard) {
-        heard.copy_from_slice(before);
+        heard.copy_from_slice(saved);
         return false;
     }
     true

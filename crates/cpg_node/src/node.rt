@@ -40,8 +40,8 @@ pub struct Node {
     times_place: usize,
     /// Room for the reports that a turn takes.
     due: Vec<Ended>,
-    /// Room for what has been heard before a frame.
-    before: Vec<Range>,
+    /// Room for a copy of what has been heard, from which a strange frame is taken back.
+    saved: Vec<Range>,
 }
 
 impl Model for Node {
@@ -63,7 +63,7 @@ impl Node {
         ensures { IfOk result (λ node. node ≡ record { dispatcher = initial_dispatcher table; acts = [] }) }
     {
         let heard = whole_ranges(alloc, table.faults())?;
-        let before = heard.clone()?;
+        let saved = heard.clone()?;
         let running = vec![in alloc; None; table.own().len()]?;
         let plan = plan_of(alloc, &table)?;
         let times = times_of(alloc, &table)?;
@@ -85,7 +85,7 @@ impl Node {
             times,
             times_place: 0,
             due,
-            before,
+            saved,
         })
     }
 
@@ -158,7 +158,7 @@ impl Node {
         if hears(
             &self.table,
             self.heard.as_mut_slice(),
-            self.before.as_mut_slice(),
+            self.saved.as_mut_slice(),
             &frame,
         ) {
             Ok(())

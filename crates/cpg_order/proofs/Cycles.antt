@@ -32,13 +32,14 @@ has_edge_from g e h = list_any_true (λ f. (f.from == source g e) && (f.to == ta
     (and_from (source g e == source g e) (target g e == target g e) (eq-eqb (source g e) (source g e) refl)
     (eq-eqb (target g e) (target g e) refl))
 
--- an input of a process is an edge from its source to the process
+-- if e is an input of p, an edge leads from the source of e to p
 pub has_edge_of_input : (g : Graph) (p e : ℕ) → Contains (inputs g p) e → has_edge g (source g e) p ≡ true
 has_edge_of_input g p e c = let r = inputs_parts g p e c in
     subst (λ q. has_edge g (source g e) q ≡ true) r.1 (has_edge_from g e r.0)
 
 -- ---- a topological order leaves no cycle
 
+-- given: a topological order of a graph
 module _ (g : Graph) (order : List ℕ) (topological : IsTopological g order) where
   -- an edge from p to q is in the list of edges, so p comes before q in a topological order
   has_edge_goes_up : (p q : ℕ) → has_edge g p q ≡ true → place order p < place order q
@@ -84,7 +85,7 @@ pub record IsWalkBack (g : Graph) (walk : List ℕ) (process : ℕ) : Type 0 whe
   pub last : 0 < length walk → has_edge g process (get_or walk (length walk - 1) 0) ≡ true
 
 module _ (g : Graph) where
-  -- the empty walk is a walk back, and any process may come first
+  -- the empty walk is a walk back, with any process to come next
   pub walk_none : (process : ℕ) → IsWalkBack g [] process
   walk_none process = record {
     apart = AllPairs-nil (λ p q. p ≢ q);
@@ -93,6 +94,7 @@ module _ (g : Graph) where
     last = λ l. absurd (omega arith);
   }
 
+  -- given: a walk back, and the process that comes next
   module _ (walk : List ℕ) (process : ℕ) (is : IsWalkBack g walk process) where
     -- the walk keeps its processes when one is added
     grown : (k : ℕ) → k < length walk → get_or (walk ++ process ∷ []) k 0 ≡ get_or walk k 0

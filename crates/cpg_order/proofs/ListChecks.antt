@@ -16,7 +16,7 @@ use Rattle.cpg_base.specs.Order.{place, comes_before, IsOrder}
 use Rattle.cpg_base.proofs.Places.{from_order, Contains-order, places_from_comes_before, comes_before_from_places}
 use Rattle.cpg_order.proofs.Readiness.{apart_before, permutation_of_all}
 
--- a false part adds nothing to a disjunction
+-- if c is false, `b or c` is b
 or_nothing : (b c : Bool) → c ≡ false → (b || c) ≡ b
 or_nothing true c e = refl
 or_nothing false c e = e

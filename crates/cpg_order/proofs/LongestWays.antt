@@ -23,10 +23,10 @@ abbrev pub longest_from : Graph → List ℕ → ℕ → ℕ
 longest_from g tails p =
     greatest (map (λ e. (if is_message g e then round g else 0) + get_or tails (target g e) 0) (outputs g p))
 
--- a number that may be left out is at most the number
-turn-le : (b : Bool) (n : ℕ) → (if b then n else 0) ≤ n
-turn-le true n = omega arith
-turn-le false n = omega arith
+-- n, or 0 if the test b fails, is at most n; n is the round, which only a message may have to wait for
+round_if-le : (b : Bool) (n : ℕ) → (if b then n else 0) ≤ n
+round_if-le true n = omega arith
+round_if-le false n = omega arith
 
 -- the tails of the last `done` processes of the order are found, and no tail is longer than these processes allow
 pub record AreFound (g : Graph) (order tails : List ℕ) (done : ℕ) : Type 0 where
@@ -66,7 +66,7 @@ module _ (g : Graph) (within : IsWithinLimits g) (order : List ℕ) (topological
     longest_from-le = greatest-le _ _ (λ x c.
         let r = Contains-map_parts (λ e. (if is_message g e then round g else 0) + get_or tails (target g e) 0)
         (outputs g p) x c in
-        omega (arith, r.2, turn-le (is_message g r.0) (round g), round-le g within, are.low (target g r.0)))
+        omega (arith, r.2, round_if-le (is_message g r.0) (round g), round-le g within, are.low (target g r.0)))
 
     -- the duration of the next process and the longest way over its outputs are its tail
     pub next_tail : duration g p 0 + longest_from g tails p ≡ tail g p
@@ -76,14 +76,14 @@ module _ (g : Graph) (within : IsWithinLimits g) (order : List ℕ) (topological
         (omega (arith, output_goes_up g order topological p e c)))))
         ∙ sym (tail_is g order topological p inside)
 
-    -- the process at a place of the order is the one there
+    -- a process q of the graph with the place of p in the order is p
     at_place_of : (q : ℕ) → q < process_count g → place order q ≡ place order p → q ≡ p
     at_place_of q l e =
         sym (get_or-place order q 0 (Contains-order (process_count g) order topological.all q l))
         ∙ ap (λ k. get_or order k 0) e
         ∙ get_or-place order p 0 (Contains-order (process_count g) order topological.all p inside)
 
-    -- With the tail of the next process, going backwards through the order, one more is found.
+    -- With the tail of the next process p, going backwards through the order, the tails of done + 1 processes are found.
     -- A process is p, whose tail was set, or one after it in the order, whose tail was found before.
     pub found_more : AreFound g order (set tails p (duration g p 0 + longest_from g tails p)) (done + 1)
     found_more = record {

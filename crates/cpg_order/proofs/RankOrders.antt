@@ -42,11 +42,12 @@ module _ (R : ℕ → ℕ → Type 0) (chain : (p q r : ℕ) → R p q → R q r
 pub in_order : (a b p q : ℕ) → is_lt (ordering_then (nat_cmp a b) (nat_cmp q p)) ≡ false → (b < a) ⊎ ((a ≡ b) × (p ≤ q))
 in_order a b p q h = grind (arith, common_steps)
 
--- the ranks of processes are those of these processes
+-- the processes of the ranks of the processes xs are xs
 processes_of_ranks : (tails xs : List ℕ) → map (λ r. r.process) (map (rank_of tails) xs) ≡ xs
 processes_of_ranks tails [] = refl
 processes_of_ranks tails (x ∷ xs) = ap (λ ys. x ∷ ys) (processes_of_ranks tails xs)
 
+-- given: the ranks of all processes by their tails, sorted in some way
 module _ (tails : List ℕ) (sorted : List UrgencyRank)
     (permutes : IsPermutation (map (rank_of tails) (numbers_below (length tails))) sorted) where
   -- the sorted ranks are of all processes

@@ -41,7 +41,7 @@ apart_more : (x : ℕ) (xs : List ℕ) → AllPairs (λ x y. x ≢ y) xs → is_
 apart_more x xs apart out = AllPairs-cons_by (λ x y. x ≢ y) x xs
     (λ y c e. both_ways (is_in xs x) out (is_in_from xs x (subst (Contains xs) (sym e) c))) apart
 
--- if numbers are below n, and one more is, all are
+-- if the numbers of a list are below n, and x is, those of the list with x in front are
 below_more : (n x : ℕ) (xs : List ℕ) → x < n → ((y : ℕ) → Contains xs y → y < n) → (y : ℕ) → Contains (x ∷ xs) y → y < n
 below_more n x xs l below y c = elim (Contains-cases x xs y c) [ inl e ↦ subst (λ z. z < n) e l | inr d ↦ below y d ]
 
@@ -164,7 +164,7 @@ passing_if : (p : ℕ → Bool) (b : Bool) (x : ℕ) (xs : List ℕ) →
 passing_if p true x xs = passing_one p x xs
 passing_if p false x xs = omega arith
 
--- as many pass in two lists together as in each of them, added up
+-- as many numbers pass in xs and ys together as in each of them, added up
 pub passing-append : (p : ℕ → Bool) (xs ys : List ℕ) → passing p (xs ++ ys) ≡ passing p xs + passing p ys
 passing-append p [] ys = omega arith
 passing-append p (x ∷ xs) ys = let r = passing-append p xs ys in
@@ -235,16 +235,17 @@ same_not false false h k = refl
 same_not true false h k = absurd (true≢false (sym (h refl)))
 same_not false true h k = absurd (true≢false (sym (k refl)))
 
--- what isn't so is false
+-- if the negation of b is true, b is false
 not_true : (b : Bool) → not b ≡ true → b ≡ false
 not_true true e = sym e
 not_true false e = refl
 
--- what isn't otherwise is true
+-- if the negation of b is false, b is true
 not_false : (b : Bool) → not b ≡ false → b ≡ true
 not_false true e = refl
 not_false false e = sym e
 
+-- given: a process p that isn't settled yet
 module _ (g : Graph) (settled : List ℕ) (p : ℕ) (fresh : is_in settled p ≡ false) where
   -- when p is settled, each process waits for fewer inputs: fewer by its edges from p
   pub waits_fewer : (q : ℕ) →
@@ -294,6 +295,7 @@ apart_before xs d apart l = elim (cases_Bool (is_in (take d xs) (get_or xs d 0))
   | inr f ↦ f
 ]
 
+-- given: for how many inputs each process of a graph waits
 module _ (g : Graph) (waiting : List ℕ) where
   -- at the start no process is settled, and each waits for all its inputs
   pub settled_first : (ready : List ℕ) → length waiting ≡ process_count g →
@@ -375,6 +377,7 @@ module _ (g : Graph) (waiting : List ℕ) where
 
 -- ---- at the end
 
+-- given: all processes that are ready have been settled
 module _ (g : Graph) (waiting ready : List ℕ) (are : AreSettled g (length ready) waiting ready) where
   -- a ready process is one of the graph
   ready_below : (p : ℕ) → Contains ready p → p < process_count g
@@ -446,20 +449,20 @@ inputs-le g p = omega (
 
 -- ---- one edge after another is settled
 
--- of the first numbers no more pass than of all
+-- of the first i numbers of xs no more pass than of all
 passing-take-le : (p : ℕ → Bool) (xs : List ℕ) (i : ℕ) → passing p (take i xs) ≤ passing p xs
 passing-take-le p xs i =
     let e : passing p xs ≡ passing p (take i xs ++ drop i xs) = ap (passing p) (sym (take-append-drop i xs)) in
     omega (arith, passing-append p (take i xs) (drop i xs))
 
--- before a place that passes, fewer pass than in the whole list
+-- before a place i whose number passes, fewer numbers pass than in all of xs
 pub passing_next : (p : ℕ → Bool) (xs : List ℕ) (i : ℕ) → i < length xs → p (get_or xs i 0) ≡ true →
     passing p (take i xs) + 1 ≤ passing p xs
 passing_next p xs i l t =
     let one : cond {A = ℕ} (p (get_or xs i 0)) 1 0 ≡ 1 = ap {B = ℕ} (λ b. cond b 1 0) t in
     omega (arith, passing-take-le p xs (i + 1), length-filter_more p xs i 0 l)
 
--- a process that waits is in the list
+-- a process that waits for some input has a place in the list `waiting`
 pub within_waiting : (waiting : List ℕ) (p : ℕ) → 0 < get_or waiting p 0 → p < length waiting
 within_waiting waiting p h =
     elim (cases_lt p (length waiting)) [ inl l ↦ l | inr l ↦ absurd (omega (arith, get_or_past waiting p 0 l)) ]

@@ -302,6 +302,7 @@ pub first_active : (g : Graph) (o : List Bool) (n p : ℕ) → inputs g p ≡ []
 first_active g o n p e = ap (λ es. is_active (activation_by (process_at g p).join es
     (λ e. is_active (activation_within n g o (source g e)) && takes (edge_at g e).when (value_of g o (source g e))))) e
 
+-- given: no process of a condition has an input
 module _ (g : Graph) (free : (c : ℕ) → c < condition_count g → inputs g (process_of g c) ≡ []) where
   -- each outcome is a track
   always_track : (o : List Bool) → is_track g o ≡ true

@@ -48,7 +48,7 @@ module _ (g : Graph) where
       ap (λ n. cond (is_track g o) n 0) (sym e))
       (cases_Bool (is_quiet g reached o))
     where
-      -- the same number on both sides of a test is that number
+      -- a choice between n and n is n
       stays : (b : Bool) (n : ℕ) → cond b n n ≡ n
       stays true n = refl
       stays false n = refl

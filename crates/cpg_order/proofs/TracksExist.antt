@@ -26,7 +26,7 @@ use Rattle.cpg_order.proofs.QuietOutcomes.{from_quiet_outcomes, Contains-quiet_o
 use Rattle.cpg_order.specs.Track.{is_track, is_outcome_before, AreTracks}
 
 module _ (g : Graph) where
-  -- choosing some conditions changes no other
+  -- an outcome that is chosen from o agrees with it on all conditions but those that were left to choose
   agree_chosen : (reached cs : List ℕ) (o q : List Bool) → Contains (chosen g reached cs o) q → (d : ℕ) →
       (Contains cs d → ⊥) →
       get_or o d false ≡ get_or q d false
@@ -63,6 +63,7 @@ module _ (g : Graph) where
       let q = and_parts (not (get_or o r.0 false)) (get_or o r.0 false) s.0 in
       both_ways (get_or o r.0 false) (not-true (get_or o r.0 false) q.0) q.1
 
+  -- given: an urgency order of the graph, and the variables that are reached
   module _ (order : List ℕ) (urgency : IsUrgencyOrder g order) (reached : List ℕ) where
     -- the place of a condition's process in the order
     abbrev at : ℕ → ℕ

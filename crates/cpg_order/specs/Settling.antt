@@ -13,8 +13,9 @@ waits g settled p = length (filter (λ e. not (is_in settled (source g e))) (inp
 pub record AreReady (waiting ready : List ℕ) : Type 0 where
   -- no process is listed twice
   pub apart : AllPairs (λ p q. p ≢ q) ready
-  -- what is listed waits for no input, and what waits for none is listed
+  -- what is listed waits for no input
   pub free : (p : ℕ) → Contains ready p → (p < length waiting) × (get_or waiting p 0 ≡ 0)
+  -- what waits for no input is listed
   pub all : (p : ℕ) → p < length waiting → get_or waiting p 0 ≡ 0 → Contains ready p
 
 -- the sources of a listed process's inputs are listed before it
@@ -48,9 +49,11 @@ pub record AreStuck (g : Graph) (waiting : List ℕ) : Type 0 where
 
 -- a cycle that is listed against its edges
 pub record IsCycleBack (g : Graph) (back : List ℕ) : Type 0 where
-  -- it has processes, and all are different
+  -- it has processes
   pub some : 0 < length back
+  -- all of them are different
   pub apart : AllPairs (λ p q. p ≢ q) back
-  -- each has an edge from the next, and the last from the first
+  -- an edge leads to each process from the one behind it in the list
   pub next : (k : ℕ) → k + 1 < length back → IsTrue (has_edge g (get_or back (k + 1) 0) (get_or back k 0))
+  -- an edge leads to the last process from the first
   pub last : IsTrue (has_edge g (get_or back 0 0) (get_or back (length back - 1) 0))

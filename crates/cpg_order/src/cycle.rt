@@ -16,13 +16,14 @@ fn waiting_process(problem: &Problem, waiting: &[u32]) -> u32
     ensures within { result < process_count problem.now }
     ensures waits { 0 < get_or waiting.now result 0 }
 {
+    // there are at most 128 processes, so the cast keeps their count
     for process in 0..problem.processes().len() as u32 {
         // processes are met by number, so this is the least
         if waiting[process as usize] > 0 {
             return process;
         }
     }
-    // some process waits
+    // some process waits, so the loop has come to one
     unreachable!()
 }
 
@@ -44,7 +45,7 @@ fn waiting_source(problem: &Problem, links: &Links, waiting: &[u32], process: u3
             return source;
         }
     }
-    // each process that waits does so for one that waits
+    // a process that waits does so for one that waits too, so the loop has come to such a source
     unreachable!()
 }
 

@@ -92,7 +92,7 @@ impl Links {
         let mut outputs = empty_lists(alloc, count)?;
         // edges are met by number, so each list rises
         for (number, edge) in problem.edges().iter().enumerate() {
-            // the number fits, since there are at most 256 edges
+            // there are at most 256 edges, so the cast keeps the number
             inputs[edge.to as usize].push(number as u32)?;
             outputs[edge.from as usize].push(number as u32)?;
         }

@@ -28,8 +28,8 @@ fn input_counts(alloc: Global, problem: &Problem, links: &Links) -> Result<Vec<u
     let count = problem.processes().len();
     let mut counts = Vec::new(alloc);
     counts.reserve(count)?;
+    // there are at most 128 processes and 256 edges, so the casts keep their counts
     for process in 0..count as u32 {
-        // there are at most 256 edges, so the count fits
         counts.push(links.inputs(process).len() as u32)?;
     }
     Ok(counts)
@@ -44,7 +44,7 @@ fn ready(alloc: Global, waiting: &[u32]) -> Result<Vec<u32>, OutOfMemory>
     ready.reserve(waiting.len())?;
     for (process, waits_for) in waiting.iter().enumerate() {
         if *waits_for == 0 {
-            // a number below 128
+            // below 128, so the cast keeps it
             ready.push(process as u32)?;
         }
     }

@@ -56,6 +56,7 @@ pub(crate) fn tails(
     let mut tails = vec![in alloc; 0u64; count]?;
     // from the last process of the order back, so that the tails of all targets are known by then
     for done in 0..count {
+        // a place below 128, so the cast keeps it
         let process = order.at((count - 1 - done) as u32);
         let way = longest(problem, round, links.outputs(process), tails.as_slice());
         tails[process as usize] = problem.duration(process, 0) + way;

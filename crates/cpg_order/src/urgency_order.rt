@@ -36,7 +36,7 @@ fn ranks(alloc: Global, tails: &[u64]) -> Result<Vec<UrgencyRank>, OutOfMemory>
     for (process, tail) in tails.iter().enumerate() {
         ranks.push(UrgencyRank {
             tail: Reverse(*tail),
-            // below 128
+            // below 128, so the cast keeps it
             process: process as u32,
         })?;
     }

@@ -31,7 +31,13 @@ IsStopped halt err status =
 
 -- what a run sees of a stream, by its fetch and by what `out` took meanwhile
 abbrev pub streamed : Fetch → SinkSeen → Stream
-streamed fetch out = record { fetch = fetch; before = out.before; now = out.now; old = out.old; new = out.new }
+streamed fetch out = record {
+  fetch = fetch;
+  faults_before = out.before;
+  faults_after = out.now;
+  taken_before = out.old;
+  taken_after = out.new;
+}
 
 -- what `err` and the status report of a stream that isn't followed to its close: the shelf failed, `out` failed, or a record
 -- was rejected (status 4)

@@ -1,5 +1,5 @@
--- Rows that tables may have fit the fields of a pack, the items of nodes are the graph's, and the bytes of rows that
--- are later.
+-- Rows that tables may have fit the fields of a pack; the items of nodes are items of the graph; and the bytes of a row
+-- whose columns are later by a delay are the number of its columns and these.
 use Rattle.std.proofs.Common.{ℕ, ◌+◌, ◌<◌, ◌≤◌, ◌≡◌, List, [], ◌∷◌, ◌++◌, length, map, get_or, All, Contains, arith}
 use Rattle.std.proofs.Common.{refl, sym, ap, ap₂, ◌∙◌, subst, inl, inr}
 use Rattle.std.specs.List.{flat_map}
@@ -26,6 +26,7 @@ use Rattle.cpg_packing.specs.PackBytes.{AreItemsWithin, items_of_nodes, later_by
 use Rattle.cpg_tree_columns.proofs.PathRoom.{few_below}
 use Rattle.cpg_packing.proofs.Spelled.{flat_mapped}
 
+-- given a graph within its limits
 module _ (g : Graph) (within : IsWithinLimits g) where
   -- a variable of a graph is below 160: 128 counts and 32 values
   small : (v : ℕ) → IsVariable g v → v < 160
@@ -58,6 +59,7 @@ module _ (g : Graph) (within : IsWithinLimits g) where
     hears = from_each (lists_of (head_of g) node).hears (hear_below g within node l);
   }
     where
+      -- if each element of `xs` is an item of the graph, so is the element at each place
       from_each : (xs : List ℕ) → ((x : ℕ) → Contains xs x → x < item_count g) → All (λ x. x < item_count g) xs
       from_each xs h i d l = h (get_or xs i d) (Contains-get_or xs i d l)
 
@@ -77,7 +79,7 @@ pub row_later : (item delay : ℕ) (columns : List Column) →
 row_later item delay columns = ap₂ (λ (n : ℕ) (bytes : List ℕ). to_be_bytes w16 n ++ bytes)
     (sym (length-map columns (later_by delay))) (sym (flat_mapped column_bytes (later_by delay) columns))
 
--- a column with an equal time is the same column
+-- a column with the cube of `c` and an equal time `t` is the same column
 same_column : (c : Column) (t : ℕ) → t ≡ c.time → (let d : Column = record { time = t; cube = c.cube } in d) ≡ c
 same_column c t e = ap (λ (x : ℕ). let d : Column = record { time = x; cube = c.cube } in d) e
 

@@ -4,8 +4,8 @@ use Rattle.std.proofs.lemmas.List.{map-append}
 use Rattle.cpg_table.proofs.GraphItems.{range-append}
 use Rattle.cpg_base.specs.Numbers.{numbers_below}
 
--- if a list is what is made of the numbers below n, then with what is made of n behind it, it is that of the numbers
--- below n + 1
+-- if `xs` is what `f` makes of the numbers below `n`, and `x` what it makes of `n`, the list with `x` at its end,
+-- `more`, is what it makes of the numbers below `n + 1`
 pub map_more : {X : Type 0} (f : ℕ → X) (n : ℕ) (xs more : List X) (x : X) → xs ≡ map f (numbers_below n) → x ≡ f n →
     more ≡ xs ++ x ∷ [] →
     more ≡ map f (numbers_below (n + 1))

@@ -1,4 +1,4 @@
--- The bytes of the columns that a tree has below a path.
+-- The bytes of the columns that a tree has below a path, and what a sink took of bytes that equal them.
 use Rattle.std.proofs.Common.{ℕ, ◌≡◌, List, ◌++◌, Option, Result, Err, All, sym, ◌∙◌, subst}
 use Rattle.cpg_codec.specs.Spelling.{column_bytes}
 use Rattle.cpg_codec.specs.Writing.{IsPut, Puts}
@@ -19,17 +19,18 @@ use Rattle.cpg_tree_columns.proofs.CountedTimes.{both_columns}
 use Rattle.cpg_tree_columns.proofs.PathWalks.{pieces_from}
 use Rattle.cpg_packing.specs.Packable.{IsPackable}
 
--- a call that failed with a proper prefix of some bytes failed so for any equal bytes
+-- a call that failed (`r`) after a proper prefix of bytes `x` failed so for equal bytes `y`; the sink took `b` in all,
+-- `a` before, and the buffer held `h`
 pub puts_failed_as : {E : Type 0} (a b h m x y : List ℕ) (r : Result Unit E) (e : E) → r ≡ Err e → x ≡ y →
     TookPrefix a b (h ++ x) →
     Puts a b h m r y
 puts_failed_as a b h m x y r e is same p = subst (Puts a b h m r) same (Puts-failed a b h m x r e is p)
 
--- bytes that are put are put as any bytes equal to them
+-- bytes `x` that are put are put as equal bytes `y`
 pub is_put_as : (a b h l x y : List ℕ) → x ≡ y → IsPut a b h l x → IsPut a b h l y
 is_put_as a b h l x y same p = subst (IsPut a b h l) same p
 
--- a proper prefix of some bytes that the sink took is one of any equal bytes
+-- a proper prefix of bytes `x`, after the buffer's `h`, that the sink took is one of equal bytes `y`
 pub took_as : (a b h x y : List ℕ) → x ≡ y → TookPrefix a b (h ++ x) → TookPrefix a b (h ++ y)
 took_as a b h x y same p = subst (λ (bytes : List ℕ). TookPrefix a b (h ++ bytes)) same p
 
@@ -45,8 +46,8 @@ bytes_from k delay cube n = pieces_from (delayed delay) k cube n
 abbrev pub ArePackable : ℕ → List Literal → TreeNode (Option ℕ) → Type 0
 ArePackable k cube n = All IsPackable (columns_of_paths (paths_from k cube n))
 
--- if the columns of a fork fit, so do those of each side, below the path that is narrowed to it: they are the columns of
--- the fork in two parts
+-- if the columns of a fork of variable `v` at `cut` fit, so do those of its sides `x` and `y`, below the path that is
+-- narrowed to each: they are the columns of the fork in two parts
 pub packable_sides : (k : ℕ) (cube : List Literal) (v cut : ℕ) (x y : TreeNode (Option ℕ)) →
     ArePackable k cube (Fork v cut x y) →
     ArePackable k (narrowed_by (up_to v cut) cube) x × ArePackable k (narrowed_by (above k v cut) cube) y
@@ -56,7 +57,8 @@ packable_sides k cube v cut x y all =
     All-parts IsPackable xs ys (subst (All IsPackable) (both_columns (paths_from k (narrowed_by (up_to v cut) cube) x)
     (paths_from k (narrowed_by (above k v cut) cube) y)) all)
 
--- the same for a path that is equal, and for any tree that has the items of the side
+-- if the columns of the side `x` fit below `cube`, so do those of any tree `n` that has the same items, below `path`, which
+-- is equal to `cube`
 pub packable_side : (k : ℕ) (items : List (TreeItem (Option ℕ))) (x n : TreeNode (Option ℕ))
     (cube path : List Literal) → items ≡ flat x → path ≡ cube → ArePackable k cube x →
     items ≡ flat n →

@@ -27,14 +27,14 @@ use Rattle.cpg_table.proofs.NodeRows.{item_is}
 use Rattle.cpg_table.proofs.Rows.{row_columns, row_parts, rows_at}
 use Rattle.cpg_packing.specs.PackBytes.{heard_bytes, items_of_nodes, node_bytes, own_bytes, pack_bytes}
 
--- to spell what h makes of a list's elements is to spell each as what h makes of it
+-- to spell by `f` what `h` makes of `xs` is to spell each `x` of it as `f (h x)`
 pub flat_mapped : {X Y : Type 0} (f : Y → List ℕ) (h : X → Y) (xs : List X) →
     flat_map f (map h xs) ≡ flat_map (λ x. f (h x)) xs
 -- by induction on the list
 flat_mapped f h [] = refl
 flat_mapped f h (x ∷ xs) = ap (λ bytes. f (h x) ++ bytes) (flat_mapped f h xs)
 
--- two ways to spell that agree on each element of a list spell the list alike
+-- if `f` and `h` spell each element `x` of `xs` alike, they spell the list alike
 flat_same : {X : Type 0} (f h : X → List ℕ) (xs : List X) → ((x : X) → Contains xs x → f x ≡ h x) →
     flat_map f xs ≡ flat_map h xs
 -- by induction on the list
@@ -42,16 +42,16 @@ flat_same f h [] same = refl
 flat_same f h (x ∷ xs) same =
     ap₂ ◌++◌ (same x (Contains-first x xs)) (flat_same f h xs (λ y c. same y (Contains-rest x xs y c)))
 
--- two rows with the same item and the same columns are equal
+-- rows `a` and `b` with the same item and the same columns are equal
 row_same : (a b : Row) → a.item ≡ b.item → a.columns ≡ b.columns → a ≡ b
 row_same a b e f = ap₂ (λ (x : ℕ) (cs : List Column). let r : Row = record { item = x; columns = cs } in r) e f
 
--- two rows that are made of one item and equal columns are equal
+-- two rows of item `x` with equal columns, `a` and `b`, are equal
 heard_same : (x : ℕ) (a b : List Column) → a ≡ b →
     (let row : Row = record { item = x; columns = a } in row) ≡ record { item = x; columns = b }
 heard_same x a b e = cc
 
--- if each of some rows is the given row of its item, they are the given rows of their items
+-- if each of the rows `rs` is the given row of its item, `rs` are the given rows of their items
 mapped : (rows rs : List Row) → ((row : Row) → Contains rs row → row ≡ row_for rows row.item) →
     rs ≡ map (row_for rows) (items_of rs)
 -- by induction on the list
@@ -59,8 +59,10 @@ mapped rows [] h = refl
 mapped rows (r ∷ rs) h = ap₂ (λ (a : Row) (rest : List Row). a ∷ rest) (h r (Contains-first r rs))
     (mapped rows rs (λ row c. h row (Contains-rest r rs row c)))
 
+-- given a graph, rows of it that can be written, and the tables with these rows
 module _ (g : Graph) (within : IsWithinLimits g) (formed : WellFormed g) (rows : List Row) (w : AreWritable g rows)
     (t : Tables) (are : AreTablesWith g rows t) where
+  -- the tables of the nodes
   abbrev tables : List NodeTable
   tables = t.nodes
 
@@ -68,7 +70,9 @@ module _ (g : Graph) (within : IsWithinLimits g) (formed : WellFormed g) (rows :
   shape : HasShape g tables
   shape = has_shape g within tables are.lawful
 
+  -- given one node of the graph
   module _ (node : ℕ) (l : node < length g.nodes) where
+    -- the node's table
     abbrev table : NodeTable
     table = table_at tables node
 

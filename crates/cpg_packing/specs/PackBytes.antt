@@ -15,7 +15,7 @@ use Rattle.cpg_table.specs.Writing.{heard_row, row_for}
 abbrev pub later_bytes : ℕ → List Column → List ℕ
 later_bytes delay columns = flat_map (λ c. column_bytes (later_by delay c)) columns
 
--- the bytes of the row of item x, as it is at its own node
+-- the bytes of the row of item x at the node that starts or sends it
 abbrev pub own_bytes : List Row → ℕ → List ℕ
 own_bytes rows x = row_bytes (row_for rows x)
 
@@ -30,8 +30,11 @@ node_bytes g rows items = flat_map (own_bytes rows) items.starts
 
 -- all items of a node are items of the graph
 pub record AreItemsWithin (g : Graph) (items : ItemLists) : Type 0 where
+  -- what it starts
   pub starts : All (λ x. x < item_count g) items.starts
+  -- what it sends
   pub sends : All (λ x. x < item_count g) items.sends
+  -- what it hears
   pub hears : All (λ x. x < item_count g) items.hears
 
 -- for each node, what it starts, sends and hears

@@ -15,7 +15,7 @@ use cpg_io::{Failed, Sink};
 use cpg_table::NodeItems;
 use cpg_tree_columns::{MadeRow, PathCube};
 
-/// Puts the rows of these items as they are: of what a node starts or sends.
+/// Puts the rows of these items, which a node starts or sends, as they are. `rows` has the row of each item at its number.
 fn put_own<O: Sink>(
     buffer: &mut Buffer,
     sink: &mut O,
@@ -37,7 +37,8 @@ fn put_own<O: Sink>(
     Ok(())
 }
 
-/// Puts the rows of these items at a node that hears them: each column is later by the sender's slot.
+/// Puts the rows of these items at a node that hears them: each column is later by the sender's slot. `rows` has the row of
+/// each item at its number.
 fn put_heard<O: Sink>(
     buffer: &mut Buffer,
     sink: &mut O,
@@ -64,7 +65,8 @@ fn put_heard<O: Sink>(
     Ok(())
 }
 
-/// Puts the rows of what a node starts, then of what it sends, then of what it hears.
+/// Puts the rows of what a node starts, then of what it sends, then of what it hears. `items` are the node's, and `rows` has
+/// the row of each item at its number.
 pub(crate) fn put_node<O: Sink>(
     buffer: &mut Buffer,
     sink: &mut O,

@@ -1,4 +1,4 @@
-//! Writing the pack of rows as they are made.
+//! Writing the pack of rows: the head of the graph, and the rows of each node, through a buffer.
 ghost use Rattle.std.specs.Prelude.{◌≡◌, ◌≤◌, ◌++◌, [], All, Err, IfOk, OnErr, OnOk, length, map};
 ghost use Rattle.std.specs.List.{flat_map};
 ghost use Rattle.cpg_base.specs.Graph.{item_count};
@@ -50,11 +50,13 @@ fn outline_of(alloc: Global, problem: &Problem) -> Result<Outline, OutOfMemory>
     ensures nodes { IfOk result (λ outline. outline.nodes.items ≡ items_of_nodes problem.now) }
 {
     let head = head_of(alloc, problem)?;
+    // there are at most 16 nodes, so the cast keeps their number
     let nodes = items_of(alloc, &head, problem.nodes().len() as u32)?;
     Ok(Outline { head, nodes })
 }
 
-/// Puts the rows of each node; `Err` only if the sink meets a fault. Here and below, `path` is at the root of a tree.
+/// Puts the rows of each node; `Err` only if the sink meets a fault. Here and below, `rows` has the row of each item at its
+/// number, and `path` is at the root of a tree.
 fn put_nodes<O: Sink>(
     buffer: &mut Buffer,
     sink: &mut O,
@@ -77,7 +79,7 @@ fn put_nodes<O: Sink>(
     Ok(())
 }
 
-/// Puts the head and the rows of each node; `Err` only if the sink meets a fault.
+/// Puts the head, and then the rows of each node; `Err` only if the sink meets a fault. `outline` is that of the graph.
 fn put_all<O: Sink>(
     buffer: &mut Buffer,
     sink: &mut O,
@@ -101,7 +103,8 @@ fn put_all<O: Sink>(
     put_nodes(buffer, sink, problem, rows, outline.nodes.as_slice(), path)
 }
 
-/// Writes the head and the rows of each node through an empty buffer; `Err` only if the sink meets a fault.
+/// Writes the head and the rows of each node through an empty buffer; `Err` only if the sink meets a fault. `outline` is that
+/// of the graph.
 fn write_through<O: Sink>(
     buffer: &mut Buffer,
     sink: &mut O,
@@ -126,7 +129,8 @@ fn write_through<O: Sink>(
     buffer.write(sink)
 }
 
-/// Writes the pack of rows (`pack_bytes`), which is the spelling of the tables that have them.
+/// Writes the pack of rows (`pack_bytes`), which is the spelling of the tables that have them. `rows` has the row of each
+/// item at its number.
 ///
 /// `Failed` only if the sink met a fault. It has taken a proper prefix of the pack then. All memory is taken before the
 /// first write, so on `OutOfMemory` the sink is as it was.

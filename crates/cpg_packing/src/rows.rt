@@ -13,7 +13,7 @@ use cpg_cube::Column;
 use cpg_io::{Failed, Sink};
 use cpg_tree_columns::{MadeRow, PathCube, RowSource};
 
-/// Puts columns, each later by a delay.
+/// Puts columns, one after another, each later by `delay` time units.
 fn put_later<O: Sink>(
     buffer: &mut Buffer,
     sink: &mut O,
@@ -31,7 +31,7 @@ fn put_later<O: Sink>(
     Ok(())
 }
 
-/// Puts the columns of a row, each later by a delay. `path` is at the root of a tree.
+/// Puts the columns of a row, each later by `delay` time units. `path` is at the root of a tree.
 fn put_columns<O: Sink>(
     buffer: &mut Buffer,
     sink: &mut O,
@@ -52,7 +52,7 @@ fn put_columns<O: Sink>(
     }
 }
 
-/// Puts a row, each of its columns later by a delay: how many there are, and these. `path` is at the root of a tree.
+/// Puts a row: how many columns it has, and then these, each later by `delay` time units. `path` is at the root of a tree.
 pub(crate) fn put_row<O: Sink>(
     buffer: &mut Buffer,
     sink: &mut O,

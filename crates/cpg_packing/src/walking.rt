@@ -18,8 +18,8 @@ use cpg_tree::{Top, TreeItem, top_of};
 use cpg_tree_columns::PathCube;
 
 /// Puts the columns that the tree has below a path, each later by a delay: the time of each is a leaf, and its cube is the
-/// path to there. `k` is the most faults. The path is narrowed on the way down and restored on the way up. `Err` only if
-/// the sink meets a fault; the path is then anywhere.
+/// path to there. `items` are those of the tree below the path, and `k` is the most faults. The path is narrowed on the way
+/// down and restored on the way up. `Err` only if the sink meets a fault; the path is then anywhere.
 pub(crate) fn put_paths<O: Sink>(
     buffer: &mut Buffer,
     sink: &mut O,

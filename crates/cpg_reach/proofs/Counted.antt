@@ -42,7 +42,8 @@ along_next g order i l = ap (conditions_along g) (take_more order i 0 l)
     ∙ ap (λ xs. conditions_along g (take i order) ++ xs)
     (append-nil (option_to_list (condition_of g (get_or order i 0))))
 
--- if the process has a condition and it is put behind those so far, the list is that of one process more
+-- if the i-th process of the order has condition c, and c is put behind the conditions `xs` of the first i, the list `ys`
+-- has those of the first i + 1
 pub along_takes : (g : Graph) (order : List ℕ) (i c : ℕ) (xs ys : List ℕ) → i < length order →
     xs ≡ conditions_along g (take i order) →
     condition_of g (get_or order i 0) ≡ Some c →

@@ -161,6 +161,7 @@ module _ (g : Graph) (order : List ℕ) (top : IsTopological g order) where
       by_sent y l false e = ap (λ s. s && (home g y == node) && nat_lt (moment g order y) (m + 1)) e
           ∙ sym (ap (λ s. s && (home g y == node) && nat_lt (moment g order y) m) e)
 
+  -- given: the reach r
   module _ (r : Reach) where
     -- what all items sent before a moment on a node depend on
     abbrev sent_reach : ℕ → ℕ → List ℕ
@@ -248,7 +249,7 @@ module _ (g : Graph) (order : List ℕ) (top : IsTopological g order) where
             ∙ ap (λ ys. is_in (flat_map (reach_of r) ys) v) (sym (sent_kept m node (λ y i e d. none y i d)));
       }
 
-      -- given: item x at moment m, and its reach
+      -- given: item x, whose moment is m, and its reach
       module _ (x : ℕ) (within : x < item_count g) (at : moment g order x ≡ m) (reach : List ℕ)
           (right : SameElements reach (reach_of r x)) where
         -- with the reach set, each item up to x has its reach

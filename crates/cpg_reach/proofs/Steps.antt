@@ -104,7 +104,7 @@ module _ (g : Graph) (order : List ℕ) (top : IsTopological g order) (r : Reach
 
   -- ---- a start
 
-  -- given: reaches that are right before a start
+  -- given: what is found before the start of p, and that it is right (`agrees`)
   module _ (p : ℕ) (within : p < process_count g) (rs known sent : List (List ℕ))
       (agrees : AgreesUntil g order r (place order p) (place order p * phases g) rs known sent)
       (there : node_of g p < length g.nodes) where
@@ -320,7 +320,7 @@ module _ (g : Graph) (order : List ℕ) (top : IsTopological g order) (r : Reach
                 (phase (item_at g x)) (phases g) k (phase_below g x l) in omega arith)
           ])
 
-  -- given: reaches that are right before an item that may be sent
+  -- given: what is found before item x, which may be sent, and that it is right (`agrees`)
   module _ (k : ℕ) (x : ℕ) (within : x < item_count g) (rs known sent : List (List ℕ))
       (agrees : AgreesUntil g order r k (moment g order x) rs known sent) (there : home g x < length g.nodes) where
     -- the values of the conditions that decide the producer
@@ -398,7 +398,7 @@ walk_begins g order r rs known sent a b c = record {
         (λ y k. and_right (is_sent g y && (home g y == node)) (nat_lt (moment g order y) 0)
         (le-ltb (moment g order y) 0 (omega arith)))
 
--- what is found has a reach for each item, and two sets for each node
+-- what is found has a reach for each item (`rs`), and two sets for each node (`known`, `sent`)
 pub walked_some : (g : Graph) (order : List ℕ) (top : IsTopological g order) (k m : ℕ) (rs known sent : List (List ℕ)) →
     ((r : Reach) → IsReach g order r → AgreesUntil g order r k m rs known sent)
     → (length rs ≡ item_count g) × (length known ≡ length g.nodes) × (length sent ≡ length g.nodes)

@@ -23,7 +23,8 @@ use Rattle.cpg_reach.proofs.Steps.{start_right, started_next, send_right, unsent
 abbrev pub Agrees : Graph → List ℕ → ℕ → ℕ → (rs known sent : List (List ℕ)) → Type 0
 Agrees g order k m rs known sent = (r : Reach) → IsReach g order r → AgreesUntil g order r k m rs known sent
 
--- what agrees for some lists agrees for equal ones
+-- what agrees for some lists agrees for equal ones: `us`, `knows` and `sents` for `rs`, `known` and `sent`, and the moment
+-- n for m
 agrees_as : (g : Graph) (order : List ℕ) (r : Reach) (k m n : ℕ) (rs us known knows sent sents : List (List ℕ)) →
     m ≡ n → rs ≡ us → known ≡ knows → sent ≡ sents →
     AgreesUntil g order r k m rs known sent → AgreesUntil g order r k n us knows sents
@@ -36,25 +37,25 @@ agrees_as g order r k m n rs us known knows sent sents e a b c h =
 module _ (g : Graph) (order : List ℕ) (top : IsTopological g order) where
   -- Once the reach of a start is set, and what its node makes later processes wait for, all is right up to the
   -- process's broadcast.
-  pub start_settled : (p : ℕ) → p < process_count g → (rs first second known starts sent : List (List ℕ)) → first ≡ rs →
-      second ≡ rs →
+  pub start_settled : (p : ℕ) → p < process_count g → (rs seen seen_again known starts sent : List (List ℕ)) → seen ≡ rs →
+      seen_again ≡ rs →
       starts ≡ known →
       Agrees g order (place order p) (place order p * phases g) rs known sent
       → (node : ℕ) → node ≡ node_of g p → node < length g.nodes → (reach a b c d : List ℕ) →
-      SameElements reach (start_by g first starts p) → a ≡ get_or known node [] →
-      Adds a (heard_by g second node (conditions_of g p)) b → Adds b reach c → Adds c (p ∷ []) d
+      SameElements reach (start_by g seen starts p) → a ≡ get_or known node [] →
+      Adds a (heard_by g seen_again node (conditions_of g p)) b → Adds b reach c → Adds c (p ∷ []) d
       → Agrees g order (place order p + 1) (place order p * phases g + 2) (set rs p reach) (set known node d) sent
   -- the sets that the code reads by other names are the given ones; then `started_next` says that all is right
-  start_settled p within rs first second known starts sent same again knows walked node at there reach a b c d right was
+  start_settled p within rs seen seen_again known starts sent same again knows walked node at there reach a b c d right was
       heard started ended r is =
       let n : node_of g p < length g.nodes = subst (λ x. x < length g.nodes) at there in
       let right_by : SameElements reach (start_by g rs known p) =
       subst (λ us. SameElements reach (start_by g us known p)) same
-      (subst (λ us. SameElements reach (start_by g first us p)) knows right) in
+      (subst (λ us. SameElements reach (start_by g seen us p)) knows right) in
       let heard_here : Adds (get_or known (node_of g p) []) (heard_by g rs (node_of g p) (conditions_of g p)) b =
       subst (λ x. Adds (get_or known x []) (heard_by g rs x (conditions_of g p)) b) at
       (subst (λ us. Adds (get_or known node []) (heard_by g us node (conditions_of g p)) b) again
-      (subst (λ xs. Adds xs (heard_by g second node (conditions_of g p)) b) was heard)) in
+      (subst (λ xs. Adds xs (heard_by g seen_again node (conditions_of g p)) b) was heard)) in
       let reach_is = start_right g order top r is p within rs known sent (walked r is) n reach right_by in
       agrees_as g order r (place order p + 1) (place order p * phases g + 2) (place order p * phases g + 2)
       (set rs p reach) (set rs p reach) (set known (node_of g p) d)
@@ -62,49 +63,52 @@ module _ (g : Graph) (order : List ℕ) (top : IsTopological g order) where
       (started_next g order top r is p within rs known sent
       (walked r is) n reach b c d reach_is heard_here started ended)
 
-  -- Once the reach of an item that may be sent is set, all is right up to the next moment.
-  pub send_settled : (k m x : ℕ) (rs first known sent sends us knows sents : List (List ℕ)) → first ≡ rs →
+  -- Once the reach of item x, which may be sent, is set, all is right up to the next moment, m + 1.
+  -- `rs`, `known`, `sent`: what is found before; `us`, `knows`, `sents`: what is found after that; `seen`, `sends`: `rs` and
+  -- `sent` by the names under which the code reads them
+  pub send_settled : (k m x : ℕ) (rs seen known sent sends us knows sents : List (List ℕ)) → seen ≡ rs →
       sends ≡ sent → Agrees g order k m rs known sent → x < item_count g → (i : Item) →
       item_at g x ≡ i → moment g order x ≡ m
       → ((r : Reach) → reach_by_item g order r x i ≡ cond (is_sent_item g i) (send_reach g order r x) []) → (node : ℕ) →
       node ≡ home g x → node < length g.nodes
-      → (reach b : List ℕ) → SameElements reach (send_by g first sends i) → us ≡ set rs x reach → knows ≡ known →
+      → (reach b : List ℕ) → SameElements reach (send_by g seen sends i) → us ≡ set rs x reach → knows ≡ known →
       sents ≡ set sent node b → Adds (get_or sent node []) reach b →
       Agrees g order k (m + 1) us knows sents
   -- the sets that the code reads by other names are the given ones; then `settled` says that all is right
-  send_settled k m x rs first known sent sends us knows sents same again walked within i at when rule node here there
+  send_settled k m x rs seen known sent sends us knows sents same again walked within i at when rule node here there
       reach b right us_is knows_is sents_is adds r is =
       let n : home g x < length g.nodes = subst (λ y. y < length g.nodes) here there in
       let right_by : SameElements reach (send_by g rs sent i) = subst (λ vs. SameElements reach (send_by g vs sent i))
-      same (subst (λ vs. SameElements reach (send_by g first vs i)) again right) in
-      let now : AgreesUntil g order r k (moment g order x) rs known sent =
+      same (subst (λ vs. SameElements reach (send_by g seen vs i)) again right) in
+      let agrees : AgreesUntil g order r k (moment g order x) rs known sent =
       subst (λ y. AgreesUntil g order r k y rs known sent) (sym when) (walked r is) in
-      let reach_is = send_right g order top r is k x within rs known sent now n i at (rule r) reach right_by in
+      let reach_is = send_right g order top r is k x within rs known sent agrees n i at (rule r) reach right_by in
       agrees_as g order r k (m + 1) (m + 1) (set rs x reach) us known knows (set sent (home g x) b) sents refl
       (sym us_is) (sym knows_is) (ap (λ y. set sent y b) (sym here) ∙ sym sents_is)
       (settled g order top r k m rs known sent (walked r is) x within when reach reach_is
-      (unsent_empty g order top r is k x within rs known sent now n i at (rule r)) b
+      (unsent_empty g order top r is k x within rs known sent agrees n i at (rule r)) b
       (subst (λ y. Adds (get_or sent y []) reach b) here adds) n)
 
-  -- once the reach of a broadcast is set, all is right up to the process's first message
-  pub broadcast_settled : (p c : ℕ) (rs first known sent sends us knows sents : List (List ℕ)) → first ≡ rs →
+  -- Once the reach of the broadcast of p's condition c is set, all is right up to the process's first message. The lists
+  -- are named as in `send_settled`.
+  pub broadcast_settled : (p c : ℕ) (rs seen known sent sends us knows sents : List (List ℕ)) → seen ≡ rs →
       sends ≡ sent →
       condition_of g p ≡ Some c →
       Agrees g order (place order p + 1) (place order p * phases g + 2) rs known sent
       → (node : ℕ) → node ≡ node_of g p → node < length g.nodes
-      → (reach b : List ℕ) → SameElements reach (send_by g first sends (Broadcast c)) →
+      → (reach b : List ℕ) → SameElements reach (send_by g seen sends (Broadcast c)) →
       us ≡ set rs (broadcast_item g c) reach → knows ≡ known → sents ≡ set sent node b →
       Adds (get_or sent node []) reach b
       → Agrees g order (place order p + 1) (place order p * phases g + 3) us knows sents
   -- a broadcast is an item that may be sent, and its moment is 2 past its process's first one
-  broadcast_settled p c rs first known sent sends us knows sents same again own walked node here there reach b right
+  broadcast_settled p c rs seen known sent sends us knows sents same again own walked node here there reach b right
       us_is knows_is sents_is adds r is =
       let q = process_of_condition_of g p c own in
       let l = condition_of_below g p c own in
       agrees_as g order r (place order p + 1) (place order p * phases g + 2 + 1)
       (place order p * phases g + 3) us us knows knows sents sents (omega arith) refl refl refl
       (send_settled (place order p + 1) (place order p * phases g + 2)
-      (broadcast_item g c) rs first known sent sends us knows sents same again walked (omega arith) (Broadcast c)
+      (broadcast_item g c) rs seen known sent sends us knows sents same again walked (omega arith) (Broadcast c)
       (item_at-broadcast g c)
       (ap (moment_of_item g order) (item_at-broadcast g c) ∙ ap (λ z. place order z * phases g + 2) q) (λ s. refl) node
       (here ∙ ap (node_of g) (sym q) ∙ ap (λ i. node_of g (producer_of_item g i)) (sym (item_at-broadcast g c))) there
@@ -125,23 +129,24 @@ module _ (g : Graph) (order : List ℕ) (top : IsTopological g order) where
       none_is_some : {c : ℕ} → None ≡ Some c → ⊥
       none_is_some e = cc
 
-  -- once the reach of a message is set, all is right up to the next edge's
-  pub message_settled : (p e : ℕ) (rs first known sent sends us knows sents : List (List ℕ)) → first ≡ rs →
+  -- Once the reach of the message of edge e, an output of p, is set, all is right up to the next edge's. The lists are
+  -- named as in `send_settled`.
+  pub message_settled : (p e : ℕ) (rs seen known sent sends us knows sents : List (List ℕ)) → seen ≡ rs →
       sends ≡ sent → e < edge_count g →
       source g e ≡ p →
       Agrees g order (place order p + 1) (place order p * phases g + 3 + e) rs known sent
       → (node : ℕ) → node ≡ node_of g p → node < length g.nodes
-      → (reach b : List ℕ) → SameElements reach (send_by g first sends (Message e)) →
+      → (reach b : List ℕ) → SameElements reach (send_by g seen sends (Message e)) →
       us ≡ set rs (message_item g e) reach → knows ≡ known → sents ≡ set sent node b →
       Adds (get_or sent node []) reach b
       → Agrees g order (place order p + 1) (place order p * phases g + 3 + (e + 1)) us knows sents
   -- a message is an item that may be sent, at the moment of its edge
-  message_settled p e rs first known sent sends us knows sents same again l q walked node here there reach b right us_is
+  message_settled p e rs seen known sent sends us knows sents same again l q walked node here there reach b right us_is
       knows_is sents_is adds r is =
       agrees_as g order r (place order p + 1) (place order p * phases g + 3 + e + 1)
       (place order p * phases g + 3 + (e + 1)) us us knows knows sents sents (omega arith) refl refl refl
       (send_settled (place order p + 1) (place order p * phases g + 3 + e)
-      (message_item g e) rs first known sent sends us knows sents same again walked (omega arith) (Message e)
+      (message_item g e) rs seen known sent sends us knows sents same again walked (omega arith) (Message e)
       (item_at-message g e l)
       (ap (moment_of_item g order) (item_at-message g e l) ∙ ap (λ z. place order z * phases g + (e + 3)) q ∙
       (let x : place order p * phases g + (e + 3) ≡ place order p * phases g + 3 + e = omega arith in x))

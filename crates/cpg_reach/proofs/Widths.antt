@@ -39,7 +39,8 @@ views_whole g order guards admitted reached =
     let f = views_fit g admitted.limits.few_processes admitted.limits.faults reached t.0 t.1 (omega arith) in
     omega arith
 
--- the number that is counted from a set with the item's reach is the number of its views
+-- the number n that is counted from the set `xs`, x's entry in the reaches that were found (`rs`), is the number of x's
+-- views
 pub has_views : (g : Graph) (order : List ℕ) (top : IsTopological g order) (guards : Guards) (urgency : List ℕ) →
     IsAdmitted g urgency guards → (rs : Reach) →
     AreReaches g order rs →
@@ -71,7 +72,8 @@ sum_next : (f : ℕ → ℕ) (x : ℕ) → sum_by f (numbers_below (x + 1)) ≡ 
 sum_next f x = ap (sum_by f) (below_push x) ∙ sum_by-append f (numbers_below x) (x ∷ [])
     ∙ (let e = sum_by-cons f x [] in omega arith)
 
--- given: the loads of the items before one, and the reach of that one
+-- given: the load of the items before x (`loads`), none of which is too wide, and the set `xs` that is x's entry in the
+-- reaches that were found (`rs`)
 module _ (g : Graph) (order : List ℕ) (top : IsTopological g order) (rs : Reach) (are : AreReaches g order rs)
     (x loads : ℕ) (so_far : AreLoads g order x loads) (within : x < item_count g)
     (xs : List ℕ) (at : xs ≡ get_or rs x xs) where

@@ -7,6 +7,6 @@ use Rattle.cpg_order.specs.Reach.{is_in}
 abbrev pub members : List Bool → List ℕ
 members marks = filter (λ v. get_or marks v false) (numbers_below (length marks))
 
--- `after` has the variables of `before` and of `more`, and no others
-abbrev pub Adds : (before more after : List ℕ) → Type 0
-Adds before more after = (v : ℕ) → is_in after v ≡ (is_in before v || is_in more v)
+-- `all` has the variables of `some` and of `more`, and no others
+abbrev pub Adds : (some more all : List ℕ) → Type 0
+Adds some more all = (v : ℕ) → is_in all v ≡ (is_in some v || is_in more v)

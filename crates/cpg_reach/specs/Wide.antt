@@ -41,11 +41,11 @@ abbrev pub is_wide_by : Graph → List ℕ → ℕ → ℕ → Bool
 is_wide_by g reached x loads = nat_lt 0 (rows_of_item g (item_at g x))
     && (nat_lt most_views (views g reached) || nat_lt most_loads (loads + load_by g reached x))
 
--- item x with this reach isn't too wide after items with these loads, and `after` is the load with its own
-pub record HasLoads (g : Graph) (reached : List ℕ) (x loads after : ℕ) : Type 0 where
+-- item x with this reach isn't too wide after items with the load `loads`, and `sum_of_loads` is that with its own
+pub record HasLoads (g : Graph) (reached : List ℕ) (x loads sum_of_loads : ℕ) : Type 0 where
   -- it isn't too wide
   pub narrow : is_wide_by g reached x loads ≡ false
   -- its load is added
-  pub sum : after ≡ loads + load_by g reached x
+  pub sum : sum_of_loads ≡ loads + load_by g reached x
   -- the sum is within the limit
-  pub few : after ≤ most_loads
+  pub few : sum_of_loads ≤ most_loads

@@ -9,7 +9,7 @@ use std::marker::Model;
 
 /// How many variables there are: the fault counts of 128 processes, then the values of 32 conditions.
 const MOST_VARIABLES: usize = MOST_PROCESSES + MOST_CONDITIONS;
-/// The variable of the value of condition 0; those of the others follow.
+/// The variable of the value of condition 0; those of the others follow. Here it has 32 bits, as conditions do.
 pub const FIRST_VALUE: u32 = cpg_base::FIRST_VALUE as u32;
 
 /// A set of variables. A contract sees it as the list of their numbers.

@@ -25,7 +25,7 @@ then_one ts t None = refl
 
 -- given what takes an element of the required type
 module _ {T : Type 0} (as_type : Data → Option T) where
-  -- one more element is taken, if it has the required type
+  -- the next element is taken behind those so far, if it has the required type
   one_more : (ts : List T) (d : Data) (ds : Items) (t : T) → Some t ≡ as_type d →
       after ts (items_as as_type (item d ds)) ≡ after (ts ++ t ∷ []) (items_as as_type ds)
   one_more ts d ds t is = rw (← is) (then_one ts t (items_as as_type ds))

@@ -61,7 +61,7 @@ at_most-few limit what xs h = rw (le-leb (length xs) limit h) refl
 
 -- ---- the sources of conditional edges
 
--- different names stay different with one more, which is left out if it is among them
+-- different names stay different with a further name behind them, which is left out if it is among them
 apart_if : (seen : List (List ℕ)) (name : List ℕ) (b : Bool) → list_any (bytes_eq name) seen ≡ b →
     AllPairs (λ a b. a ≢ b) seen →
     AllPairs (λ a b. a ≢ b) (cond b seen (seen ++ name ∷ []))
@@ -81,7 +81,7 @@ different-apart seen [] h = h
 different-apart seen (name ∷ names) h = different-apart (cond (list_any (bytes_eq name) seen) seen (seen ++ name ∷ []))
     names (apart_if seen name (list_any (bytes_eq name) seen) refl h)
 
--- what is among different names with one more was among them, or is that name
+-- what is among `seen`, with `name` behind them or left out, is among `seen` or is `name`
 from_if : (seen : List (List ℕ)) (name x : List ℕ) (b : Bool) → Contains (cond b seen (seen ++ name ∷ [])) x →
     Contains seen x ⊎ (name ≡ x)
 from_if seen name x true c = inl c
@@ -95,7 +95,7 @@ from_if seen name x false c = ⊎_elim
 Contains-head : (x y : List ℕ) (xs : List (List ℕ)) → x ≡ y → Contains (x ∷ xs) y
 Contains-head x y xs e = (0, omega arith, e)
 
--- what is in a list is in it after one more element
+-- what is in a list is in it with a further element in front
 Contains-tail : (x y : List ℕ) (xs : List (List ℕ)) → Contains xs y → Contains (x ∷ xs) y
 Contains-tail x y xs (k, l, e) = (suc k, omega (arith, l), e)
 

@@ -23,16 +23,25 @@ abbrev pub AreIn : List BoundedField → Type 0
 AreIn [] = Unit {0}
 AreIn (n ∷ ns) = (n.low ≤ natural n.value) × (natural n.value ≤ n.high) × AreIn ns
 
--- what the limits say of a document: how many elements it has, in which ranges its numbers are, and how many conditions
+-- what the limits say of a document
 pub record AreLimits (g : RawGraph) : Type 0 where
+  -- there are few enough nodes
   pub nodes : length g.nodes ≤ 16
+  -- there are few enough slots
   pub slots : length g.slots ≤ 16
+  -- there are few enough processes
   pub processes : length g.processes ≤ 128
+  -- there are few enough edges
   pub edges : length g.edges ≤ 256
+  -- the numbers of the top are in range
   pub top_range : AreIn (top_numbers g)
+  -- the numbers of each slot are in range
   pub slot_ranges : All (λ s. AreIn (slot_numbers s)) g.slots
+  -- the numbers of each process are in range
   pub process_ranges : All (λ p. AreIn (process_numbers p)) g.processes
+  -- the number of each edge is in range
   pub edge_ranges : All (λ e. AreIn (edge_numbers e)) g.edges
+  -- few enough different processes have a conditional output
   pub conditions : length (different [] (sources g.edges)) ≤ 32
 
 -- if a test and the step after it succeed, the test passes, and the step succeeds
@@ -130,6 +139,6 @@ all_at P xs ys i x h e l is =
     let there : get_or xs i x ≡ x = sym (is ∙ ap (λ zs. get_or zs i x) e) in
     subst P there (h i x (subst (λ zs. i < length zs) e l))
 
--- the fault number is at most 8
+-- a cycle has at most 8 faults
 pub small_faults : (g : RawGraph) → limits g ≡ Ok tt → natural g.faults ≤ 8
 small_faults g h = (are_limits g h).top_range.1

@@ -31,7 +31,7 @@ module _ {X : Type 0} (xs : List X) (i : ℕ) (x : X) (h : i < length xs) (is : 
   more : take (i + 1) xs ≡ take i xs ++ x ∷ []
   more = take_more xs i x h ∙ ap (λ y. take i xs ++ y ∷ []) (sym is)
 
-  -- what holds of all elements before it and of it holds of all up to it
+  -- what holds of the first i elements and of x holds of the first i + 1
   pub all_more : (P : X → Type 0) → All P (take i xs) → P x → All P (take (i + 1) xs)
   all_more P a p = subst (All P) (sym more) (All-push P (take i xs) x a p)
 

@@ -40,7 +40,7 @@ pub named : (found : Option (List ℕ)) (text : List ℕ) → IfSome found (λ n
 named (Some name) text same taken refused = ap Some same ∙ sym (if_name text true (is_name-from_IsName text taken))
 named None text same taken refused = sym (not_name text (is_name text) refl refused)
 
--- the same for its result, which may be that memory ran out
+-- the result of `Name::new` holds the text if it is a name, and otherwise nothing, unless memory has run out
 pub named_ok : {E : Type 0} (r : Result (Option (List ℕ)) E) (text : List ℕ) →
     IfOk r (λ found. IfSome found (λ name. name ≡ text)) →
     IfOk r (λ found. IfSome found (λ _. IsName text)) →

@@ -99,7 +99,7 @@ abbrev number_value : Reading ℕ → ℕ
 number_value (Ok n) = n
 number_value (Err e) = 0
 
--- two numbers that have one name are equal, as both are the number of the name
+-- two numbers m and n that have one name are equal, as both are the number of that name
 only : (names : List (List ℕ)) → AreApart names → (m n : ℕ) → m < length names → n < length names →
     get_or names m [] ≡ get_or names n [] → m ≡ n
 only names h m n l k e =

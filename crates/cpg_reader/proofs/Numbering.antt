@@ -71,7 +71,7 @@ noted_if seen name true e =
     subst (Contains seen) (sym ((bytes_eq-Decides name other).0 same)) there
 noted_if seen name false e = Contains-push seen name
 
--- what was seen stays so with one more
+-- a name that was seen stays so if a further name is put behind, or left out
 kept_if : (seen : List (List ℕ)) (name other : List ℕ) (b : Bool) → Contains seen other →
     Contains (cond b seen (seen ++ name ∷ [])) other
 kept_if seen name other true h = h

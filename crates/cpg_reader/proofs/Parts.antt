@@ -59,7 +59,8 @@ process-parts row name node is_name is_node = rw (is_name, is_node)
     (only (Name ∷ Node ∷ Wcet ∷ Parts ∷ Alpha ∷ Chi ∷ Mu ∷ Join ∷ Frozen ∷ Release ∷ Deadline ∷ []) row)
     (λ work. pure (process_with name node work)))
 
--- The same for the fields of an edge and its link.
+-- Reading the fields of an edge one by one and then going on is reading them as its link and then going on with that.
+-- By the first step that fails, if one does.
 after_link : {T : Type 0} (bytes_at : Reading ℤ) (when_at : Reading (Option Bool)) (frozen_at : Reading Bool)
     (end : Reading (Unit {0})) (next : RawLink → Reading T)
     → (bytes_at >>= (λ bytes. when_at >>=
@@ -81,7 +82,8 @@ edge-parts row from to is_from is_to = rw (is_from, is_to)
     (only (From ∷ To ∷ Bytes ∷ When ∷ Frozen ∷ []) row)
     (λ link. pure (edge_with from to link)))
 
--- The same for the keys of the top and the record of what they have.
+-- Reading what the keys of the top have one by one and then going on is reading it as one record and then going on
+-- with that. By the first step that fails, if one does.
 after_top : {T : Type 0} (faults_at : Reading ℤ) (deadline_at : Reading ℤ) (nodes_at : Reading (List Members))
     (slots_at : Reading (List Members)) (processes_at : Reading (List Members))
     (edges_at : Reading (List Members)) (order_at : Reading (Option (List (List ℕ)))) (end : Reading (Unit {0}))

@@ -42,7 +42,9 @@ slot_read nodes i s h = rw (name_read (get_or nodes s.node []) h) refl
 
 -- a process and its node have lawful names
 pub record IsCalled (nodes : List (List ℕ)) (p : Process) : Type 0 where
+  -- the name of the process is lawful
   pub name : IsName p.name
+  -- the name of its node is lawful
   pub node : IsName (get_or nodes p.node [])
 
 -- the written table of a process is read as the process; by whether it has its own deadline
@@ -55,7 +57,9 @@ process_by nodes i p (Some d) e h = rw (e, name_read p.name h.name, name_read (g
 
 -- both ends of an edge have lawful names
 pub record IsJoined (names : List (List ℕ)) (e : Edge) : Type 0 where
+  -- the name of its source is lawful
   pub from : IsName (get_or names e.from [])
+  -- the name of its target is lawful
   pub to : IsName (get_or names e.to [])
 
 -- the written table of an edge is read as the edge; by whether it has a `when`
@@ -102,10 +106,15 @@ map_same (x ∷ xs) = ap (λ l. x ∷ l) (map_same xs)
 
 -- all names that the document of a graph has are lawful
 pub record AreNames (g : Graph) : Type 0 where
+  -- the names of the nodes are lawful
   pub nodes : AllByRecursion IsName g.nodes
+  -- the names of the slots' nodes are lawful
   pub slots : AllByRecursion (λ s. IsName (get_or g.nodes s.node [])) g.slots
+  -- the names of the processes and of their nodes are lawful
   pub processes : AllByRecursion (IsCalled g.nodes) g.processes
+  -- the names of the edges' ends are lawful
   pub edges : AllByRecursion (IsJoined (names_of g.processes)) g.edges
+  -- the names in the order are lawful, if the graph gives one
   pub order : IfSome g.order (AllByRecursion (λ p. IsName (name_in (names_of g.processes) p)))
 
 -- the tables of the nodes are read as their names

@@ -22,7 +22,7 @@ Texts = List (Bor (List ℕ))
 abbrev pub texts : Texts → List (List ℕ)
 texts ks = map (λ k. k.now) ks
 
--- a text is among borrowed ones if it is among the texts
+-- a name is among borrowed texts exactly if it is among the texts
 any-texts : (name : List ℕ) (ks : Texts) → list_any (λ k. bytes_eq name k.now) ks ≡ list_any (bytes_eq name) (texts ks)
 any-texts name [] = refl
 any-texts name (k ∷ ks) = rw (any-texts name ks) refl
@@ -42,7 +42,7 @@ position-texts name ks = rw (first-texts name ks, length-map ks (λ k. k.now)) r
 abbrev pub same_text : Bor (List ℕ) → Bor (List ℕ) → Bool
 same_text a b = bytes_eq a.now b.now
 
--- the texts of a set, with one more if it is new
+-- the texts of a set to which a text k is added if b is false
 inserted_if : (ks : Texts) (k : Bor (List ℕ)) (b : Bool) →
     texts (cond b ks (ks ++ k ∷ [])) ≡ cond b (texts ks) (texts ks ++ k.now ∷ [])
 inserted_if ks k true = refl
@@ -83,12 +83,12 @@ module _ (es : List RawEdge) (i : ℕ) (e : RawEdge) (whole : List (List ℕ)) (
   same_sources h is simple so_far =
       so_far ∙ rw (drop-here es i e h is) (simple_edge e (drop (i + 1) es) (texts ks) simple)
 
--- if an insertion added nothing, the name was there
+-- if an insertion answers that it added nothing, the name was there: b says whether it was
 pub was_there : (b : Bool) → false ≡ not b → b ≡ true
 was_there true e = refl
 was_there false e = cc
 
--- if an insertion added the name, it wasn't there
+-- if an insertion answers that it added the name, it wasn't there: b says whether it was
 pub was_new : (b : Bool) → true ≡ not b → b ≡ false
 was_new false e = refl
 was_new true e = cc

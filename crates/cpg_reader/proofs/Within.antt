@@ -35,8 +35,11 @@ use Rattle.cpg_reader.proofs.Numbering.{number-is, apart-pairs, different-Contai
 
 -- a slot of the graph has what the document's slot i says, and the number of the node that is named
 record ShowsSlot (nodes : List (List ℕ)) (i : ℕ) (raw : RawSlot) (s : Slot) : Type 0 where
+  -- its node is the one that is named
   pub node : number_of nodes (place tables.Slot i Node) raw.node ≡ Ok s.node
+  -- its length is the document's
   pub length : natural raw.length ≡ s.length
+  -- its bytes are the document's
   pub bytes : natural raw.bytes ≡ s.bytes
 
 -- a slot that was read has what the document says
@@ -54,8 +57,11 @@ shows_slot nodes i raw s h =
 
 -- a process of the graph has what the document says of it, and the number of the node that is named
 record ShowsProcess (nodes : List (List ℕ)) (i : ℕ) (raw : RawProcess) (p : Process) : Type 0 where
+  -- its name is the document's
   pub name : raw.name ≡ p.name
+  -- its node is the one that is named
   pub node : number_of nodes (place tables.Process i Node) raw.node ≡ Ok p.node
+  -- its numbers are the document's
   pub wcet : natural raw.wcet ≡ p.wcet
   pub parts : natural raw.parts ≡ p.parts
   pub alpha : natural raw.alpha ≡ p.alpha
@@ -85,9 +91,13 @@ shows_process nodes i raw p h =
 
 -- an edge of the graph has what the document says of it, and the numbers of the processes that are named
 record ShowsEdge (processes : List (List ℕ)) (i : ℕ) (raw : RawEdge) (e : Edge) : Type 0 where
+  -- its source is the process that is named
   pub from : number_of processes (place tables.Edge i From) raw.from ≡ Ok e.from
+  -- its target is the process that is named
   pub to : number_of processes (place tables.Edge i To) raw.to ≡ Ok e.to
+  -- its size is the document's
   pub size : natural raw.bytes ≡ e.size
+  -- its `when` is the document's
   pub when : raw.when ≡ e.when
 
 -- an edge that was read has what the document says
@@ -129,16 +139,24 @@ order_within names (Some called) order h e =
           (sym (at i d (omega (arith, lt, l))).1 ∙ ap (λ p. get_or names p []) twice ∙ (at j d l).1);
     })
 
--- no name of the document is double, and these are the slots, processes, edges and order that are read of it
+-- no name of document g is double, and these parts of a graph are read of it
 record AreParts (g : RawGraph) (ss : List Slot) (ps : List Process) (es : List Edge)
     (found : Option (List ℕ)) : Type 0 where
+  -- no two nodes have one name
   pub nodes_apart : AllPairs (λ a b. a ≢ b) g.nodes
+  -- no two slots belong to one node
   pub slots_apart : AllPairs (λ a b. a ≢ b) (slot_names g.slots)
+  -- no two processes have one name
   pub processes_apart : AllPairs (λ a b. a ≢ b) (process_names g.processes)
+  -- ss are the slots that are read
   pub slots : each (slot_of g.nodes) 0 g.slots ≡ Ok ss
+  -- ps are the processes that are read
   pub processes : each (process_of g.nodes) 0 g.processes ≡ Ok ps
+  -- es are the edges that are read
   pub edges : each (edge_of (process_names g.processes)) 0 g.edges ≡ Ok es
+  -- no name stands twice in the order
   pub order_apart : order_apart g.order ≡ Ok tt
+  -- `found` is the order that is read
   pub order : order_of (process_names g.processes) g.order ≡ Ok found
 
 -- a process's own deadline, which counts as 0 if it is absent, is within the limit as a natural number too

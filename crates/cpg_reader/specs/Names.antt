@@ -44,7 +44,7 @@ abbrev pub known : Place → Option ℕ → Reading ℕ
 known place (Some number) = pure number
 known place None = Err (UnknownName place)
 
--- the number of a name: its index among the names
+-- the number of a name, which is its index among the names, or the refusal of the name at this place
 unfoldable pub number_of : List (List ℕ) → Place → List ℕ → Reading ℕ
 number_of names place name = known place (position (bytes_eq name) names)
 
@@ -125,7 +125,7 @@ resolved g = do
   order ← order_of (process_names g.processes) g.order
   pure (graph_with g slots processes edges order)
 
--- the same, after double names of processes and of the order are refused
+-- the graph of a document, as `resolved` gives it, after double names of processes and in the order are refused
 unfoldable pub named : RawGraph → Reading Graph
 named g = do
   apart tables.Process Name (process_names g.processes)

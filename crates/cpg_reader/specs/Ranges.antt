@@ -48,7 +48,7 @@ process_numbers p =
 abbrev pub edge_numbers : RawEdge → List BoundedField
 edge_numbers e = record { key = Bytes; value = e.bytes; low = 1; high = LARGEST } ∷ []
 
--- whether a number is from the least to the greatest value that it may have
+-- whether a number is from `low` to `high`
 abbrev pub is_within : ℕ → ℕ → ℤ → Bool
 is_within low high (pos n) = nat_le low n && nat_le n high
 is_within low high (negsuc n) = false

@@ -9,11 +9,11 @@ use Rattle.cpg_reader.specs.declared.shape.RawProcess.{RawProcess}
 use Rattle.cpg_reader.specs.declared.shape.RawEdge.{RawEdge}
 use Rattle.cpg_reader.specs.Shape.{RawGraph}
 
--- what a document says of a slot
+-- what a document says of a slot; `nodes` are the names of the nodes, by number
 abbrev pub raw_slot : List (List ℕ) → Slot → RawSlot
 raw_slot nodes s = record { node = get_or nodes s.node []; length = pos s.length; bytes = pos s.bytes }
 
--- what a document says of a process
+-- what a document says of a process; `nodes` are the names of the nodes, by number
 abbrev pub raw_process : List (List ℕ) → Process → RawProcess
 raw_process nodes p = record {
   name = p.name;
@@ -29,7 +29,7 @@ raw_process nodes p = record {
   deadline = option_map pos p.deadline;
 }
 
--- what a document says of an edge
+-- what a document says of an edge; `names` are those of the processes, by number
 abbrev pub raw_edge : List (List ℕ) → Edge → RawEdge
 raw_edge names e = record {
   from = get_or names e.from [];

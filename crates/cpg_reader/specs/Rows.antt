@@ -126,26 +126,26 @@ abbrev pub are_listed : List Key → Members → Bool
 are_listed keys no_members = true
 are_listed keys (member text d ms) = list_any (λ key. bytes_eq (text_of key) text) keys && are_listed keys ms
 
--- a table has none but these keys; the refusal has the key `Unknown`
+-- a table has no keys but these; if it has another, the refusal has the key `Unknown`
 unfoldable pub only : List Key → DocumentRow → Reading (Unit {0})
 only keys row = if are_listed keys row.members then done else bad row Unknown
 
--- a name that is required
+-- the name at a key, which is required
 unfoldable pub read_name : DocumentRow → Key → Reading (List ℕ)
 read_name = required as_name
 
--- an integer that is required
+-- the integer at a key, which is required
 unfoldable pub read_integer : DocumentRow → Key → Reading ℤ
 read_integer = required as_integer
 
--- an integer, with a default
+-- the integer at a key, or `value` if the table hasn't the key
 unfoldable pub integer_or : ℤ → DocumentRow → Key → Reading ℤ
 integer_or value = with_default value as_integer
 
--- a flag, with a default
+-- the flag at a key, or `value` if the table hasn't the key
 unfoldable pub flag_or : Bool → DocumentRow → Key → Reading Bool
 flag_or value = with_default value as_bool
 
--- an array of tables, which is empty by default
+-- the tables in the array at a key, or none if the table hasn't the key
 unfoldable pub read_array : DocumentRow → Key → Reading (List Members)
 read_array = with_default [] as_tables

@@ -79,7 +79,7 @@ read_work row = do
   only (Name ∷ Node ∷ Wcet ∷ Parts ∷ Alpha ∷ Chi ∷ Mu ∷ Join ∷ Frozen ∷ Release ∷ Deadline ∷ []) row
   pure (record { wcet = wcet; parts = parts; alpha = alpha; chi = chi; mu = mu; join = join; frozen = frozen; release = release; deadline = deadline })
 
--- a process with this name, on the node with this name
+-- a process named `name`, on the node named `node`
 abbrev pub process_with : List ℕ → List ℕ → RawWork → RawProcess
 process_with name node w = record {
   name = name;
@@ -95,8 +95,8 @@ process_with name node w = record {
   deadline = w.deadline;
 }
 
--- An edge as the document has it. By default its message has one byte and isn't frozen, and it is taken with either
--- value.
+-- An edge as the document has it. By default its message has one byte and isn't frozen, and it is live with either
+-- value of its source's condition.
 unfoldable pub read_edge : DocumentRow → Reading RawEdge
 read_edge row = do
   from ← read_name row From
@@ -116,7 +116,7 @@ read_link row = do
   only (From ∷ To ∷ Bytes ∷ When ∷ Frozen ∷ []) row
   pure (record { bytes = bytes; when = when; frozen = frozen })
 
--- an edge between these ends
+-- an edge from the process named `from` to the one named `to`
 abbrev pub edge_with : List ℕ → List ℕ → RawLink → RawEdge
 edge_with from to l = record { from = from; to = to; bytes = l.bytes; when = l.when; frozen = l.frozen }
 
@@ -127,13 +127,17 @@ read_rows table element_at members =
 
 -- what a document says by its keys and types: numbers may still be out of range, and names may name nothing
 pub record RawGraph : Type 0 where
-  -- the most faults in one cycle, and the time by which all has to end
+  -- the most faults in one cycle
   pub faults : ℤ
+  -- the time by which all executions have to end
   pub deadline : ℤ
   -- the names of the nodes
   pub nodes : List (List ℕ)
+  -- the slots, in the document's order
   pub slots : List RawSlot
+  -- the processes, in the document's order
   pub processes : List RawProcess
+  -- the edges, in the document's order
   pub edges : List RawEdge
   -- the names of the processes in the order that the graph gives, or `None` if it gives none
   pub order : Option (List (List ℕ))
@@ -170,13 +174,17 @@ read_raw ms = do
 
 -- what the keys of the top have: two numbers, the tables of each list, and the names of the order, if it is there
 pub record Tops : Type 0 where
-  -- the two numbers of the top
+  -- the most faults in one cycle
   pub faults : ℤ
+  -- the time by which all executions have to end
   pub deadline : ℤ
-  -- the members of each table of a list, in the document's order
+  -- the members of each node's table, in the document's order
   pub nodes : List Members
+  -- the members of each slot's table, in the document's order
   pub slots : List Members
+  -- the members of each process's table, in the document's order
   pub processes : List Members
+  -- the members of each edge's table, in the document's order
   pub edges : List Members
   -- the names in the order, or `None` if there is no such key
   pub order : Option (List (List ℕ))

@@ -28,7 +28,7 @@ tables members_of xs = array (items_of (map (λ x. table (members_of x)) xs))
 abbrev pub node_members : List ℕ → Members
 node_members name = member (codes "name") (string name) no_members
 
--- the table of a slot
+-- the table of a slot; `nodes` are the names of the nodes, by number
 abbrev pub slot_members : List (List ℕ) → Slot → Members
 slot_members nodes s =
     member (codes "bytes") (number s.bytes)
@@ -48,22 +48,22 @@ process_middle nodes p =
     (member (codes "join") (boolean p.join)
     (member (codes "mu") (number p.mu) (member (codes "name") (string p.name) (process_low nodes p))))
 
--- members after an own deadline, if there is one
+-- the members `ms`, with a deadline of the process's own in front if it has one
 abbrev pub with_deadline : Option ℕ → Members → Members
 with_deadline None ms = ms
 with_deadline (Some d) ms = member (codes "deadline") (number d) ms
 
--- the table of a process
+-- the table of a process; `nodes` are the names of the nodes, by number
 abbrev pub process_members : List (List ℕ) → Process → Members
 process_members nodes p = member (codes "alpha") (number p.alpha)
     (member (codes "chi") (number p.chi) (with_deadline p.deadline (process_middle nodes p)))
 
--- the end of an edge's table: the value with which it is taken, if it has a `when`
+-- the end of an edge's table: the value for which it is live, if it has a `when`
 abbrev pub when_members : Option Bool → Members
 when_members None = no_members
 when_members (Some value) = member (codes "when") (boolean value) no_members
 
--- the table of an edge
+-- the table of an edge between some of these processes
 abbrev pub edge_members : List Process → Edge → Members
 edge_members processes e =
     member (codes "bytes") (number e.size)
@@ -76,7 +76,7 @@ abbrev pub last_members : Graph → Members
 last_members g = member (codes "process") (tables (process_members g.nodes) g.processes)
     (member (codes "slot") (tables (slot_members g.nodes) g.slots) no_members)
 
--- members after the given order, if there is one, as names of processes
+-- the members `ms`, with the order in front, as names of processes, if the graph gives one
 abbrev pub with_order : List Process → Option (List ℕ) → Members → Members
 with_order processes None ms = ms
 with_order processes (Some order) ms =

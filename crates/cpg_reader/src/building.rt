@@ -25,6 +25,7 @@ fn small(number: i64) -> u32
     requires { natural number ≤ 65535 }
     ensures { result ≡ natural number }
 {
+    // at most 65,535, so the cast keeps it
     natural(number) as u32
 }
 
@@ -194,11 +195,14 @@ fn order_of(
     }
 }
 
-/// The parts of a graph in which the document has names and the graph numbers.
+/// Those parts of a graph that have numbers where the document has names.
 #[derive(Drop)]
 struct NumberedParts {
+    /// The slots, each with the number of its node.
     slots: Vec<Slot>,
+    /// The processes, each with the number of its node.
     processes: Vec<Process>,
+    /// The edges, each with the numbers of its two processes.
     edges: Vec<Edge>,
     /// The numbers of the processes in their order, or `None` if the document gives none.
     order: Option<Vec<u32>>,
@@ -293,7 +297,7 @@ fn parts_of(alloc: Global, raw: &RawProblem) -> Result<NumberedParts, ReadFault>
     parts_on(alloc, raw, &nodes)
 }
 
-/// Returns the fault number.
+/// Returns the most faults in one cycle.
 fn faults_of(raw: &RawProblem) -> u8
     requires { limits (raw_view raw.now) ≡ Ok tt }
     ensures { result ≡ natural raw.now.faults }

@@ -12,9 +12,10 @@ use std::marker::Model;
 
 /// An element that has a name, which no other element of its list may have. A slot has that of its node.
 pub trait Named {
+    // the name of the element, as its bytes
     ghost named: { Self → List ℕ };
 
-    /// The name of the element.
+    /// Returns the name of the element.
     fn name(&self) -> &str
         ensures { result.now ≡ named self.now };
 }

@@ -25,26 +25,47 @@ pub enum Table {
 /// A key of the format, or `Unknown` for a key that its table may not have.
 #[derive(Clone, Copy, Debug, PartialEq, Eq)]
 pub enum Key {
+    /// The most faults in one cycle, at the top.
     Faults,
+    /// The deadline of the graph, at the top, or a process's own.
     Deadline,
+    /// The list of the nodes, at the top, or the node of a slot or a process.
     Node,
+    /// The list of the slots, at the top.
     Slot,
+    /// The list of the processes, at the top.
     Process,
+    /// The list of the edges, at the top.
     Edge,
+    /// The order to compile under, at the top.
     Order,
+    /// The name of a node or a process.
     Name,
+    /// The length of a slot.
     Length,
+    /// How many bytes a slot holds, or an edge's message has.
     Bytes,
+    /// The longest time of a process's work alone.
     Wcet,
+    /// Into how many parts an execution is cut.
     Parts,
+    /// The time to detect a fault.
     Alpha,
+    /// The time to save a checkpoint.
     Chi,
+    /// The time to recover from a fault.
     Mu,
+    /// Whether a process is a join.
     Join,
+    /// Whether a start or a message is frozen.
     Frozen,
+    /// The time before which a process doesn't start.
     Release,
+    /// The process that an edge leads away from.
     From,
+    /// The process that an edge leads to.
     To,
+    /// The value for which an edge is live.
     When,
     /// Any key that its table may not have.
     Unknown,

@@ -10,7 +10,7 @@ use cpg_base::{LONGEST, MOST_CONDITIONS, MOST_EDGES, MOST_NODES, MOST_PROCESSES}
 use indexmap::IndexSet;
 use std::alloc::{AllocError, Global};
 
-/// The greatest fault number.
+/// The most faults that a cycle may have.
 const MOST_FAULTS: u64 = cpg_base::MOST_FAULTS as u64;
 /// The most parts of an execution.
 const MOST_PARTS: u64 = cpg_base::MOST_PARTS as u64;
@@ -34,6 +34,7 @@ pub struct BoundedField {
 pub trait Numbered {
     ghost use Rattle.cpg_reader.specs.declared.ranges.BoundedField.{BoundedField as BoundedNumber};
 
+    // its numbers with their ranges, in the order in which they are tested
     ghost numbers: { Self → List BoundedNumber };
 
     /// Refuses the element if one of its numbers is out of range. `table` and `index` say where the element stands.

@@ -12,6 +12,7 @@ use std::alloc::Global;
 
 /// An element of one of the lists of a document.
 pub trait Element {
+    // what is read of a table: the element, or why it is refused
     ghost reads: { RowOfDocument → Reading Self };
 
     /// Returns the element that a table says. A bad field is refused; the other error is that memory runs out.
@@ -66,7 +67,7 @@ pub struct RawEdge {
     pub to: Name,
     /// The size of its message in bytes; 1 by default.
     pub bytes: i64,
-    /// The value of the source's condition for which it is live; `None` if the edge has no condition.
+    /// The value of the source's condition for which it is live; `None` if it has no `when`.
     pub when: Option<bool>,
     /// Whether its message is sent at one time in all scenarios in which it is live.
     pub frozen: bool,
@@ -81,8 +82,11 @@ pub struct RawProblem {
     pub deadline: i64,
     /// The names of the nodes.
     pub nodes: Vec<Name>,
+    /// The slots, in the document's order.
     pub slots: Vec<RawSlot>,
+    /// The processes, in the document's order.
     pub processes: Vec<RawProcess>,
+    /// The edges, in the document's order.
     pub edges: Vec<RawEdge>,
     /// The names of the processes in the order that the document gives, or `None` if it gives none.
     pub order: Option<Vec<Name>>,
@@ -119,14 +123,23 @@ impl Element for RawSlot {
 /// The fields of a `RawProcess` besides its two names.
 #[derive(Clone, Copy)]
 struct RawWork {
+    /// The longest time of its work alone.
     wcet: i64,
+    /// Into how many parts an execution is cut.
     parts: i64,
+    /// The time to detect a fault, in each part.
     alpha: i64,
+    /// The time to save a checkpoint, in each part.
     chi: i64,
+    /// The time to recover from a fault.
     mu: i64,
+    /// Whether it is a join.
     join: bool,
+    /// Whether its start is frozen.
     frozen: bool,
+    /// The time before which it doesn't start.
     release: i64,
+    /// The deadline of its own, or `None` if it has none.
     deadline: Option<i64>,
 }
 
@@ -199,8 +212,11 @@ impl Element for RawProcess {
 /// The fields of a `RawEdge` besides its two names.
 #[derive(Clone, Copy)]
 struct RawLink {
+    /// The size of its message in bytes.
     bytes: i64,
+    /// The value for which it is live, or `None` if it has no `when`.
     when: Option<bool>,
+    /// Whether its message is frozen.
     frozen: bool,
 }
 
@@ -239,7 +255,7 @@ impl Element for RawEdge {
     }
 }
 
-/// Returns the elements that the tables of a list say, in order. An error is the first bad field, or that memory runs
+/// Returns the elements that the tables of one of the lists say, in their order. An error is the first bad field, or that memory runs
 /// out.
 fn rows<T: Element + Drop>(
     alloc: Global,
@@ -263,12 +279,19 @@ fn rows<T: Element + Drop>(
 /// What the keys of the top have: the numbers, the tables of each list, and the names of the order, if it is there.
 #[derive(Drop)]
 struct Tops<'a> {
+    /// The most faults in one cycle.
     faults: i64,
+    /// By when every execution has to have ended.
     deadline: i64,
+    /// The table of each node.
     nodes: Vec<&'a toml::Table>,
+    /// The table of each slot.
     slots: Vec<&'a toml::Table>,
+    /// The table of each process.
     processes: Vec<&'a toml::Table>,
+    /// The table of each edge.
     edges: Vec<&'a toml::Table>,
+    /// The names of the processes in the order, or `None` if there is no such key.
     order: Option<Vec<Name>>,
 }
 

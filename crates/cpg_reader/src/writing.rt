@@ -127,7 +127,7 @@ fn document(alloc: Global, problem: &Problem) -> Result<Table, OutOfMemory>
 pub fn graph_text(alloc: Global, problem: &Problem) -> Result<String, OutOfMemory>
     ensures { IfOk result (λ text. problem_of (string_bytes text) ≡ Ok problem.now) }
 {
-    // called for its contract: the graph is within its limits
+    // asked only for its clause that the graph is within its limits: a graph file can say such a graph
     let _faults = problem.faults();
     let table = document(alloc, problem)?;
     match toml::table_to_string(alloc, &table) {

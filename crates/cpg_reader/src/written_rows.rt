@@ -77,7 +77,7 @@ pub fn process_table(alloc: Global, process: &Process, nodes: &[Name]) -> Result
     with_number(alloc, table, "alpha", process.alpha)
 }
 
-/// Returns a table with the value with which an edge is taken, or an empty one if the edge has no `when`.
+/// Returns a table with the value for which an edge is live, or an empty one if the edge has no `when`.
 fn when_table(alloc: Global, when: Option<bool>) -> Result<Table, OutOfMemory>
     ensures { IfOk result (λ t. table_view t ≡ when_members when) }
 {

@@ -1,4 +1,5 @@
--- Why a run halts, by the fault that a layer answers with. Each fault but out of memory becomes a refusal.
+-- Why a run halts, by the fault that a layer answers with. Out of memory becomes `Memory`, words that form no command
+-- become `Words`, and every other fault becomes a refusal.
 use Rattle.cpg_base.specs.Graph.{Graph}
 use Rattle.cpg_words.specs.declared.fault.WordsFault.{WordsFault}
 use Rattle.cpg_reader.specs.declared.place.ReadFault.{ReadFault}
@@ -46,7 +47,7 @@ halt_of_rules g (RuleFault.TooBig e) = Refused (TooBig e)
 halt_of_rules g (RuleFault.BadOrder p) = Refused (BadOrder g p)
 halt_of_rules g RuleFault.OutOfMemory = Memory
 
--- why a run halts whose parts have no graph of several periods together: the refusal keeps the fault
+-- why a run halts whose parts have no graph of several periods together: a refusal keeps the fault
 abbrev pub halt_of_parts : HyperFault → Halt
 halt_of_parts (HyperFault.Range p) = Refused (NoHypergraph (HyperFault.Range p))
 halt_of_parts (HyperFault.Differ p) = Refused (NoHypergraph (HyperFault.Differ p))

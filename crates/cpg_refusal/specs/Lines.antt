@@ -95,8 +95,8 @@ part_text HeadPart.Nodes = codes "nodes"
 part_text HeadPart.Processes = codes "processes"
 part_text HeadPart.Edges = codes "edges"
 
--- why the parts of a graph of several periods have no graph together; p is the number of the part, if the cause is one. No
--- refusal has the fault out of memory, which is a halt of its own.
+-- why the parts of a graph of several periods have no graph together, with the number `p` of the part if the cause is
+-- one. No refusal has the fault out of memory, which is a halt of its own.
 abbrev pub parts_text : HyperFault → List ℕ
 parts_text (HyperFault.Range p) = codes "range " ++ decimal p
 parts_text (HyperFault.Differ p) = codes "differ " ++ decimal p
@@ -136,7 +136,7 @@ refusal_text (BadOrder g p) = codes "24 order " ++ name_of g p
 abbrev pub refused_text : Refusal → List ℕ
 refused_text refusal = codes "refused " ++ refusal_text refusal
 
--- that the process p ends past its due in the scenario s, at this time
+-- that process `p` ends past its due in scenario `s`, at this time
 abbrev pub late_text : Graph → Scenario → ℕ → ℕ → List ℕ
 late_text g s p time = codes "late " ++ decimal time ++ codes " by " ++ case_text g p s
 
@@ -149,13 +149,13 @@ abbrev pub column_text : Option ℕ → List ℕ
 column_text None = codes "-"
 column_text (Some column) = decimal column
 
--- a violation of a rule by its number: the item and its column, and the scenario
+-- a violation: the number of the rule, the item, its column, and the scenario
 abbrev pub unsafe_text : Graph → Fault → List ℕ
 unsafe_text g f =
     codes "unsafe V" ++ decimal f.rule ++ codes " " ++ item_text g f.item ++ codes " column " ++ column_text f.column
     ++ codes " in " ++ scenario_text g f.scenario
 
--- why a run halts, in words
+-- why a run halts, in words, without the start and the end of the line
 abbrev pub reason_text : Halt → List ℕ
 reason_text Words = codes "words"
 reason_text Read = codes "read fault"

@@ -137,7 +137,7 @@ impl Halt {
         }
     }
 
-    /// Returns why a run halts whose graph file can't be read.
+    /// Returns why a run halts whose graph file can't be read: memory ran out, or the file is refused.
     pub fn of_reading(fault: ReadFault) -> Halt
         ensures { result ≡ halt_of_reading fault }
     {
@@ -151,7 +151,7 @@ impl Halt {
         }
     }
 
-    /// Returns why a run halts whose pack can't be read.
+    /// Returns why a run halts whose pack can't be read: memory ran out, or the file is refused.
     pub fn of_pack(fault: PackFault) -> Halt
         ensures { result ≡ halt_of_pack fault }
     {
@@ -161,7 +161,7 @@ impl Halt {
         }
     }
 
-    /// Returns why a run halts whose scenario file can't be read.
+    /// Returns why a run halts whose scenario file can't be read: memory ran out, or the file is refused.
     pub fn of_scenario(fault: ScenarioFault) -> Halt
         ensures { result ≡ halt_of_scenario fault }
     {
@@ -171,7 +171,7 @@ impl Halt {
         }
     }
 
-    /// Returns why a run halts whose graph isn't admitted.
+    /// Returns why a run halts whose graph isn't admitted: memory ran out, or the graph is refused.
     pub fn of_rules(refused: Refused) -> Halt
         ensures { result ≡ halt_of_rules refused.problem refused.fault }
     {
@@ -196,7 +196,7 @@ impl Halt {
         }
     }
 
-    /// Returns why a run halts whose parts have no graph together.
+    /// Returns why a run halts whose parts have no graph together: memory ran out, or the parts are refused.
     pub fn of_parts(fault: HyperFault) -> Halt
         ensures { result ≡ halt_of_parts fault }
     {

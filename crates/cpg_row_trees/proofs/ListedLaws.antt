@@ -1,4 +1,5 @@
--- A tree over cubes that were read off it leads each scenario to the cube that it matches.
+-- A tree over cubes that were read off it leads each scenario to the cube that it matches. In the lemmas s is a
+-- scenario, k the most faults, and ls are literals.
 use Rattle.std.proofs.Common.{arith, ℕ, ◌+◌, ◌<◌, ◌≤◌, ◌≡◌, true, List, get_or, length, take, sum_by}
 use Rattle.std.proofs.Common.{Option, Some, refl, sym, ap, ◌∙◌, subst}
 use Rattle.std.specs.Prelude.{IfSome}
@@ -97,7 +98,7 @@ module _ (k : ℕ) (space side : Space) (v cut : ℕ) (there : v < 256) (ranges 
   above_low = low_in_range k space v cut (sum_by (narrowed k space) (numbers_below 256))
       ((sum_by (narrowed k space) (numbers_below 256)) + 1) there reached open_ more
 
-  -- the side below the cut has all scenarios of the space that are up to the cut
+  -- given: the side below the cut has all scenarios of the space that are up to the cut
   module _ (long : length space.high ≡ 256) (is : side ≡ below_cut space v cut)
       (goes : (s : Scenario) → IsInSpace space s → number_of s v ≤ cut → IsInSpace side s) where
     -- the ranges alone say which scenarios are in the space below the cut
@@ -127,7 +128,7 @@ module _ (k : ℕ) (space side : Space) (v cut : ℕ) (there : v < 256) (ranges 
           goes s (own.come s few all (omega (arith, low, low_as_before)) (omega (arith, inside, below_high))) inside;
     }
 
-  -- the side above the cut has all scenarios of the space that are above the cut
+  -- given: the side above the cut has all scenarios of the space that are above the cut
   module _ (long : length space.low ≡ 256) (is : side ≡ above_cut space v cut)
       (goes : (s : Scenario) → IsInSpace space s → cut < number_of s v → IsInSpace side s) where
     -- the ranges alone say which scenarios are in the space above the cut
@@ -157,7 +158,7 @@ module _ (k : ℕ) (space side : Space) (v cut : ℕ) (there : v < 256) (ranges 
           goes s (own.come s few all (omega (arith, past, above_low)) (omega (arith, high, high_as_before))) past;
     }
 
--- a space whose ranges alone say which scenarios are in it, and its two sides at an open cut
+-- given: a space whose ranges alone say which scenarios are in it, and its two sides at an open cut
 -- `is_under`, `is_over`: the sides are the space below and above the cut. `goes_under`, `goes_over`: each scenario of
 -- the space is in one of them.
 module _ (cubes : List (List Literal)) (k : ℕ) (space under over : Space) (from border to v cut : ℕ) (there : v < 256)

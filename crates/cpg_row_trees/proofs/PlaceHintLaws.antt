@@ -23,6 +23,7 @@ use Rattle.cpg_row_trees.specs.Places.{IsMatched, HoldsInSpace, cube_at, IsPlace
 use Rattle.cpg_row_trees.specs.PlaceHints.{IsVariableRange, IsImpliedBy, AddsPlaceTree, KeepsWhere, IsMatchAmong}
 use Rattle.cpg_row_trees.specs.PlaceHints.{KeepsPlace, places_of}
 
+-- given: which scenarios fit a place
 module _ (fits : Scenario → Type 0) (place : ℕ) where
   -- if no scenario fits, a place is kept without being added
   pub kept_out : (hints : List PlaceHint) → ((s : Scenario) → fits s → ⊥) → KeepsPlace fits place hints hints
@@ -42,10 +43,10 @@ module _ (fits : Scenario → Type 0) (place : ℕ) where
       }
 
   -- what is kept for some scenarios is kept for fewer
-  pub kept_for : (fewer : Scenario → Type 0) (before now : List PlaceHint) → ((s : Scenario) → fewer s → fits s) →
-      KeepsPlace fits place before now →
-      KeepsPlace fewer place before now
-  kept_for fewer before now come kept = record { earlier = kept.earlier; this = λ s h. kept.this s (come s h) }
+  pub kept_for : (fewer : Scenario → Type 0) (old new : List PlaceHint) → ((s : Scenario) → fewer s → fits s) →
+      KeepsPlace fits place old new →
+      KeepsPlace fewer place old new
+  kept_for fewer old new come kept = record { earlier = kept.earlier; this = λ s h. kept.this s (come s h) }
 
 -- the places of one hint more are those before and its own
 places_more : (hints : List PlaceHint) (k : ℕ) (d : PlaceHint) → k < length hints →
@@ -53,30 +54,31 @@ places_more : (hints : List PlaceHint) (k : ℕ) (d : PlaceHint) → k < length 
 places_more hints k d within =
     ap places_of (take_more hints k d within) ∙ map_push (λ (e : PlaceHint). e.place) (take k hints) (get_or hints k d)
 
+-- given: cubes, and which scenarios fit
 module _ (cubes : List (List Literal)) (fits : Scenario → Type 0) where
   -- of no places, all are kept
   pub keeps_none : (kept : List ℕ) → KeepsWhere cubes fits [] kept
   keeps_none kept s i lies c m = absurd (Contains-nil i c)
 
   -- with one place more that is kept, all of one place more are kept
-  pub keeps_one : (place : ℕ) (places : List ℕ) (before now : List PlaceHint) →
-      KeepsPlace (λ s. fits s × IsMatched cubes s place) place before now →
-      KeepsWhere cubes fits places (places_of before) → KeepsWhere cubes fits (places ++ place ∷ []) (places_of now)
-  keeps_one place places before now kept h s i lies c m = ⊎_elim
+  pub keeps_one : (place : ℕ) (places : List ℕ) (old new : List PlaceHint) →
+      KeepsPlace (λ s. fits s × IsMatched cubes s place) place old new →
+      KeepsWhere cubes fits places (places_of old) → KeepsWhere cubes fits (places ++ place ∷ []) (places_of new)
+  keeps_one place places old new kept h s i lies c m = ⊎_elim
       -- an earlier place, or the new one
       (λ (b : Contains places i). kept.earlier i (h s i lies b m))
       (λ (q : place ≡ i).
-      subst (λ j. Contains (places_of now) j) q (kept.this s (lies, subst (λ j. IsMatched cubes s j) (sym q) m)))
+      subst (λ j. Contains (places_of new) j) q (kept.this s (lies, subst (λ j. IsMatched cubes s j) (sym q) m)))
       (Contains-push_cases places place i c)
 
   -- with the next hint's place kept, the places of one hint more are kept
-  pub keeps_more : (hints before now : List PlaceHint) (k : ℕ) (d : PlaceHint) → k < length hints
-      → KeepsPlace (λ s. fits s × IsMatched cubes s (get_or hints k d).place) (get_or hints k d).place before now →
-      KeepsWhere cubes fits (places_of (take k hints)) (places_of before) →
-      KeepsWhere cubes fits (places_of (take (k + 1) hints)) (places_of now)
-  keeps_more hints before now k d within kept h =
-      subst (λ (xs : List ℕ). KeepsWhere cubes fits xs (places_of now)) (sym (places_more hints k d within))
-      (keeps_one (get_or hints k d).place (places_of (take k hints)) before now kept h)
+  pub keeps_more : (hints old new : List PlaceHint) (k : ℕ) (d : PlaceHint) → k < length hints
+      → KeepsPlace (λ s. fits s × IsMatched cubes s (get_or hints k d).place) (get_or hints k d).place old new →
+      KeepsWhere cubes fits (places_of (take k hints)) (places_of old) →
+      KeepsWhere cubes fits (places_of (take (k + 1) hints)) (places_of new)
+  keeps_more hints old new k d within kept h =
+      subst (λ (xs : List ℕ). KeepsWhere cubes fits xs (places_of new)) (sym (places_more hints k d within))
+      (keeps_one (get_or hints k d).place (places_of (take k hints)) old new kept h)
 
 -- the range of a literal that holds wherever some literals match is a range of its variable by these
 pub range_implied : (literals : List Literal) (l : Literal) (v : ℕ) (first : Bool) → l.variable ≡ v →
@@ -96,7 +98,7 @@ module _ (cubes : List (List Literal)) (fits : Scenario → Type 0) (places kept
   widen_place None h = λ j c m. h j (keeps s j lies c m) m
   widen_place (Some i) h = record { is = h.is; only = λ j c m. h.only j (keeps s j lies c m) m }
 
--- a fork whose sides have the matches among the places that are kept there
+-- given: a fork whose sides have the matches among the places that are kept there
 -- `fork`: r is the fork of the two trees. `keeps_below`, `keeps_above`: each side keeps the places that matter there.
 -- `of_one`, `of_two`: the trees have the matches of each side. `goes_one`, `goes_two`: each scenario is on one side.
 module _ (cubes : List (List Literal)) (space one two : Space) (places low high : List ℕ) (v cut : ℕ)
@@ -128,7 +130,7 @@ pub place_tree_leaf : (cubes : List (List Literal)) (space : Space) (places : Li
 place_tree_leaf cubes space places x old new found added fewer =
     record { found = (Leaf x, added, found); fewer = fewer }
 
--- a fork whose sides have trees of the places kept there, added one after the other
+-- given: a fork whose sides have trees of the places kept there, added one after the other
 -- `forks`, `as_full`: the last step puts a fork before the two trees. `kept`, `less`: `rest` has the items of `old`.
 -- `first`, `second`: where the trees begin. `keeps_below`, `keeps_above`: each side keeps the places that matter.
 -- `of_one`, `of_two`: the trees are added. `goes_one`, `goes_two`: each scenario is on one side.

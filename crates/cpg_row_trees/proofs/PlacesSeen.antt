@@ -31,6 +31,7 @@ is_no_leaf : (x : Option ℕ) → IsThere (Value x) → x ≡ None → ⊥
 is_no_leaf None h e = h
 is_no_leaf (Some i) h e = cc
 
+-- given: a fact P of elements
 module _ {X : Type 0} (P : X → Type 0) where
   -- what holds of all of two lists holds of the first
   in_front : (xs ys : List X) → All P (xs ++ ys) → All P xs

@@ -1,4 +1,5 @@
--- A tree over slices leads each scenario to the cube that it matches.
+-- A tree over slices leads each scenario to the cube that it matches. In the lemmas s is a scenario, v a variable, k
+-- the most faults, l a literal, and ls are literals.
 use Rattle.std.proofs.Common.{arith, cond, zero, suc, [], ◌∷◌, ◌++◌, max, min, ℕ, ◌+◌, ◌-◌, ◌<◌, ◌≤◌, ◌≡◌, ◌==◌, Bool}
 use Rattle.std.proofs.Common.{true, false, ◌&&◌, ◌||◌, nat_lt, List, get_or, length, take, Contains, sum_by}
 use Rattle.std.proofs.Common.{Option, None, Some, refl, sym, ap, ◌∙◌, subst, ⊎_elim, inl, inr, lt-ltb, le-ltb, eq-eqb}
@@ -42,6 +43,7 @@ use Rattle.cpg_tree.proofs.Demands.{weights_le, without, without_here, without_o
 
 -- given: a cut of one of the 256 variables in a space, and a scenario
 module _ (space : Space) (v cut : ℕ) (there : v < 256) (s : Scenario) where
+  -- given: s is in the ranges of the side below the cut
   module _ (long : length space.high ≡ 256) (in_side : IsInRanges (below_cut space v cut) s) where
     -- on the side below the cut, the number of the variable is at most the cut
     pub number_below : number_of s v ≤ cut
@@ -58,6 +60,7 @@ module _ (space : Space) (v cut : ℕ) (there : v < 256) (s : Scenario) where
       ];
     }
 
+  -- given: s is in the ranges of the side above the cut
   module _ (long : length space.low ≡ 256) (in_side : IsInRanges (above_cut space v cut) s) where
     -- on the side above the cut, the number of the variable is greater than the cut
     pub number_above : cut < number_of s v
@@ -100,8 +103,9 @@ narrowed_le k space v = step (nat_lt v 256 && is_narrow k space v)
     step true = omega arith
     step false = omega arith
 
--- a space that forks lead to, and a cut that is open on both sides
--- `reached`: the ranges alone say which scenarios are in the space, and at most `narrow` of them are narrower than at first.
+-- given: a space that forks lead to, and a cut that is open on both sides
+-- `reached`: the ranges alone say which scenarios are in the space, and at most `narrow` of them are
+-- narrower than in all scenarios of at most k faults.
 -- `more`: n counts the variable v as well.
 module _ (k : ℕ) (space : Space) (v cut narrow n : ℕ) (there : v < 256) (reached : IsForkSpace k space narrow)
     (open_ : IsOpenCut space v cut) (more : narrow + 1 ≤ n + narrowed k space v) where
@@ -120,7 +124,7 @@ module _ (k : ℕ) (space : Space) (v cut narrow n : ℕ) (there : v < 256) (rea
   pub low_in_range : get_or space.low v 0 ≤ cut
   low_in_range = leb-true (get_or space.low v 0) cut open_.below
 
-  -- the side below the cut has all scenarios of the space that are up to the cut
+  -- given: the side below the cut has all scenarios of the space that are up to the cut
   module _ (long : length space.high ≡ 256)
       (goes : (s : Scenario) → IsInSpace space s → number_of s v ≤ cut → IsInSpace (below_cut space v cut) s) where
     -- the scenarios of the side below the cut are those of the space
@@ -139,7 +143,7 @@ module _ (k : ℕ) (space : Space) (v cut narrow n : ℕ) (there : v < 256) (rea
           (set_other space.high v cut u d));
     }
 
-  -- the side above the cut has all scenarios of the space that are above the cut
+  -- given: the side above the cut has all scenarios of the space that are above the cut
   module _ (long : length space.low ≡ 256)
       (goes : (s : Scenario) → IsInSpace space s → cut < number_of s v → IsInSpace (above_cut space v cut) s) where
     -- the scenarios of the side above the cut are those of the space
@@ -188,7 +192,7 @@ whole_reached k space whole lies = record {
 
 -- ---- as many literals on narrow variables as there are such variables: none is without
 
--- a space that forks lead to, and literals that are on as many of its narrow variables as it has
+-- given: a space that forks lead to, and literals that are on as many of its narrow variables as it has
 -- `bounds`: the literals hold in the space and go no further than it; `found` of them are on narrow variables.
 module _ (k : ℕ) (space : Space) (ls : List Literal) (narrow found : ℕ) (rising : IsRising ls)
     (reached : IsForkSpace k space narrow) (bounds : AreSpaceBounds k space ls found)
@@ -229,6 +233,7 @@ module _ (k : ℕ) (space : Space) (ls : List Literal) (narrow found : ℕ) (ris
       step false e = absurd (none_without v there on (λ l c is. both_ways (l.variable == v)
           (from_any_false (λ (m : Literal). m.variable == v) ls l e c) (eq-eqb l.variable v is)))
 
+  -- given: a scenario s of at most k faults that matches the literals
   module _ (s : Scenario) (few : HasAtMostFaults k s) (all : matches ls s ≡ true) where
     -- at a literal's variable the scenario's number is in the space
     at_literal : (v : ℕ) (l : Literal) → Contains ls l → l.variable ≡ v →
@@ -263,7 +268,7 @@ module _ (k : ℕ) (space : Space) (ls : List Literal) (narrow found : ℕ) (ris
   pub own : IsOwn k space ls
   own = record { hold = λ s few lies. bounds.hold s lies; come = comes_here }
 
--- literals that bound a space up to a place
+-- given: literals that bound a space up to a place
 -- `before`: the first i literals are bounds of the space, and `found` counts those on narrow variables.
 module _ (k : ℕ) (space : Space) (ls : List Literal) (i found : ℕ) (d : Literal) (there : i < length ls)
     (before : AreSpaceBounds k space (take i ls) found) where
@@ -297,7 +302,7 @@ finds_nowhere cubes k space from to none = record {
 some_is : (i j : ℕ) → Some i ≡ Some j → i ≡ j
 some_is i j e = cc
 
--- a slice of one cube at most, whose scenarios are those of the space
+-- given: a slice of one cube at most, whose scenarios are those of the space
 -- `one`: the slice has at most the cube at `from`. `is_own`: the literals of this cube say which scenarios are in the space.
 module _ (cubes : List (List Literal)) (k : ℕ) (space : Space) (from to : ℕ) (there : from < length cubes)
     (one : to ≤ from + 1) (is_own : IsOwn k space (cube_at cubes from)) where
@@ -317,7 +322,7 @@ module _ (cubes : List (List Literal)) (k : ℕ) (space : Space) (from to : ℕ)
 
 -- ---- a fork
 
--- a fork whose sides lead to the matches of two slices that meet at a border
+-- given: a fork whose sides lead to the matches of two slices that meet at a border
 -- `fork`: r is the fork of the two trees at the cut. `low`, `high`: each tree leads to the matches of its slice.
 -- `goes_one`, `goes_two`: each scenario of the space is on one side. `back_one`, `back_two`: and each of a side is
 -- in the space. `at_most`, `at_least`: the sides are apart by the cut.
@@ -349,9 +354,9 @@ module _ (cubes : List (List Literal)) (k : ℕ) (space one two : Space) (from b
     ];
   }
 
--- a fork of a space that forks lead to
+-- given: a fork of a space that forks lead to
 module _ (k : ℕ) (space side : Space) (v cut narrow n : ℕ) (there : v < 256) where
-  -- the side below an open cut, by the ranges and by the scenarios of the space
+  -- given: the side below an open cut, by the ranges and by the scenarios of the space
   module _ (long : length space.high ≡ 256) (reached : IsForkSpace k space narrow) (open_ : IsOpenCut space v cut)
       (more : narrow + 1 ≤ n + narrowed k space v) (is : side ≡ below_cut space v cut)
       (goes : (s : Scenario) → IsInSpace space s → number_of s v ≤ cut → IsInSpace side s) where
@@ -374,7 +379,7 @@ module _ (k : ℕ) (space side : Space) (v cut narrow n : ℕ) (there : v < 256)
     under_cut s lies = number_below space v cut there s long
         (in_range (below_cut space v cut) s (subst (λ (r : Space). IsInSpace r s) is lies))
 
-  -- the side above an open cut, by the ranges and by the scenarios of the space
+  -- given: the side above an open cut, by the ranges and by the scenarios of the space
   module _ (long : length space.low ≡ 256) (reached : IsForkSpace k space narrow) (open_ : IsOpenCut space v cut)
       (more : narrow + 1 ≤ n + narrowed k space v) (is : side ≡ above_cut space v cut)
       (goes : (s : Scenario) → IsInSpace space s → cut < number_of s v → IsInSpace side s) where
@@ -397,7 +402,7 @@ module _ (k : ℕ) (space side : Space) (v cut narrow n : ℕ) (there : v < 256)
     over_cut s lies = number_above space v cut there s long
         (in_range (above_cut space v cut) s (subst (λ (r : Space). IsInSpace r s) is lies))
 
--- a space that forks lead to, and its two sides at an open cut `reached`, `more`: the ranges say which scenarios are in
+-- given: a space that forks lead to, and its two sides at an open cut. `reached`, `more`: the ranges say which scenarios are in
 -- the space, and n counts the variable v as well. `open_`: the cut has numbers on both sides. `is_under`, `is_over`:
 -- these are the sides. `goes_under`, `goes_over`: each scenario is in one of them.
 module _ (cubes : List (List Literal)) (k : ℕ) (space under over : Space) (from border to v cut narrow n : ℕ)
@@ -468,6 +473,7 @@ met_parts : (n a b c d : ℕ) →
     (nat_le (max a c) n && nat_le n (min b d)) ≡ ((nat_le a n && nat_le n b) && (nat_le c n && nat_le n d))
 met_parts n a b c d = grind (arith, nat_tests)
 
+-- given: a scenario s, and a literal l
 module _ (s : Scenario) (l : Literal) where
   -- with a literal put last, literals match exactly if they did and it holds
   pub matches_push : (ls : List Literal) → matches (ls ++ l ∷ []) s ≡ (matches ls s && holds s l)
@@ -532,7 +538,7 @@ entered_last ls new l m last is = subst (λ (xs : List Literal). IsEntered ls l 
   some = omega (arith, as_long ls (length ls - 1) (met_by m l), last.some);
 })
 
--- a side of a fork
+-- given: a side of a fork
 -- `reached`, `more`: the ranges say which scenarios are in the space, and n counts the variable v as well. `is_own`: the path
 -- `old` says which scenarios are in the space.
 module _ (k : ℕ) (space side : Space) (v cut narrow n : ℕ) (there : v < 256) (reached : IsForkSpace k space narrow)
@@ -588,16 +594,19 @@ whole_own k space lies = record { hold = λ s few in_space. refl; come = λ s fe
 
 -- ---- a side that was closed and is put back
 
-module _ (space closed after now : Space) (v : ℕ) (same : after ≡ closed) where
+-- given: a space, that space with a side closed, what a walk of the side left, which is the same, and the space
+-- reopened
+module _ (space closed walked reopened : Space) (v : ℕ) (same : walked ≡ closed) where
   -- reopening the side above after the side below was done gives back the space
-  pub above_again : (high : ℕ) → now ≡ below_cut after v high → below_cut closed v high ≡ space → now ≡ space
+  pub above_again : (high : ℕ) → reopened ≡ below_cut walked v high → below_cut closed v high ≡ space → reopened ≡ space
   above_again high is back = is ∙ ap (λ (r : Space). below_cut r v high) same ∙ back
 
   -- reopening the side below after the side above was done gives back the space
-  pub below_again : (was : Lifted) → now ≡ reopened_below after v was → reopened_below closed v was ≡ space →
-      now ≡ space
+  pub below_again : (was : Lifted) → reopened ≡ reopened_below walked v was → reopened_below closed v was ≡ space →
+      reopened ≡ space
   below_again was is back = is ∙ ap (λ (r : Space). reopened_below r v was) same ∙ back
 
+-- given: a space, the same space given back, and the side above the cut
 module _ (space again over : Space) (v cut : ℕ) (back : again ≡ space) where
   -- the side above the cut of a space that was given back is that of the space
   pub over_again : over ≡ above_cut again v cut → over ≡ above_cut space v cut
@@ -611,7 +620,7 @@ module _ (space again over : Space) (v cut : ℕ) (back : again ≡ space) where
 
 -- ---- all cubes
 
--- a scenario of the space, and a slice that has all cubes
+-- given: a scenario of the space, and a slice that has all cubes
 -- `few`, `lies`: s has at most k faults and is in the space. `all`: the slice reaches to the last cube.
 module _ (cubes : List (List Literal)) (k : ℕ) (space : Space) (s : Scenario) (few : HasAtMostFaults k s)
     (lies : IsInSpace space s) (to : ℕ) (all : length cubes ≤ to) where

@@ -62,7 +62,7 @@ module _ (columns : List Column) (s : Scenario) (i : ℕ) where
   pub matches_at : IsMatched (cubes_in columns) s i → matches (column_at columns i).cube s ≡ true
   matches_at h = sym (ap (λ c. matches c s) (cube_here (there_at h))) ∙ h.matched
 
--- the tree of a row, and a scenario of the graph
+-- given: the tree of a row, and a scenario of the graph
 module _ {g : Graph} {columns : List Column} {tree : PlacesState} (is : IsRowTree g columns tree) (s : Scenario)
     (law : IsScenario g s) where
   -- what the tree finds is the place of a match
@@ -74,7 +74,7 @@ module _ {g : Graph} {columns : List Column} {tree : PlacesState} (is : IsRowTre
   none_matches e d c m = found_as None e c.0 (matched_at columns s c.0 c.1 (ap (λ (d : Column). matches d.cube s)
       (get_or_default columns c.0 (record { time = 0; cube = [] }) d c.1 ∙ c.2) ∙ m))
 
-  -- the place is one of the row's, and its column matches
+  -- the place is one of the row's
   pub place_there : (i : ℕ) → place_at tree s ≡ Some i → i < length columns
   place_there i e = there_at columns s i (found_as (Some i) e).0
 
@@ -106,7 +106,7 @@ module _ {g : Graph} {columns : List Column} {tree : PlacesState} (is : IsRowTre
       sym at_c ∙ ap (column_at columns) (one_place k.0 l.0 k.1 l.1 (ap (λ (x : Column). matches x.cube s) at_c ∙ m)
       (ap (λ (x : Column). matches x.cube s) at_d ∙ n)) ∙ at_d
 
--- the tree of a row, and a column that matches a scenario of the graph
+-- given: the tree of a row, and a column that matches a scenario of the graph
 module _ {g : Graph} {columns : List Column} {tree : PlacesState} (is : IsRowTree g columns tree) (s : Scenario)
     (law : IsScenario g s) (i : ℕ) (there : i < length columns)
     (m : matches (column_at columns i).cube s ≡ true) where

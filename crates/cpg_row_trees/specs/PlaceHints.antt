@@ -36,10 +36,10 @@ abbrev pub KeepsWhere : List (List Literal) → (Scenario → Type 0) → List �
 KeepsWhere cubes fits places kept =
     (s : Scenario) (i : ℕ) → fits s → Contains places i → IsMatched cubes s i → Contains kept i
 
--- the list now has the place, if some scenario fits, and all places that it had before
-pub record KeepsPlace (fits : Scenario → Type 0) (place : ℕ) (before now : List PlaceHint) : Type 0 where
-  pub earlier : (i : ℕ) → Contains (places_of before) i → Contains (places_of now) i
-  pub this : (s : Scenario) → fits s → Contains (places_of now) place
+-- the new list has the place if some scenario fits, and all places of the old one
+pub record KeepsPlace (fits : Scenario → Type 0) (place : ℕ) (old new : List PlaceHint) : Type 0 where
+  pub earlier : (i : ℕ) → Contains (places_of old) i → Contains (places_of new) i
+  pub this : (s : Scenario) → fits s → Contains (places_of new) place
 
 -- where the literals match, the number of v is in the range; a high of 255, the greatest byte, is no bound
 pub record IsVariableRange (literals : List Literal) (v : ℕ) (range : VariableRange) : Type 0 where
@@ -58,7 +58,8 @@ IsPlacesTop cubes space places (Leaf x) = (s : Scenario) → IsInSpace space s �
 IsPlacesTop cubes space places (Fork c) = IsOpenCut space c.variable c.most
 IsPlacesTop cubes space places Unknown = Unit {0}
 
--- a tree is added that has the match among the places in each scenario of the space; no more items may be added than before
+-- A tree is added that in each scenario of the space has the match among the places; `left`, what the tree may still cost,
+-- doesn't grow.
 pub record AddsPlaceTree (cubes : List (List Literal)) (space : Space) (places : List ℕ)
     (old new : TreeGrowth) : Type 0 where
   pub found : AddsTree (HoldsInSpace (IsMatchAmong cubes places) space) old.items.items new.items.items

@@ -35,7 +35,7 @@ narrowed k space v = if nat_lt v 256 && is_narrow k space v then 1 else 0
 pub record IsForkSpace (k : ℕ) (space : Space) (narrow : ℕ) : Type 0 where
   -- a scenario of at most k faults is in the space if its numbers are in range
   pub by_ranges : (s : Scenario) → HasAtMostFaults k s → IsInRanges space s → IsInSpace space s
-  -- at most `narrow` variables have a narrower range than at first
+  -- at most `narrow` variables have a narrower range than in all scenarios of at most k faults
   pub few : sum_by (narrowed k space) (numbers_below 256) ≤ narrow
 
 -- all numbers of a literal's range are in the space's range of its variable

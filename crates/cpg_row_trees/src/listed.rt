@@ -15,7 +15,7 @@ use crate::places::{PlaceCut, Places, TreeGrowth};
 use crate::slices::are_same_literals;
 use cpg_base::{FIRST_VALUE, OutOfMemory};
 use cpg_cube::{Cube, Literal};
-use cpg_tree::{Space, fork_of};
+use cpg_tree::{Space, plain_fork};
 use std::alloc::Global;
 
 /// Where a cube parts a space.
@@ -241,7 +241,7 @@ fn build_listed_fork(
     };
     space.reopen_below(cut.variable, old_low);
     // the lists of both sides stand one behind the other, and the fork comes behind them
-    fork_of(&mut growth.items, start, middle, cut.variable, cut.most)?;
+    plain_fork(&mut growth.items, start, middle, cut.variable, cut.most)?;
     Ok(Some(to))
 }
 

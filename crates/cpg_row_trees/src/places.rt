@@ -15,18 +15,17 @@ use crate::slices::slice_tree;
 use crate::walk::{PairTest, Test, are_all_there, do_pass, do_pass_with};
 use cpg_base::{FIRST_VALUE, OutOfMemory};
 use cpg_cube::{Cube, Literal};
-use cpg_tree::{Space, Tally, TreeItem, fork_of};
+use cpg_tree::{Space, Tally, TreeItem, plain_fork};
 use std::alloc::Global;
 use std::marker::Model;
 
-/// A tree may have `ITEMS_EACH` items for each cube, and `ITEMS_BESIDES` more, if the cubes stand as it lists them.
+/// How many items a tree may have for each cube, with `ITEMS_BESIDES` more in all, if the cubes stand as it lists them.
 const ITEMS_EACH: u32 = 6;
-
+/// How many items such a tree may have beside those for its cubes.
 const ITEMS_BESIDES: u32 = 64;
-/// A tree of cubes in any order may cost `COST_EACH` for each cube, and `COST_BESIDES` more: 1 for each item, and 1 for each
-/// place that a fork leaves on both its sides.
+/// How much a tree in any order may cost for each cube: 1 for each item, and for each fork what its sides have more than it parts.
 const COST_EACH: u32 = 8;
-
+/// How much such a tree may cost beside what it may for its cubes.
 const COST_BESIDES: u32 = 104;
 /// For at most this many places room is made at once on each side of a fork. Most often that is room for all of them.
 const AT_ONCE: usize = 32;
@@ -313,8 +312,7 @@ fn do_suffice_above(
     do_suffice
 }
 
-/// Adds a place to the side above a cut, unless the variable's range ends at the cut or before, or there are too few faults
-/// left. The space is as before.
+/// Adds a place to the side above a cut, unless its range ends at or below the cut, or too few faults are left. The space is as before.
 fn keep_above(
     high: &mut Vec<PlaceHint>,
     space: &mut Space,
@@ -489,7 +487,7 @@ fn best_cut(
 ) -> Option<PlaceCut>
     ensures { IfSome result (λ r. IsOpenCut space.now r.variable r.most) }
 {
-    if !tally.is_kept() {
+    if !tally.has_tables() {
         return None;
     }
     let first = *hints.first()?;
@@ -547,7 +545,7 @@ fn places_top(space: &Space, cubes: &[&Cube], hints: &[PlaceHint], tally: &mut T
     PlacesTop::Leaf(Some(first.place))
 }
 
-/// Returns how many more items there may be once a fork has parted `count` places: each on both its sides counts as one.
+/// Returns how much a tree may still cost behind a fork of `count` places, which costs as much as its sides have more than that.
 fn left_after(left: u32, count: usize, sides: &PlaceSides) -> u32
     ensures { result ≤ left }
 {
@@ -590,11 +588,11 @@ fn build_forked_places(
         return Ok(false);
     }
     space.reopen_below(cut.variable, old_low);
-    fork_of(&mut growth.items, start, middle, cut.variable, cut.most)?;
+    plain_fork(&mut growth.items, start, middle, cut.variable, cut.most)?;
     Ok(true)
 }
 
-/// Adds the tree of places for a space, and leaves the space as it was. False guarantees nothing: it has none, or costs too much.
+/// Adds the tree of some places for a space, and leaves the space as it was. False, if none is found for the cost, guarantees nothing.
 #[cycle(build_place_tree)]
 fn build_place_tree(
     alloc: Global,
@@ -632,7 +630,7 @@ fn faults_asked(literals: &[Literal]) -> u8 {
     faults
 }
 
-/// Adds a place, unless it has no cube or this asks for more than `k` faults. The space is that of scenarios of up to `k` faults.
+/// Adds a place, unless it has no cube or its cube asks for more than `k` faults. The space is that of scenarios of at most `k` faults.
 fn admit(
     hints: &mut Vec<PlaceHint>,
     k: u8,
@@ -661,7 +659,7 @@ fn admit(
     Ok(())
 }
 
-/// Returns the places whose cubes some scenario of the space may match, which is that of all scenarios of at most `k` faults.
+/// Returns the places whose cubes some scenario of the space may match. The space is that of scenarios of at most `k` faults.
 fn hints_of(
     alloc: Global,
     k: u8,
@@ -672,13 +670,14 @@ fn hints_of(
     ensures { IfOk result (λ r. (s : Scenario) (i : ℕ) → IsInSpace space.now s → IsMatched (map (λ b. b.now) cubes.now) s i → Contains (places_of r.items) i) }
 {
     let mut hints = Vec::with_capacity(alloc, cubes.len())?;
+    // at most `MOST_LOAD` cubes, so their places fit a `u32`
     for place in 0..cubes.len() as u32 {
         admit(&mut hints, k, space, cubes, place)?;
     }
     Ok(hints)
 }
 
-/// Returns the tree of places for all scenarios of at most `k` faults, by forks that a tally chooses. `None` guarantees nothing.
+/// Returns the tree of places for at most `k` faults, by forks that `tally` chooses. One above `most_cost` is `None`, which guarantees nothing.
 fn place_tree_by(
     alloc: Global,
     k: u8,
@@ -714,7 +713,7 @@ fn place_tree(
     if let Some(places) = place_tree_by(alloc, k, cubes, most_cost, &mut tally)? {
         return Ok(Some(places));
     }
-    tally.keep(alloc)?;
+    tally.make_tables(alloc)?;
     let places = place_tree_by(alloc, k, cubes, most_cost, &mut tally)?;
     Ok(places)
 }
@@ -752,6 +751,7 @@ impl Places {
         requires { length cubes.now ≤ MOST_LOAD }
         ensures { IfOk result (λ r. IfSome r (λ t. (s : Scenario) → HasAtMostFaults k s → IsPlaceOfMatch (map (λ b. b.now) cubes.now) (place_at t s) s)) }
     {
+        // there are at most `MOST_LOAD` cubes, so this and the cost fit a `u32`
         let most_items = cubes.len() as u32 * ITEMS_EACH + ITEMS_BESIDES;
         // rows mostly stand as a tree lists them, and then this is faster
         if let Some(places) = slice_tree(alloc, k, cubes, most_items)? {

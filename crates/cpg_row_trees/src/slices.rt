@@ -16,7 +16,7 @@ use crate::places::{
 };
 use cpg_base::{OutOfMemory, top};
 use cpg_cube::{Cube, Literal};
-use cpg_tree::{Space, fork_of};
+use cpg_tree::{Space, plain_fork};
 use std::alloc::Global;
 
 /// How to guess the variable by which a slice is parted. No clause speaks of it.
@@ -128,8 +128,8 @@ fn narrowed(k: u8, space: &Space, variable: u8) -> u32
     if is_narrow(k, space, variable) { 1 } else { 0 }
 }
 
-/// Returns how many variables may be narrow once this one is narrowed too, if `narrow` may be now; `None` if that doesn't fit a
-/// `u32`.
+/// Returns how many variables may be narrow once this one is too, if at most `narrow` are so far; `None` if that doesn't fit
+/// a `u32`.
 fn narrow_with(k: u8, space: &Space, variable: u8, narrow: u32) -> Option<u32>
     ensures { IfSome result (λ n. narrow + 1 ≤ n + narrowed k space.now variable) }
 {
@@ -539,7 +539,7 @@ fn build_forked_slice(
     }
     leave(path, over);
     space.reopen_below(cut.variable, old_low);
-    fork_of(&mut growth.items, start, middle, cut.variable, cut.most)?;
+    plain_fork(&mut growth.items, start, middle, cut.variable, cut.most)?;
     Ok(true)
 }
 
@@ -590,6 +590,7 @@ fn slice_tree_by(
     ensures { IfOk result (λ r. IfSome r (λ t. (s : Scenario) → HasAtMostFaults k s → IsPlaceOfMatch (map (λ b. b.now) cubes.now) (place_at t s) s)) }
 {
     let mut space = Space::whole(k);
+    // all cubes, of which there are at most `MOST_LOAD`, so the end fits a `u32`
     let slice = Slice {
         from: 0,
         to: cubes.len() as u32,

@@ -10,6 +10,7 @@ use Rattle.cpg_order.specs.Urgency.{IsTopological}
 use Rattle.cpg_base.specs.Order.{place}
 use Rattle.cpg_base.proofs.Places.{get_or-place, place-lt, Contains-order, from_order}
 
+-- given: a graph, and a topological order of its processes
 module _ (g : Graph) (order : List ℕ) (topological : IsTopological g order) where
   -- the process at a place of the order is one of the graph, and stands there
   at_index : (i : ℕ) → i < length order → (get_or order i 0 < process_count g) × (place order (get_or order i 0) ≡ i)

@@ -20,6 +20,7 @@ use Rattle.cpg_rules.proofs.EdgeGuards.{edges_below}
 all_from_members : {X : Type 0} (P : X → Type 0) (xs : List X) → ((x : X) → Contains xs x → P x) → All P xs
 all_from_members P xs f k d l = f (get_or xs k d) (Contains-get_or xs k d l)
 
+-- given: a graph, and a topological order of its processes
 module _ (g : Graph) (order : List ℕ) (topological : IsTopological g order) where
   -- the steps of an order refer to processes of the graph
   pub steps_below : (m : ℕ) → process_count g ≤ m → All (IsStepBelow m) (map (step_of g) order)

@@ -45,6 +45,7 @@ test_parts (Some c) (Some v) t h = ap condition_in h
 abbrev pub place_ranks : Graph → List ℕ → List ℕ
 place_ranks g order = map (λ c. place order (process_of g c)) (numbers_below (condition_count g))
 
+-- given: a graph, and a topological order of its processes
 module _ (g : Graph) (order : List ℕ) (topological : IsTopological g order) where
   -- the rank of a condition is the place of its process
   rank_is : (c : ℕ) → c < condition_count g → rank (place_ranks g order) c ≡ place order (process_of g c)
@@ -90,9 +91,10 @@ module _ (g : Graph) (order : List ℕ) (topological : IsTopological g order) wh
     -- no test in it has equal sides
     reduced : IsReduced t
 
-  -- given a process whose earlier processes have their trees: each says how its process is active
+  -- given: a process whose earlier processes have their trees: each says how its process is active
   module _ (p : ℕ) (trees : List Guard) (made : (q : ℕ) → q < process_count g → place order q < place order p →
       IsComposed q (get_or trees q (Leaf Inactive))) (join : Bool) where
+    -- given: an input e of the process p
     module _ (e : ℕ) (input : Contains (inputs g p) e) where
       -- the input is an edge of the graph
       within : e < edge_count g

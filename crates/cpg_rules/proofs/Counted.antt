@@ -25,7 +25,7 @@ use Rattle.cpg_rules.proofs.Along.{rest_first, rest_more}
 use Rattle.cpg_rules.proofs.Standings.{activation_here, follows_on, settled_next}
 use Rattle.cpg_rules.proofs.Start.{none_settled, all_follow}
 
--- given a topological order of a graph of at most 128 processes
+-- given: a topological order of a graph of at most 128 processes
 module _ (g : Graph) (order : List ℕ) (topological : IsTopological g order) (few : process_count g ≤ 128) where
   -- an outcome on the way: the conditions that are left are false
   record IsOnWay (k : ℕ) (s : List (Option Bool)) (o : List Bool) : Type 0 where
@@ -40,7 +40,7 @@ module _ (g : Graph) (order : List ℕ) (topological : IsTopological g order) (f
   abbrev many : List ℕ → List Bool → ℕ
   many cs o = sum_by (λ q. 1) (chosen g (all_values g) cs o)
 
-  -- given the standings of the processes before a place, the process at the place, and an outcome on the way
+  -- given: the standings of the processes before a place, the process at the place, and an outcome on the way
   module _ (k p : ℕ) (s : List (Option Bool)) (are : AreSettled g order k s) (h : p < process_count g)
       (at : place order p ≡ k) (o : List Bool) (on : IsOnWay k s o) where
     -- the activation of the process

@@ -19,7 +19,7 @@ use Rattle.cpg_rules.specs.Guards.{IsEdgeBelow}
 
 -- ---- collecting them
 
--- given the guards of the first n edges
+-- given: the guards of the first n edges
 module _ (g : Graph) (edges : List Edge) (are : edges ≡ g.edges) (n : ℕ) (xs : List EdgeGuard)
     (so_far : xs ≡ map (edge_guard_of g) (numbers_below n)) where
   -- the edge at the place
@@ -45,6 +45,7 @@ module _ (g : Graph) (edges : List Edge) (are : edges ≡ g.edges) (n : ℕ) (xs
 
 -- ---- what they say
 
+-- given: a graph, and a topological order of its processes
 module _ (g : Graph) (order : List ℕ) (topological : IsTopological g order) where
   -- the guards of the edges refer to processes and conditions of the graph
   pub edges_below : All (IsEdgeBelow (process_count g) (condition_count g))
@@ -82,7 +83,7 @@ module _ (g : Graph) (order : List ℕ) (topological : IsTopological g order) wh
       let never : None ≡ Some d.0 = sym is ∙ there in cc
   passed values e h (Some c) is (Some v) when = ap (λ x. same_bool v (get_or values (unwrap_or x 0) false)) (sym is)
 
-  -- given the guards of the graph, and an outcome
+  -- given: the guards of the graph, and an outcome
   module _ (guards : Guards) (are : AreGuardsOf g order guards) (values : List Bool)
       (long : length values ≡ condition_count g) where
     -- a process is active by its tree exactly if it is active

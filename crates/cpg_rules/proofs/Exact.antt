@@ -21,6 +21,7 @@ use Rattle.cpg_rules.specs.Admission.{IsAdmitted}
 use Rattle.cpg_rules.specs.Faults.{ShowsFault}
 use Rattle.cpg_rules.proofs.GivenOrders.{none_bad}
 
+-- given: a graph in which each node that sends has a slot, and a node
 module _ (g : Graph) (senders : HasSenderSlots g) (node : ℕ) where
   -- the source node of a message has a slot
   slot_of_message : (e : ℕ) → e < edge_count g → is_message g e ≡ true → node_of g (source g e) ≡ node →

@@ -71,6 +71,7 @@ pub of_view : {X Y : Type 0} (f : X → Y) (P : Y → Type 0) (r : Option X) (o 
 of_view f P None o e h = tt
 of_view f P (Some x) o e h = subst (λ q. IfSome q P) (sym e) h
 
+-- given: a graph g, and the fault number that it gets
 module _ (g : Graph) (faults : ℕ) where
   -- the graph with the other fault number
   abbrev h : Graph
@@ -197,8 +198,8 @@ module _ (g : Graph) (faults : ℕ) where
     few_conditions = w.few_conditions;
   }
 
-  -- A graph that is admitted is so with another fault number, by the same order and guards.
-  -- Each rule stays by itself.
+  -- A graph that is admitted is admitted with any other fault number in range, by the same order and guards: each rule
+  -- stays by itself.
   pub admitted_same : (order : List ℕ) (guards : Guards) → faults ≤ MOST_FAULTS → IsAdmitted g order guards →
       IsAdmitted h order guards
   admitted_same order guards few is = record {

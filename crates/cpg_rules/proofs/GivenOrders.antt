@@ -1,5 +1,5 @@
 -- The order that a graph gives is topological exactly if no process shows that it isn't, and one process at most shows
--- that.
+-- that. In the lemmas p and q are processes.
 use Rattle.std.proofs.Common.{ℕ, ◌<◌, ◌≤◌, ◌≡◌, true, false, ◌==◌, List, Some, IfSome, length, get_or, take, Contains}
 use Rattle.std.proofs.Common.{IsPermutation, arith, refl, sym, ap, ◌∙◌, subst, ◌⊎◌, inl, inr, eq-eqb, eqb-true}
 use Rattle.std.proofs.lemmas.Bool.{both_ways, cases_eq, cases_lt}
@@ -27,6 +27,7 @@ input_of_target g e l =
     Contains-filter (λ f. target g f == target g e) (numbers_below (edge_count g)) e
     (eq-eqb (target g e) (target g e) refl) (Contains-numbers (edge_count g) e l)
 
+-- given: a graph, and a list of numbers that may be an order of its processes
 module _ (g : Graph) (list : List ℕ) where
   -- a list that lacks none has each process
   there : LacksNone g list → (p : ℕ) → p < process_count g → Contains list p
@@ -50,7 +51,7 @@ module _ (g : Graph) (list : List ℕ) where
 
   -- ---- place by place
 
-  -- given an order that is as long as there are processes
+  -- given: an order that is as long as there are processes
   module _ (lawful : IsOrder list) (long : length list ≡ process_count g) where
     -- each process is in the list
     in_list : (p : ℕ) → p < process_count g → Contains list p
@@ -94,6 +95,7 @@ module _ (g : Graph) (list : List ℕ) where
 
   -- ---- a list that shows none is topological
 
+  -- given: the list has processes of the graph alone, each at most once, and lacks none
   module _ (within : IsOrderWithin (process_count g) list) (all : LacksNone g list) where
     -- the list has each process once
     each_once : IsPermutation (numbers_below (process_count g)) list
@@ -190,6 +192,7 @@ one_bad g p q a b =
 
 -- ---- the list that a graph gives
 
+-- given: the list is the order that the graph gives
 module _ (g : Graph) (list : List ℕ) (given : Some list ≡ g.order) where
   -- the numbers in the given order are processes of the graph
   pub given_within : IsWithinLimits g → IsOrderWithin (process_count g) list

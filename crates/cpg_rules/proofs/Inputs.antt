@@ -9,7 +9,7 @@ use Rattle.cpg_rules.specs.declared.steps.Input.{Input}
 use Rattle.cpg_rules.specs.Steps.{input_of}
 use Rattle.cpg_rules.proofs.Collect.{collects, passes_over}
 
--- given the inputs of a process among the first n edges
+-- given: the inputs of a process among the first n edges
 module _ (g : Graph) (edges : List Edge) (are : edges ≡ g.edges) (p n : ℕ) (xs : List Input)
     (so_far : xs ≡ map (input_of g) (filter (λ e. target g e == p) (numbers_below n))) where
   -- the edge at the place

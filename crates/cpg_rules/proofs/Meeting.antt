@@ -1,4 +1,5 @@
--- What composed trees come to, in which order they test, and that they are reduced.
+-- What composed trees come to, in which order they test, and that they are reduced. In the lemmas t is a tree, x a test
+-- or none, a the activation of a leaf, c a condition, and k a number that no rank in a tree is below.
 use Rattle.std.proofs.Common.{ℕ, ◌+◌, ◌<◌, ◌≤◌, ◌≡◌, ◌≢◌, Bool, true, false, ◌&&◌, ◌==◌, if◌then◌else◌, List, length}
 use Rattle.std.proofs.Common.{get_or, Option, Some, None, arith, refl, sym, ap, ◌∙◌, subst, eqb-true, ltb-true}
 use Rattle.std.proofs.Common.{ltb-false}
@@ -21,6 +22,7 @@ use Rattle.cpg_rules.proofs.Equal.{same_guard-is, same_guard-refl}
 abbrev pub first_settling : Bool → Activation → Activation → Activation
 first_settling join a b = if settles join a then a else b
 
+-- given: an outcome o, a value for each condition
 module _ (o : List Bool) where
   -- a test gives the activation of the branch that the outcome takes
   tested_at : (c : ℕ) (off on : Guard) →
@@ -86,8 +88,9 @@ module _ (o : List Bool) where
       go true h k = k
       go false h k = h
 
+  -- given: whether the trees are met for a join, and the ranks of the conditions
   module _ (join : Bool) (ranks : List ℕ) where
-    -- given a test of c at the top of the first tree: `at_off` and `at_on` say what its branches meet in, in the
+    -- given: a test of c at the top of the first tree: `at_off` and `at_on` say what its branches meet in, in the
     -- outcome o
     module _ (c : ℕ) (off on : Guard → Guard) (low high : Activation)
         (at_off : (t : Guard) → outcome_at (off t) o ≡ first_settling join low (outcome_at t o))
@@ -160,6 +163,7 @@ IsRanked ranks k m (Leaf a) = Unit {0}
 IsRanked ranks k m (Test c off on) = (c < length ranks) × (k ≤ rank ranks c) × (rank ranks c < m) ×
     IsRanked ranks (rank ranks c + 1) m off × IsRanked ranks (rank ranks c + 1) m on
 
+-- given: the ranks of the conditions
 module _ (ranks : List ℕ) where
   -- a tree with ranks from a number on has them from each lower number on
   ranked_from : (k l m : ℕ) (t : Guard) → k ≤ l → IsRanked ranks l m t → IsRanked ranks k m t
@@ -233,8 +237,9 @@ module _ (ranks : List ℕ) where
       (live_tree_ranked (rank ranks c + 1) m n a x off r (omega arith) l s.3)
       (live_tree_ranked (rank ranks c + 1) m n a x on r (omega arith) l s.4)
 
+  -- given: different conditions have different ranks (`apart`), and a number m below which ranks are to stay
   module _ (apart : (c d : ℕ) → c < length ranks → d < length ranks → rank ranks c ≡ rank ranks d → c ≡ d) (m : ℕ) where
-    -- given a test at the top of the first tree, whose branches keep trees ordered by rank
+    -- given: a test at the top of the first tree, whose branches keep trees ordered by rank
     -- `within`, `below`: c is a condition, with a rank below m. `of_off`, `of_on`: the branches keep the order by
     -- rank.
     module _ (c : ℕ) (within : c < length ranks) (below : rank ranks c < m) (off on : Guard → Guard)
@@ -325,7 +330,7 @@ live_tree_reduced a x (Leaf b) = go (is_active b)
 live_tree_reduced a x (Test c off on) =
     tested_reduced c (live_tree a x off) (live_tree a x on) (live_tree_reduced a x off) (live_tree_reduced a x on)
 
--- given a test of c at the top of the first tree, whose branches keep trees reduced: no test has two equal sides
+-- given: a test of c at the top of the first tree, whose branches keep trees reduced: no test has two equal sides
 module _ (ranks : List ℕ) (c : ℕ) (off on : Guard → Guard) (of_off : (t : Guard) → IsReduced t → IsReduced (off t))
     (of_on : (t : Guard) → IsReduced t → IsReduced (on t)) where
   -- a tree that goes against another is reduced

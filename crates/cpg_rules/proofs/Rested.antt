@@ -1,4 +1,5 @@
--- A walk along the steps that it rests on finds what a walk along all steps finds.
+-- A walk along the steps that it rests on finds what a walk along all steps finds. In the lemmas s and u are standings,
+-- q is a process, and `is` are inputs.
 use Rattle.std.proofs.Common.{ℕ, zero, suc, ◌+◌, ◌<◌, ◌≤◌, ◌≡◌, Bool, true, false, ◌&&◌, ◌||◌, ◌==◌, if◌then◌else◌}
 use Rattle.std.proofs.Common.{List, [], ◌∷◌, All, length, get_or, set, map, filter, drop, replicate, Option, Some}
 use Rattle.std.proofs.Common.{None, is_some, arith, refl, sym, ap, ap₂, ◌∙◌, subst, inl, inr, eq-eqb, get_or-set_other}
@@ -36,6 +37,7 @@ true_false false h k = cc
 
 -- ---- inputs whose sources stand alike
 
+-- given: two lists of standings, s and u
 module _ (s u : List (Option Bool)) where
   -- each of these inputs is live by the standings s exactly if it is by u
   abbrev pub AreLiveAlike : List Input → Type 0
@@ -105,6 +107,7 @@ set_alike s u p q x long same = elim (cases_eq q p) [
   | inr n ↦ get_or-set_other s p q x None n ∙ same ∙ sym (get_or-set_other u p q x None n)
 ]
 
+-- given: a step, the steps kept after it, and two lists of standings, s and u
 module _ (step : ActivationStep) (kept : List ActivationStep) (s u : List (Option Bool)) where
   -- the inputs of a step are live by both standings or by neither
   inputs_alike : IsAlike (step ∷ kept) s u → AreLiveAlike s u step.inputs
@@ -244,6 +247,7 @@ found_kept c None y (Some g) w h k = absurd h
 found_kept None None y None w h k = tt
 found_kept (Some c) None y None w h k = k
 
+-- given: a process p
 module _ (p : ℕ) where
   -- two inputs of a step are live by both standings or by neither, if these are alike
   two_alike : (step : ActivationStep) (kept : List ActivationStep) (s u : List (Option Bool)) →
@@ -306,7 +310,7 @@ module _ (p : ℕ) where
           (later (settled s step false) u (passed_alike step (rested (Process p) steps) s u alike f false))
           (later (settled s step true) u (passed_alike step (rested (Process p) steps) s u alike f true))
 
--- given a topological order of a graph of at most 128 processes, and the process that is searched for
+-- given: a topological order of a graph of at most 128 processes, and the process that is searched for
 module _ (g : Graph) (order : List ℕ) (topological : IsTopological g order) (few : process_count g ≤ 128) (p : ℕ) where
   -- the steps from a place on are not yet settled, and the same conditions are set in both standings
   record AreSetAlike (k : ℕ) (s u : List (Option Bool)) : Type 0 where
@@ -323,7 +327,7 @@ module _ (g : Graph) (order : List ℕ) (topological : IsTopological g order) (f
   unset Plain = refl
   unset (By e) = refl
 
-  -- given standings that are set alike, and the process at the next place
+  -- given: standings that are set alike, and the process at the next place
   module _ (k q : ℕ) (h : q < process_count g) (at : place order q ≡ k) (s u : List (Option Bool))
       (sets : AreSetAlike k s u) where
     -- once the process at the place is settled as false, the same conditions are still set

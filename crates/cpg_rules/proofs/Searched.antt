@@ -1,4 +1,6 @@
--- The search along an order finds the least scenario in which two inputs of a process are live, or there is none.
+-- The search along an order finds the least scenario in which two inputs of a process are live, or there is none. In
+-- the lemmas k is a place of the order, p the process that is searched for, q another one, c a condition, and v its
+-- value.
 use Rattle.std.proofs.Common.{ℕ, ◌+◌, ◌<◌, ◌≤◌, ◌≡◌, ◌≢◌, Bool, true, false, ◌==◌, if◌then◌else◌, List, [], ◌∷◌, ◌++◌}
 use Rattle.std.proofs.Common.{length, get_or, map, filter, drop, take, replicate, sum, Option, Some, None}
 use Rattle.std.proofs.Common.{Contains, arith, refl, sym, ap, ◌∙◌, subst, inl, inr, ◌⊎◌, eqb-true, get_or-set_other}
@@ -36,6 +38,7 @@ use Rattle.cpg_rules.proofs.Start.{none_settled, all_follow}
 
 -- ---- scenarios that first differ at a process
 
+-- given: two scenarios of a graph, s and t
 module _ (g : Graph) (s t : Scenario) where
   -- nowhere more in what a process gives to the key
   pub record IsNoMore (p : ℕ) : Type 0 where
@@ -89,6 +92,7 @@ module _ (g : Graph) (s t : Scenario) where
 
 -- ---- the outcome of standings
 
+-- given: a graph, an order of its processes, and standings s
 module _ (g : Graph) (order : List ℕ) (s : List (Option Bool)) where
   -- the value of a condition in the scenario of standings is that of its process's standing
   value_in : (c : ℕ) → c < condition_count g →
@@ -124,7 +128,7 @@ module _ (g : Graph) (order : List ℕ) (s : List (Option Bool)) where
       sum-zeros : (n : ℕ) → sum (replicate n 0) ≡ 0
       sum-zeros n = omega (arith, sum_by-replicate (λ (x : ℕ). x) n 0)
 
--- given a topological order of a graph of at most 128 processes
+-- given: a topological order of a graph of at most 128 processes
 module _ (g : Graph) (order : List ℕ) (topological : IsTopological g order) (few : process_count g ≤ 128) where
   -- no process from place k of the order on stands as active yet
   record IsFresh (k : ℕ) (s : List (Option Bool)) : Type 0 where
@@ -169,6 +173,7 @@ module _ (g : Graph) (order : List ℕ) (topological : IsTopological g order) (f
           let y = ap number_of_value (z ∙ sym (h v is)) in
           omega arith
 
+  -- given: a process p of the graph
   module _ (p : ℕ) (within : p < process_count g) where
     -- the first standings at the process with two live inputs, of those that go on from others
     record IsFirstFrom (k : ℕ) (s found : List (Option Bool)) : Type 0 where
@@ -219,7 +224,7 @@ module _ (g : Graph) (order : List ℕ) (topological : IsTopological g order) (f
                 (subst (λ x. k ≤ place order x) (sym of_it) l)) in
                 let y = ap number_of_value z in omega arith
 
-    -- given the standings of the processes before a place, and another process than p at the place
+    -- given: the standings of the processes before a place, and another process than p at the place
     module _ (k q : ℕ) (qs : List ℕ) (s : List (Option Bool)) (are : AreSettled g order k s) (h : q < process_count g)
         (at : place order q ≡ k) (other : q ≢ p)
         (rest : drop k order ≡ q ∷ qs) where
@@ -262,7 +267,7 @@ module _ (g : Graph) (order : List ℕ) (topological : IsTopological g order) (f
         least = λ t f. first.least t (follows_one_way g order topological k s are q h few at false none t.values f);
       }
 
-      -- both ways
+      -- given: the process has a condition c to choose, so both ways are searched
       module _ (c : ℕ) (some : choice here (condition_of g q) ≡ Some c) where
         -- the condition is the process's
         its : condition_of g q ≡ Some c

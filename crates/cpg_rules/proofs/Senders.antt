@@ -21,6 +21,7 @@ any_there p n i l t = list_any_true p (numbers_below n) i (Contains-numbers n i 
 pub any_nowhere : (p : ℕ → Bool) (n : ℕ) → ((i : ℕ) → i < n → p i ≡ false) → list_any p (numbers_below n) ≡ false
 any_nowhere p n h = list_any_false p (numbers_below n) (λ i c. h i (numbers-Contains n i c))
 
+-- given: a graph within its limits, in which no node lacks a slot
 module _ (g : Graph) (w : IsWithinLimits g) (none_lacks : (n : ℕ) → n < length g.nodes → lacks_slot g n ≡ false) where
   -- each node that sends has a slot
   slot_there : (n : ℕ) → n < length g.nodes → is_sender g n ≡ true → has_slot g n ≡ true

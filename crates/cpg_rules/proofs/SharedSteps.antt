@@ -1,4 +1,5 @@
--- Shared parts make the trees that the definitions compose, and keep what was made before.
+-- Shared parts make the trees that the definitions compose, and keep what was made before. In the lemmas a, b, c and d
+-- are the shared parts after more and more are made, and n and m are numbers of parts.
 use Rattle.std.proofs.Common.{ℕ, zero, suc, ◌<◌, ◌≡◌, Bool, true, false, not, ◌==◌, if◌then◌else◌, List, [], ◌∷◌}
 use Rattle.std.proofs.Common.{length, set, replicate, Option, Some, None, refl, sym, ap, ap₂, ◌∙◌, subst}
 use Rattle.std.proofs.Common.{length-set}
@@ -32,7 +33,7 @@ first_with : (join : Bool) (ranks : List ℕ) (left : List Input) (first later :
 first_with join ranks [] first later h = cc
 first_with join ranks (i ∷ is) first later h = refl
 
--- given the roots of some processes, and inputs that begin with one
+-- given: the roots of some processes, and inputs that begin with one
 -- `are`: each process has a root among the parts of a. `all`: the inputs are the first one and those left.
 module _ (g : Graph) (join : Bool) (a b c d : Sharing) (count : ℕ) (roots : List ℕ) (are : AreRoots a.parts count roots)
     (input : Input) (left inputs : List Input) (all : inputs ≡ input ∷ left) where
@@ -58,7 +59,7 @@ module _ (g : Graph) (join : Bool) (a b c d : Sharing) (count : ℕ) (roots : Li
 
 -- ---- along the steps
 
--- given roots of the processes, and a part n that is made with the tree t of process p
+-- given: roots of the processes, and a part n that is made with the tree t of process p
 module _ (a b : Sharing) (count p n : ℕ) (roots : List ℕ) (t : Guard) (are : AreRoots a.parts count roots)
     (made : Makes a b t n) where
   -- the root of one more process is set
@@ -106,7 +107,7 @@ union_first ranks [] first x h = cc
 union_first ranks (i ∷ is) first None h = refl
 union_first ranks (i ∷ is) first (Some later) h = refl
 
--- given inputs with more than one element, and the part that was made of the first
+-- given: inputs with more than one element, and the part that was made of the first
 -- `are`: each process has a root among the parts of a. `all`, `some`: more inputs follow the first. `made`: n is the
 -- part of the first one's tree.
 module _ (g : Graph) (a b c : Sharing) (count : ℕ) (roots : List ℕ) (are : AreRoots a.parts count roots) (input : Input)
@@ -140,6 +141,7 @@ module _ (g : Graph) (a b c : Sharing) (count : ℕ) (roots : List ℕ) (are : A
       MakesUnion a c (union g a.ranks (trees_of a.parts roots) inputs) None
   union_none y e h = subst (λ x. MakesUnion a c x None) whole_is (none_later later (subst (MakesUnion b c later) e h))
 
+  -- given: the part m that the tree of the later inputs is in
   module _ (m : ℕ) where
     -- whether two trees are live at once is asked of their parts
     same_live : (t : Guard) (second : Makes b c t m) →
@@ -164,7 +166,7 @@ module _ (g : Graph) (a b c : Sharing) (count : ℕ) (roots : List ℕ) (are : A
     union_live y e h live =
         subst (λ x. MakesUnion a c x None) whole_is (live_later later (subst (MakesUnion b c later) e h) live)
 
-    -- `last`: r is the part in which the first tree and the later ones meet
+    -- given: a part r in which the first tree and the later ones meet, as `last` says
     module _ (d : Sharing) (r : ℕ) (last : Makes c d (met true c.ranks (tree_at c.parts n) (tree_at c.parts m)) r) where
       -- if the first tree and the later ones are never live at once, the part where they meet is the union
       apart_later : (x : Option Guard) → MakesUnion b c x (Some m) →

@@ -24,6 +24,7 @@ use Rattle.cpg_rules.specs.Way.{Follows, AreSettled}
 
 -- ---- the activation of a step is that of its inputs' edges
 
+-- given: a graph, and standings s
 module _ (g : Graph) (s : List (Option Bool)) where
   -- whether an edge is live by the standings
   abbrev pub is_live_edge : ℕ → Bool
@@ -55,16 +56,18 @@ module _ (g : Graph) (s : List (Option Bool)) where
       activation_in s (step_of g p) ≡ activation_by (process_at g p).join (inputs g p) is_live_edge
   activation_in-is p = activation_from-is (process_at g p).join (inputs g p)
 
+-- given: a graph, and a topological order of its processes
 module _ (g : Graph) (order : List ℕ) (topological : IsTopological g order) where
   -- different processes have different places
   pub place_differs : (p q : ℕ) → p < process_count g → q < process_count g → p ≢ q → place order p ≢ place order q
   place_differs p q h k n e = n (same_place order p q (Contains-order (process_count g) order topological.all p h)
       (Contains-order (process_count g) order topological.all q k) e)
 
+  -- given: standings s that are right for the processes before place k of the order
   module _ (k : ℕ) (s : List (Option Bool)) (are : AreSettled g order k s) where
     -- ---- an input of a process at the place is live as the standings say
 
-    -- given an outcome that follows the standings, and an input of the process at the place
+    -- given: an outcome that follows the standings, and an input of the process at the place
     module _ (o : List Bool) (follows : Follows g order k s o) (p e : ℕ) (at : place order p ≡ k)
         (input : Contains (inputs g p) e) where
       -- the input is an edge of the graph
@@ -114,7 +117,7 @@ module _ (g : Graph) (order : List ℕ) (topological : IsTopological g order) wh
 
     -- ---- the next standings
 
-    -- given the process at the place, and a value of its condition
+    -- given: the process at the place, and a value of its condition
     module _ (p : ℕ) (h : p < process_count g) (few : process_count g ≤ 128) (at : place order p ≡ k) (v : Bool) where
       -- the standings after p is settled with the value v
       abbrev next : List (Option Bool)

@@ -5,7 +5,7 @@ use Rattle.cpg_base.specs.Graph.{Graph, process_count}
 use Rattle.cpg_order.specs.Urgency.{IsTopological}
 use Rattle.cpg_rules.specs.Way.{Follows, AreSettled}
 
--- given a topological order of a graph of at most 128 processes
+-- given: a topological order of a graph of at most 128 processes
 module _ (g : Graph) (order : List ℕ) (topological : IsTopological g order) (few : process_count g ≤ 128) where
   -- at the start no process is settled
   pub none_settled : AreSettled g order 0 (replicate 128 None)

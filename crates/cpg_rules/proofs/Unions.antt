@@ -32,6 +32,7 @@ either v true b f h = refl
 either true false b f h = h refl
 either false false b f h = absurd (both_ways false refl (f refl))
 
+-- given: an outcome o, a value for each condition
 module _ (o : List Bool) where
   -- whether a tree is active in the outcome
   abbrev on_in : Guard → Bool
@@ -51,8 +52,9 @@ module _ (o : List Bool) where
   somewhere_at (Test c off on) h = either (get_or o c false) (is_live_somewhere off) (is_live_somewhere on)
       (λ e. somewhere_at off (way_off c off on h e)) (λ e. somewhere_at on (way_on c off on h e))
 
+  -- given: the ranks of the conditions
   module _ (ranks : List ℕ) where
-    -- given a test at the top of a tree, and questions on its branches that are right in the outcome
+    -- given: a test at the top of a tree, and questions on its branches that are right in the outcome
     module _ (c : ℕ) (off on : Guard → Bool)
         (at_off : get_or o c false ≡ false → (t : Guard) → on_in t ≡ true → off t ≡ true)
         (at_on : get_or o c false ≡ true → (t : Guard) → on_in t ≡ true → on t ≡ true) where
@@ -122,7 +124,7 @@ first_with e es f true h a one apart = subst (λ v. IsOne (By e) (length (if v t
 first_with e es f false h a one apart =
     subst (λ v. IsOne a (length (if v then e ∷ filter f es else filter f es))) (sym h) one
 
--- given the guards of a graph, a process, and an outcome
+-- given: the guards of a graph, a process, and an outcome
 -- `are`: the guards are those of the graph. `long`: the outcome has a value for each condition.
 module _ (g : Graph) (order : List ℕ) (topological : IsTopological g order) (guards : Guards)
     (are : AreGuardsOf g order guards) (ranks : List ℕ) (p : ℕ)

@@ -12,6 +12,7 @@ use Rattle.cpg_order.proofs.Along.{from_along, Contains-along, conditions_rise}
 use Rattle.cpg_order.proofs.GuardLaw.{way_is_deciding}
 use Rattle.cpg_rules.specs.Laws.{WaysAreDeciding}
 
+-- given: a graph, and an order of its processes
 module _ (g : Graph) (order : List ℕ) where
   -- one condition's process stands before the other's
   abbrev pub Sooner : ℕ → ℕ → Type 0

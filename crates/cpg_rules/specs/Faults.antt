@@ -15,6 +15,7 @@ use Rattle.cpg_rules.specs.Given.{IsBadOrder}
 use Rattle.cpg_rules.specs.Admission.{IsAdmitted}
 
 -- The records below name what a graph has kept when the next cause is looked for. Each adds one rule to the one before.
+
 -- the graph has no cycle, and this is its urgency order
 pub record IsOrdered (g : Graph) (order : List ℕ) : Type 0 where
   -- each edge leads forward in the urgency order, so there is no cycle

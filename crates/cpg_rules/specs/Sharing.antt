@@ -72,21 +72,21 @@ pub record IsSharing (s : Sharing) : Type 0 where
   -- each known answer is right
   pub known : All (IsKnown s.ranks s.parts) s.known
 
--- parts were at most added
-pub record Extends (before after : Sharing) : Type 0 where
+-- the new parts are the old ones, with others added or none
+pub record Extends (old new : Sharing) : Type 0 where
   -- the ranks are the same
-  pub ranks : after.ranks ≡ before.ranks
+  pub ranks : new.ranks ≡ old.ranks
   -- each part is still there, with the same tree
-  pub longer : length before.parts ≤ length after.parts
-  pub same : (n : ℕ) → n < length before.parts → tree_at after.parts n ≡ tree_at before.parts n
+  pub longer : length old.parts ≤ length new.parts
+  pub same : (n : ℕ) → n < length old.parts → tree_at new.parts n ≡ tree_at old.parts n
 
--- parts were at most added, and part n has the tree
-pub record Makes (before after : Sharing) (tree : Guard) (n : ℕ) : Type 0 where
-  -- the parts before are still there
-  pub more : Extends before after
+-- the new parts are the old ones, with others added or none, and part n has the tree
+pub record Makes (old new : Sharing) (tree : Guard) (n : ℕ) : Type 0 where
+  -- the old parts are still there
+  pub more : Extends old new
   -- n is a part, and has the tree
-  pub within : n < length after.parts
-  pub is : tree_at after.parts n ≡ tree
+  pub within : n < length new.parts
+  pub is : tree_at new.parts n ≡ tree
 
 -- the trees of processes, if these are the numbers of their parts
 abbrev pub trees_of : List SharedPart → List ℕ → List Guard
@@ -99,12 +99,12 @@ pub record AreRoots (parts : List SharedPart) (count : ℕ) (roots : List ℕ) :
   -- each root is the number of a part
   pub within : All (λ n. n < length parts) roots
 
--- if there is a tree, a part that has it is made; if there is none, no part is
+-- the part that is found has the tree, and none is found if there is no tree; either way the old parts stay
 abbrev pub MakesUnion : Sharing → Sharing → Option Guard → Option ℕ → Type 0
-MakesUnion before after None None = Extends before after
-MakesUnion before after None (Some n) = ⊥
-MakesUnion before after (Some tree) None = ⊥
-MakesUnion before after (Some tree) (Some n) = Makes before after tree n
+MakesUnion old new None None = Extends old new
+MakesUnion old new None (Some n) = ⊥
+MakesUnion old new (Some tree) None = ⊥
+MakesUnion old new (Some tree) (Some n) = Makes old new tree n
 
 -- these are the trees in the guards of a graph, under some topological order
 pub record AreTreesOf (g : Graph) (trees : List Guard) : Type 0 where

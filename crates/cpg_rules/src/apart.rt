@@ -11,8 +11,8 @@ use crate::steps::{Input, inputs_of};
 use cpg_base::{Activation, OutOfMemory, Problem};
 use std::alloc::Global;
 
-/// Returns the part of a join with these inputs, and `None` exactly if two of them are live at once in some outcome. The
-/// tree of process p is in the part `roots[p]`.
+/// Returns the part with the tree of a join that has these inputs; `None` exactly if two of them are live at once in some
+/// outcome. The tree of process p is in the part `roots[p]`.
 fn union(
     alloc: Global,
     problem: &Problem,

@@ -43,6 +43,7 @@ fn lacking(problem: &Problem, list: &[u32]) -> Option<u32>
     ensures within { IsWithinLimits problem.now }
     ensures some { IfSome result (IsLacking problem.now list.now) }
 {
+    // a graph has at most 128 processes, so their numbers fit a `u32`
     for process in 0..problem.processes().len() as u32 {
         // processes are met by number, so this is the least
         if !is_in(list, process) {

@@ -56,20 +56,20 @@ pub fn tracks(steps: &[ActivationStep], standings: Standings, most: u32) -> u32
         return most.min(1);
     };
     let activation = step.activation(&standings);
-    let first = tracks(rest, settled(standings, step, activation, false), most);
+    let with_false = tracks(rest, settled(standings, step, activation, false), most);
     // as many as are asked for are found: the other way needs no count
-    if first == most {
-        return first;
+    if with_false == most {
+        return with_false;
     }
     // the process is inactive or has no condition: there is no other way
     if choice(activation, step.condition()).is_none() {
-        return first;
+        return with_false;
     }
     // the other way counts up to what is left of `most`
-    first
+    with_false
         + tracks(
             rest,
             settled(standings, step, activation, true),
-            most - first,
+            most - with_false,
         )
 }

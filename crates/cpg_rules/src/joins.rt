@@ -39,10 +39,10 @@ fn found_from(process: u32, steps: &[ActivationStep], standings: Standings) -> O
         return step.two_live(standings);
     }
     let activation = step.activation(&standings);
-    let first = found_from(process, rest, settled(standings, step, activation, false));
+    let with_false = found_from(process, rest, settled(standings, step, activation, false));
     // false comes before true, so what is found with false is the least
-    if first.is_some() {
-        return first;
+    if with_false.is_some() {
+        return with_false;
     }
     // the process is inactive or has no condition: there is no other way
     if choice(activation, step.condition()).is_none() {
@@ -163,6 +163,7 @@ pub fn least_alternatives(
     ensures none { IfOk result (λ found. IfNone found (HasSingleJoins problem.now)) }
     ensures some { IfOk result (λ found. IfSome found (λ a. AreAlternatives problem.now order.now a.process a.least)) }
 {
+    // a graph has at most 128 processes, so their numbers fit a `u32`
     let count = problem.processes().len() as u32;
     let steps = steps_of(alloc, problem, order)?;
     for process in 0..count {

@@ -109,7 +109,7 @@ impl Model for SharedParts {
 }
 
 /// Whether two tests are equal, also if both are missing. The contract says only that true is right, which is enough: after
-/// a wrong false a part would just be made again. The same goes for tops and questions.
+/// a wrong `false` a part would just be made again. The same goes for tops and questions.
 fn are_same_tests(a: Option<ValueTest>, b: Option<ValueTest>) -> bool
     ensures { result ≡ true → a ≡ b }
 {

@@ -25,6 +25,7 @@ fn is_message_of(problem: &Problem, edge: u32, node: u32) -> bool
 fn sends_message(problem: &Problem, node: u32) -> bool
     ensures { result ≡ sends_message problem.now node }
 {
+    // a graph has at most 256 edges, so their numbers fit a `u32`
     for edge in 0..problem.edges().len() as u32 {
         if is_message_of(problem, edge, node) {
             return true;
@@ -82,6 +83,7 @@ pub fn without_slot(problem: &Problem) -> Option<u32>
     ensures within { IsWithinLimits problem.now }
     ensures some { IfSome result (LacksSlot problem.now) }
 {
+    // a graph has at most 16 nodes, so their numbers fit a `u32`
     for node in 0..problem.nodes().len() as u32 {
         // nodes are met by number, so this is the least
         if lacks_slot(problem, node) {
@@ -123,6 +125,7 @@ pub fn above_slot(problem: &Problem) -> Option<u32>
     ensures none { IfNone result (AllFit problem.now) }
     ensures some { IfSome result (IsAboveSlot problem.now) }
 {
+    // a graph has at most 256 edges, so their numbers fit a `u32`
     for edge in 0..problem.edges().len() as u32 {
         // edges are met by number, so this is the least
         if is_too_big(problem, edge) {

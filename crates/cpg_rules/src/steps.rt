@@ -194,7 +194,7 @@ pub fn inputs_of(alloc: Global, problem: &Problem, process: u32) -> Result<Vec<I
 {
     let mut found = Vec::new(alloc);
     for (edge, ends) in problem.edges().iter().enumerate() {
-        // edges are met by number, so the inputs come in that order
+        // edges are met by number, so the inputs come in that order; there are at most 256, so the number fits a `u32`
         if ends.to == process {
             found.push(Input {
                 edge: edge as u32,

@@ -23,7 +23,7 @@ earlier_place a i f m h =
     elim (cases_lt a i) [ inl l ↦ l | inr l ↦ absurd (let k = mul-le-mul_right m l in omega arith) ]
 
 module _ (g : Graph) (order : List ℕ) (topological : IsTopological g order) where
-  -- given two lists of times that agree before the first moment of place i
+  -- given: two lists of times that agree before the first moment of place i
   module _ (s : Scenario) (t u : Times) (i : ℕ) (a : AgreeBefore g order t u (i * phases g)) where
     -- the items of a process before the place have their moments before the place begins
     pub item_before : (x : ℕ) → x < item_count g → place order (producer g x) < i → moment g order x < i * phases g

@@ -19,6 +19,7 @@ pub passing_le : (f : ℕ → ℕ) (xs : List ℕ) (v b : ℕ) → ((x : ℕ) �
     v ≤ b
 passing_le f xs v b h c = let r = Contains-map_parts f xs v c in subst (λ n. n ≤ b) r.2 (h r.0 r.1)
 
+-- given: the times t of a scenario s
 module _ (g : Graph) (order : List ℕ) (s : Scenario) (t : Times) where
   -- No bound of the start of p is after b, if none of the four kinds is: its release, a live input, the end of an active process
   -- before it on its node, and a condition that the node has to hear.

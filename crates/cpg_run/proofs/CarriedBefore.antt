@@ -59,7 +59,7 @@ module _ (g : Graph) (order : List ℕ) (topological : IsTopological g order) wh
         omega (arith, ap (place order) (producer_of_message g e l), input_goes_up g order topological p e j),
       )
 
-  -- given two lists of rows that have the same rows of the items from processes before a place
+  -- given: two lists of rows that have the same rows of the items from processes before a place
   module _ (rows others : List (List Column)) (bound : ℕ) (same : SameRowsBefore g order bound rows others)
       (s : Scenario) where
     -- the columns of an earlier item that match s carry the same literals in both lists

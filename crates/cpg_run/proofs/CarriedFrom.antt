@@ -217,6 +217,7 @@ module _ (g : Graph) (order : List ℕ) (rows : List (List Column)) (s : Scenari
             ]
       ]
 
+  -- given: the order is topological
   module _ (topological : IsTopological g order) where
     -- A literal carried beside a start that isn't frozen is given by a process up to it: what p itself receives, hears or is
     -- decided by, or what a process before it passes on.
@@ -318,6 +319,7 @@ module _ (g : Graph) (order : List ℕ) (rows : List (List Column)) (s : Scenari
       of_number : (v : ℕ) → IsVariable g v → m ≡ number_known s v → IsOf bound m
       of_row : (y : ℕ) → IsEarlier g order bound y → FromRow y m → IsOf bound m
 
+    -- given: a bound on places in the order, and a literal m
     module _ (few : process_count g ≤ 128) (bound : ℕ) (m : Literal) where
       -- the value of a condition is a number of the scenario
       value_is : (q : ℕ) → FromValue q m → IsOf bound m

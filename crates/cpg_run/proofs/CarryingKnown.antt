@@ -25,7 +25,7 @@ use Rattle.cpg_table.specs.Table.{NodeTable, columns_of}
 use Rattle.cpg_cube.specs.declared.column.Column.{Column}
 use Rattle.cpg_cube.specs.Column.{times_in}
 use Rattle.cpg_run.specs.Exact.{HasRunTimes}
-use Rattle.cpg_run.specs.Laws.{Given}
+use Rattle.cpg_run.specs.Laws.{AreRunTables}
 use Rattle.cpg_run.specs.Supported.{Supported, known, known_by_item, known_at_start, known_at_end, up_to}
 use Rattle.cpg_run.proofs.Awaited.{earlier_parts, up_to_itself, up_to_parts, up_to_cases, await_broadcast}
 use Rattle.cpg_run.proofs.Awaited.{producer_up_to}
@@ -42,7 +42,7 @@ use Rattle.cpg_run.proofs.CarriedFrom.{of_value, sent_variable, from_start_of, f
 use Rattle.cpg_run.proofs.CarryingTimed.{carrying_times, carrying_active}
 use Rattle.cpg_run.proofs.SameSends.{producer_active}
 
--- given tables whose columns are carrying rows
+-- given: tables whose columns are carrying rows
 -- `z`: the columns of the tables are the rows, and each row carries no more than it may.
 module _ (g : Graph) (urgency order : List ℕ) (frozen : List (Option ℕ)) (rows : List (List Column))
     (tables : List NodeTable) (z : AreTablesCarrying g urgency order frozen rows tables) where
@@ -52,14 +52,15 @@ module _ (g : Graph) (urgency order : List ℕ) (frozen : List (Option ℕ)) (ro
       ap (λ cs. times_in cs s) (z.columns x) ∙ carrying_times g urgency order frozen z.timed rows z.found x s t law run
 
   -- tables of carrying rows have the times of the runs, so the laws on such tables apply to them
-  pub given : Given g order frozen tables
-  given = record {
+  pub run_tables : AreRunTables g order frozen tables
+  run_tables = record {
     formed = z.timed.admitted.formed;
     topological = z.timed.admitted.topological;
     frozen_times = z.timed.frozen_times;
     times = run_times;
   }
 
+  -- given: a scenario s of the graph
   module _ (s : Scenario) (law : IsScenario g s) where
     -- the column that a literal comes from is one that matches
     row_column : (y : ℕ) (m : Literal) → (f : FromRow g order rows s y m) → Contains (matching tables s y) f.column
@@ -71,7 +72,7 @@ module _ (g : Graph) (urgency order : List ℕ) (frozen : List (Option ℕ)) (ro
         FromValue g order rows s q m →
         Contains (known_at_start g order tables s p) m
     value_known p q m l j f = subst (Contains (known_at_start g order tables s p)) (sym f.is)
-        (known_value g order frozen tables given s law urgency z.timed.admitted.urgent p q f.condition l j f.decides)
+        (known_value g order frozen tables run_tables s law urgency z.timed.admitted.urgent p q f.condition l j f.decides)
 
     -- What a process q up to p on its node gives to the start of p is known at that start, by its kind: a value, as it decides q;
     -- what a broadcast or a message told, as the start waits for that frame; the count of q, as q has ended.
@@ -100,11 +101,11 @@ module _ (g : Graph) (urgency order : List ℕ) (frozen : List (Option ℕ)) (ro
         (told_cube g order tables s (broadcast_item g c) f.row.column m
         (row_column (broadcast_item g c) m f.row) f.row.literal)
     process_known p q m l j (by_message on free f) =
-        known_input g order frozen tables given s law p q f.edge f.row.column m l j on f.input f.message
+        known_input g order frozen tables run_tables s law p q f.edge f.row.column m l j on f.input f.message
         (row_column (message_item g f.edge) m f.row) f.row.literal
     process_known p q m l j (by_count before on is) =
         let n = (up_to_parts g order z.timed.admitted.topological p q l j).within in
-        let c = a_match g order frozen tables given s law q (omega (arith, n))
+        let c = a_match g order frozen tables run_tables s law q (omega (arith, n))
         (ap (item_active g s.values) (item_at-start g q n) ∙ on) in
         subst (Contains (known_at_start g order tables s p)) (sym is)
         (known_end g order tables s p q (exactly q (number_of s q)) before (told_count g order tables s q c.0 c.1))
@@ -121,14 +122,14 @@ module _ (g : Graph) (urgency order : List ℕ) (frozen : List (Option ℕ)) (ro
     end_known p m l on (from_start f) =
         Contains-append_left (known_at_start g order tables s p) _ m (start_known p m l f)
     end_known p m l on (its_count is) = subst (Contains (known_at_end g order tables s p)) (sym is)
-        (known_count g order frozen tables given s law p l on)
+        (known_count g order frozen tables run_tables s law p l on)
 
     -- the value by which an item is sent is known at the end of its producer
     sent_known : (x : ℕ) (m : Literal) → active g s.values (producer g x) ≡ true → FromSent g order rows s x m →
         Contains (known_at_end g order tables s (producer g x)) m
     sent_known x m on f =
         let c = sent_variable g x f.variable f.stands in
-        let own = known_own_value g order frozen tables given s law c.0 c.1
+        let own = known_own_value g order frozen tables run_tables s law c.0 c.1
         (subst (λ p. active g s.values p ≡ true) (sym c.3) on) in
         subst (Contains (known_at_end g order tables s (producer g x))) (ap (number_known s) (sym c.2) ∙ sym f.is)
         (subst (λ p. Contains (known_at_end g order tables s p)
@@ -137,10 +138,10 @@ module _ (g : Graph) (urgency order : List ℕ) (frozen : List (Option ℕ)) (ro
     -- what is known at the end of a process up to p on its node is known at the end of p
     end_grows : (p q : ℕ) (m : Literal) → Contains (up_to g order p) q → Contains (known_at_end g order tables s q) m →
         Contains (known_at_end g order tables s p) m
-    unfolding given
+    unfolding run_tables
     end_grows p q m j k = elim (up_to_cases g order z.timed.admitted.topological p q j) [
       | inl before ↦ Contains-append_left (known_at_start g order tables s p) _ m
-          (start_grows g order frozen tables given s law p q m
+          (start_grows g order frozen tables run_tables s law p q m
           (earlier_parts g order z.timed.admitted.topological p q before) k)
       | inr is ↦ subst (λ p. Contains (known_at_end g order tables s p) m) (sym is) k
     ]
@@ -185,13 +186,13 @@ module _ (g : Graph) (urgency order : List ℕ) (frozen : List (Option ℕ)) (ro
       | inr (inl c) ↦
           let e : is_sent g x ≡ true = ap (is_sent_item g) c.3 ∙ (and_parts (is_sent_item g (Message c.0))
           (live g s.values c.0) (sym (ap (item_active g s.values) c.3) ∙ on)).0 in
-          known_by_end g order frozen tables given s law x m e
+          known_by_end g order frozen tables run_tables s law x m e
           (send_known x m l e on (from_send_of g order rows s z.timed.admitted.topological x m on
           (subst (λ i. Contains (carried_by_item g order rows s x i) m) c.3 j)))
       | inr (inr c) ↦
           let e : is_sent g x ≡ true = ap (is_sent_item g) c.3 ∙ (and_parts (is_sent_item g (Broadcast c.0))
           (active g s.values (process_of g c.0)) (sym (ap (item_active g s.values) c.3) ∙ on)).0 in
-          known_by_end g order frozen tables given s law x m e
+          known_by_end g order frozen tables run_tables s law x m e
           (send_known x m l e on (from_send_of g order rows s z.timed.admitted.topological x m on
           (subst (λ i. Contains (carried_by_item g order rows s x i) m) c.3 j)))
     ]

@@ -74,7 +74,7 @@ narrower_spoken k cube m rising i part within literals kept =
           ])
     ]
 
--- given carrying rows and the reach of the graph
+-- given: carrying rows and the reach of the graph
 -- `timed`: the graph is admitted, and `frozen` has its frozen times. `all`: each row carries no more than it may.
 -- `is`: r is the reach, the variables on which the time of an item may depend.
 module _ (g : Graph) (urgency order : List ℕ) (frozen : List (Option ℕ)) (timed : IsTimed g urgency order frozen)
@@ -163,6 +163,7 @@ module _ (g : Graph) (urgency order : List ℕ) (frozen : List (Option ℕ)) (ti
   SpeakOfReach bound = (y : ℕ) → IsEarlier g order bound y → (c : Column) → Contains (row_at rows y) c → (m : Literal) →
       Contains c.cube m → Contains (reach_of r y) m.variable
 
+  -- given: a scenario s, and a bound on places in the order: up to there the rows speak of the reach alone (`speak`)
   module _ (s : Scenario) (law : IsScenario g s) (bound : ℕ) (speak : SpeakOfReach bound) (m : Literal) where
     -- a literal from an earlier row is on a variable of that item's reach
     of_row : (y : ℕ) → IsEarlier g order bound y → FromRow g order rows s y m → Contains (reach_of r y) m.variable

@@ -16,10 +16,10 @@ use Rattle.cpg_run.specs.Carried.{row_at}
 use Rattle.cpg_run.proofs.AllRules.{all_rules}
 use Rattle.cpg_run.proofs.EntriesMerge.{every}
 use Rattle.cpg_run.specs.Carrying.{AreTablesCarrying, CarryingTablesAreLawful}
-use Rattle.cpg_run.proofs.CarryingKnown.{run_times, given, supported}
+use Rattle.cpg_run.proofs.CarryingKnown.{run_times, run_tables, supported}
 use Rattle.cpg_run.proofs.CarryingReach.{rows_in_reach}
 
--- given tables whose columns are carrying rows, and the reach of the graph
+-- given: tables whose columns are carrying rows, and the reach of the graph
 -- `z`: the columns of the tables are the rows, and each row carries no more than it may. `is`: r is the graph's
 -- reach, the variables on which the time of an item may depend.
 module _ (g : Graph) (urgency order : List ℕ) (frozen : List (Option ℕ)) (rows : List (List Column))
@@ -47,7 +47,7 @@ module _ (g : Graph) (urgency order : List ℕ) (frozen : List (Option ℕ)) (ro
 
   -- the tables keep all rules but the one on dues
   rules : (rule : Rule) → rule ≢ Rule.Due → Keeps rule g tables
-  rules = all_rules g order frozen tables (given g urgency order frozen rows tables z)
+  rules = all_rules g order frozen tables (run_tables g urgency order frozen rows tables z)
       (supported g urgency order frozen rows tables z)
 
   -- an item has no more columns than its reach has views, as its row is formed and keeps V1 and V2
@@ -63,6 +63,6 @@ carrying_tables_are_lawful g urgency order frozen rows tables r z is = record {
   exact = exact g urgency order frozen rows tables z r is;
   supported = supported g urgency order frozen rows tables z;
   rules = rules g urgency order frozen rows tables z r is;
-  dues = (run_tables_keep_rules g order frozen tables (given g urgency order frozen rows tables z)).due;
+  dues = (run_tables_keep_rules g order frozen tables (run_tables g urgency order frozen rows tables z)).due;
   views = within_views g urgency order frozen rows tables z r is;
 }

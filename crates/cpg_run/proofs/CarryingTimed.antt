@@ -21,7 +21,7 @@ use Rattle.cpg_run.specs.Carried.{row_at}
 use Rattle.cpg_run.specs.RowLaws.{IsTimed, HaveTimesOf}
 use Rattle.cpg_run.specs.Carrying.{AreCarrying}
 
--- given carrying rows
+-- given: carrying rows
 -- `timed`: the graph is admitted, and `frozen` has its frozen times. `all`: each row carries no more than it may.
 module _ (g : Graph) (urgency order : List ℕ) (frozen : List (Option ℕ)) (timed : IsTimed g urgency order frozen)
     (rows : List (List Column)) (all : AreCarrying g urgency order frozen rows) where

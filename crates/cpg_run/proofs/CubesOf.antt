@@ -31,6 +31,7 @@ use Rattle.cpg_run.specs.Rows.{IsCubeOf}
 
 -- ---- literals that all hold in a scenario
 
+-- given: a scenario u
 module _ (u : Scenario) where
   -- the first of two lists of literals holds if both hold together
   pub holds_left : (xs ys : List Literal) → matches (xs ++ ys) u ≡ true → matches xs u ≡ true
@@ -87,7 +88,7 @@ number_at_most g few s law v = elim (variable_or_not g v) [
 
 -- ---- what a cube of literals matches
 
--- given a cube of literals and a scenario
+-- given: a cube of literals and a scenario
 module _ (g : Graph) (few : process_count g ≤ 128) (literals cube : List Literal) (is : IsCubeOf g.faults literals cube)
     (s : Scenario) (law : IsScenario g s) where
   -- The cube matches each scenario in which the literals hold: the number of a variable is at least each low on it, so at least the
@@ -137,6 +138,7 @@ same_least g xs a b is other = same_lows g a b (λ v. is.low v ∙ sym (other.lo
 
 -- ---- there is one
 
+-- given: some literals, and the greatest fault count, k
 module _ (k : ℕ) (literals : List Literal) where
   -- the range that all literals on the variable leave it, as one literal: from the greatest low to the least high
   kept : ℕ → Literal

@@ -41,7 +41,7 @@ option_of (Some m) n c = elim (Contains-cases m [] n c) [
   | inr d ↦ absurd (Contains-nil n d)
 ]
 
--- no end is after the finish
+-- no process p ends after the finish of a run
 pub end_below : (g : Graph) (order : List ℕ) (frozen : List (Option ℕ)) (s : Scenario) (t : Times) →
     IsRun g order frozen s t → (p n : ℕ) → get_or t.ends p None ≡ Some n → n ≤ t.finish
 end_below g order frozen s t run p n e =
@@ -68,6 +68,7 @@ module _ (g : Graph) (order : List ℕ) (top : IsTopological g order) where
           ih (source g f) (omega (arith, input_goes_up g order top p f k))
           (source_in_order g order top f (inputs_parts g p f k).0)
 
+  -- given: the run t of a scenario s
   module _ (frozen : List (Option ℕ)) (s : Scenario) (t : Times) (run : IsRun g order frozen s t) where
     -- If a graph has processes, one of them ends at the finish. Some process is active and so has an end; the greatest end is
     -- then one of the list of ends, and so the end of the process at its place.

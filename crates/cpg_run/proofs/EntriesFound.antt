@@ -18,7 +18,7 @@ use Rattle.cpg_run.specs.Rows.{IsCubeOf, IsEntryIn, AreEntriesOf}
 use Rattle.cpg_run.proofs.CubesOf.{same_least}
 use Rattle.cpg_run.proofs.SameInRows.{only_one}
 
--- in a list without repeats, the element at place i is not among those before it
+-- in a list `xs` without repeats, the element at place i is not among those before it
 pub not_before_place : {X : Type 0} (xs : List X) (i : ℕ) (d : X) → AllPairs (λ x y. x ≢ y) xs → i < length xs →
     Contains (take i xs) (get_or xs i d) → ⊥
 not_before_place {X} xs i d apart l j =
@@ -28,7 +28,7 @@ not_before_place {X} xs i d apart l j =
     apart j.0 i d below l
     (get_or_default xs j.0 d x (omega (arith, below, l)) ∙ sym (get_or-take i xs j.0 x below) ∙ j.2)
 
--- given the rows and an item x, whose entries are found scenario by scenario
+-- given: the rows and an item x, whose entries are found scenario by scenario
 module _ (g : Graph) (order : List ℕ) (frozen : List (Option ℕ)) (rows : List (List Column)) (x : ℕ) where
   -- `entries` are the entries whose least scenarios are among those done: each is an entry, no two have the same least scenario,
   -- and every such entry's is there
@@ -52,6 +52,7 @@ module _ (g : Graph) (order : List ℕ) (frozen : List (Option ℕ)) (rows : Lis
     all = λ s e j. absurd (Contains-nil s j);
   }
 
+  -- given: the entries of the scenarios that are done (`so_far`), and a scenario s
   module _ (done : List Scenario) (entries : List Column) (so_far : AreEntriesAmong done entries) (s : Scenario) where
     -- a scenario that isn't the least of any entry in it adds none
     pass_over : ((e : Column) → IsEntryIn g order frozen rows x s e → lows g e.cube ≡ s → ⊥) →

@@ -32,11 +32,11 @@ use Rattle.cpg_run.proofs.SameSends.{carried_decides}
 
 -- ---- lists
 
--- a property of each element is one of all
+-- if P holds of each element of `xs`, it holds of all
 pub every : {X : Type 0} (P : X → Type 0) (xs : List X) → ((x : X) → Contains xs x → P x) → All P xs
 every P xs h k d l = h (get_or xs k d) (Contains-get_or xs k d l)
 
--- given a relation R between the elements of a list, and a test p
+-- given: a relation R between the elements of a list, and a test p
 module _ {X : Type 0} (R : X → X → Type 0) (p : X → Bool) where
   -- ys has at most one element, if all of them are of xs and pass, any two are related, and no two of xs that pass are
   two_at_most : (xs ys : List X) → ((y : X) → Contains ys y → Contains xs y × (p y ≡ true)) → AllPairs R ys →
@@ -65,7 +65,7 @@ the_one (y ∷ z ∷ xs) x l j = absurd (omega arith)
 
 -- ---- the cube of what is carried in a scenario
 
--- given an item whose earlier rows have the times of the runs
+-- given: an item whose earlier rows have the times of the runs
 -- `timed`: the graph is admitted, and `frozen` has its frozen times. `earlier`: the rows of the items before x have
 -- the times of the runs.
 module _ (g : Graph) (urgency order : List ℕ) (frozen : List (Option ℕ)) (rows : List (List Column)) (x : ℕ)
@@ -80,7 +80,7 @@ module _ (g : Graph) (urgency order : List ℕ) (frozen : List (Option ℕ)) (ro
       matches (carried g order rows s x) s ≡ true
   holds_here s on = carried_holds g order rows s timed.admitted.topological few x l on
 
-  -- given a scenario in which the item is active, and a cube of what is carried there
+  -- given: a scenario in which the item is active, and a cube of what is carried there
   -- `on`: the item is active in s. `is`: the cube has the ranges of the literals that are carried in s, and no
   -- others.
   module _ (s : Scenario) (law : IsScenario g s) (on : item_active g s.values (item_at g x) ≡ true)
@@ -129,7 +129,9 @@ module _ (g : Graph) (urgency order : List ℕ) (frozen : List (Option ℕ)) (ro
 
   -- ---- the entries
 
+  -- given: the entries of the item x
   module _ (entries : List Column) (are : AreEntriesOf g order frozen rows x entries) where
+    -- given: one of the entries, e
     module _ (e : Column) (j : Contains entries e) where
       -- the cube of an entry is one of the graph
       entry_known : IsCube g e.cube

@@ -28,7 +28,7 @@ within_order g order processes i is o count l =
     subst (λ n. p < n) count
     (from_order (length order) order o.all p (subst (λ ps. Contains ps p) is (Contains-get_or processes i 0 l)))
 
--- if each element of a list is related to all later ones, the elements at any two places are related
+-- if each element of `xs` is related by R to all later ones, so are the elements at any two places, i and then j
 rises_at : {X : Type 0} (R : X → X → Type 0) (xs : List X) → Rises R xs → (i j : ℕ) (d : X) → i < j → j < length xs →
     R (get_or xs i d) (get_or xs j d)
 rises_at R [] h i j d l m = absurd (omega arith)
@@ -85,11 +85,11 @@ module _ (g : Graph) (order : List ℕ) (topological : IsTopological g order) wh
       (λ p q k m l x y c d.
       let a = listed p x k c in
       let b = listed q y m d in
-      let before : place order (producer g x) < place order (producer g y) =
+      let earlier : place order (producer g x) < place order (producer g y) =
       omega (arith, l, ap (place order) a.by, ap (place order) b.by) in
       omega (
         arith,
-        sooner (place order (producer g x)) (place order (producer g y)) (phase (item_at g x)) (phases g) before
+        sooner (place order (producer g x)) (place order (producer g y)) (phase (item_at g x)) (phases g) earlier
             (phase_below g x a.within),
       ))
       (Rises-all_pairs (λ p q. place order p < place order q) order

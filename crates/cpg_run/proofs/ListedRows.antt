@@ -14,7 +14,7 @@ use Rattle.cpg_run.proofs.CarryingTimed.{carrying_times, never_columns}
 use Rattle.cpg_run.proofs.RowsTimed.{all_before, rows_times}
 use Rattle.cpg_run.specs.Carrying.{ContainsKept, IsCarryingRow, AreCarrying, ListedRowsCarry}
 
--- given the rows of groups of listed scenarios
+-- given: the rows of groups of listed scenarios
 -- `timed`: the graph is admitted, and `frozen` has its frozen times. `found`: each row is found from those before it,
 -- as the merge of its entries.
 module _ (g : Graph) (urgency order : List ℕ) (frozen : List (Option ℕ)) (rows : List (List Column))

@@ -22,7 +22,7 @@ use Rattle.cpg_run.proofs.Starts.{decided_in_run, start_is}
 use Rattle.cpg_run.proofs.Steps.{ready_other, ready_idle, ready_active, free_other, free_idle, free_here, knows_idle}
 use Rattle.cpg_run.proofs.Steps.{knows_active}
 
--- given all that is known before a place, and when the node there has heard what decides its process
+-- given: all that is known before a place, and when the node there has heard what decides its process
 -- `at`: process p is at place i. `on`, `long`, `far`: its node is one of the graph, and the two lists have an
 -- entry for each node. `a`: times, ends, ready times and free slots are those of the run before place i. `heard`: the
 -- greatest time at which the node hears a condition that decides p, by what is known.
@@ -64,7 +64,7 @@ module _ (g : Graph) (order : List ℕ) (topological : IsTopological g order) (f
         λ n k. free_idle g order topological frozen s t run i p l at n (get_or frees n 0) idle (a.slots_free n k);
   }
 
-  -- given a start of the process that is found from what holds before the place
+  -- given: a start of the process that is found from what holds before the place
   -- `acts`: the process is active. `ready_at`: its node is ready at the later of its ready time and `heard`. `found`:
   -- the start is the greatest of this, the release, the inputs known, and the frozen time.
   module _ (acts : active g s.values p ≡ true) (ready start : ℕ)
@@ -78,13 +78,14 @@ module _ (g : Graph) (order : List ℕ) (topological : IsTopological g order) (f
         ∙ start_is g order t i known a.knows topological s p l at frozen run acts (get_or readies (node_of g p) 0) heard
         (a.nodes_ready (node_of g p) on) is_heard
 
+    -- given: the end of p, which is its start and its duration with its fault count
     module _ (end : ℕ) (ends : end ≡ start + duration g p (fault_of s p)) where
       -- the end that is found is the end of the process in the run
       pub end_right : end ≡ end_in t p
       end_right = ends ∙ ap (λ n. n + duration g p (fault_of s p)) start_right
           ∙ sym (end_active g order frozen s t run p l acts)
 
-      -- given what is known once the start and the end are set
+      -- given: what is known once the start and the end are set
       -- `times_long`, `ends_long`: the lists have an entry for each item and each process. `started`, `ended`:
       -- `begun` is what was known, with the start and the end of p set.
       module _ (begun : Times) (times_long : length known.times ≡ item_count g)

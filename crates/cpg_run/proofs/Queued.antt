@@ -14,7 +14,7 @@ module _ (g : Graph) (order : List ℕ) where
   record GoesBefore (y x : ℕ) : Type 0 where
     sent : is_sent g y ≡ true
     home : home g y ≡ home g x
-    first : (comes_before order (producer g y) (producer g x) ≡ true) ⊎
+    sooner : (comes_before order (producer g y) (producer g x) ≡ true) ⊎
         ((producer g y ≡ producer g x) × (rank_of_item (item_at g y) < rank_of_item (item_at g x)))
 
   -- an item that is queued before x goes before it
@@ -25,7 +25,7 @@ module _ (g : Graph) (order : List ℕ) where
       record {
         sent = b.0;
         home = eqb-true _ _ b.1;
-        first = elim (or_cases (comes_before order (producer g y) (producer g x)) _ a.1) [
+        sooner = elim (or_cases (comes_before order (producer g y) (producer g x)) _ a.1) [
           | inl c ↦ inl c
           | inr c ↦ let d = and_parts (producer g y == producer g x) _ c in inr (eqb-true _ _ d.0, ltb-true _ _ d.1)
         ];
@@ -33,14 +33,14 @@ module _ (g : Graph) (order : List ℕ) where
 
   -- an item of the graph that goes before x is queued before it
   queued_by : (y x : ℕ) → GoesBefore y x → is_queued_before g order y x ≡ true
-  queued_by y x b = and_from _ _ (and_from _ _ b.sent (eq-eqb _ _ b.home)) (elim b.first [
+  queued_by y x b = and_from _ _ (and_from _ _ b.sent (eq-eqb _ _ b.home)) (elim b.sooner [
     | inl c ↦ or_left _ _ c
     | inr c ↦ or_right _ _ (and_from _ _ (eq-eqb _ _ c.0) (lt-ltb _ _ c.1))
   ])
 
   -- its producer is not later in the order
   place_of : (y x : ℕ) → GoesBefore y x → place order (producer g y) ≤ place order (producer g x)
-  place_of y x b = elim b.first [
+  place_of y x b = elim b.sooner [
     | inl c ↦ omega (arith, places_from_comes_before order (producer g y) (producer g x) c)
     | inr c ↦ omega (arith, ap (place order) c.0)
   ]
@@ -50,11 +50,11 @@ module _ (g : Graph) (order : List ℕ) where
   chain z y x a b = record {
     sent = a.sent;
     home = a.home ∙ b.home;
-    first = elim a.first [
+    sooner = elim a.sooner [
       | inl c ↦ inl (comes_before_from_places order (producer g z) (producer g x)
           (before_contains order (producer g z) (producer g y) c)
           (omega (arith, places_from_comes_before order (producer g z) (producer g y) c, place_of y x b)))
-      | inr c ↦ elim b.first [
+      | inr c ↦ elim b.sooner [
         | inl d ↦ inl (subst (λ p. comes_before order p (producer g x) ≡ true) (sym c.0) d)
         | inr d ↦ inr (c.0 ∙ d.0, omega (arith, c.1, d.1))
       ]

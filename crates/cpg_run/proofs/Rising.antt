@@ -71,7 +71,7 @@ module _ (base : ℕ) (g : Graph) (order : List ℕ) (frozen : List (Option ℕ)
     pub items : (x : ℕ) → x < item_count g → moment g order x < m → time_in t x ≤ bound base m
     pub ends : (p : ℕ) → p < process_count g → moment_of_end g order p < m → end_in t p ≤ bound base m
 
-  -- given a run under frozen times that are low
+  -- given: a run under frozen times that are low
   module _ (within : IsWithinLimits g) (topological : IsTopological g order) (lawful : IsScenario g s)
       (low : AreLow base g order frozen) (run : IsRun g order frozen s t) where
     -- a frame of an earlier moment arrives no later than a round (at most 16000000000) after the bound
@@ -79,6 +79,7 @@ module _ (base : ℕ) (g : Graph) (order : List ℕ) (frozen : List (Option ℕ)
         frame_there g t x ≤ bound base m + 16000000000
     frame_le m x a l h = omega (arith, a.items x l h, slot_length-le g (home g x), round-le g within)
 
+    -- given: a moment m before which all times are small (`a`), and a process p whose start is at m or sooner (`at`)
     module _ (m p : ℕ) (a : SmallBefore m) (at : place order p * phases g ≤ m) where
       -- an input of p is there by a round after the bound: a message is sent at an earlier moment, and any other input's source
       -- ends at one

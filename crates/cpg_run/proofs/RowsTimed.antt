@@ -14,7 +14,7 @@ use Rattle.cpg_run.proofs.EntriesMerge.{entries_times}
 
 -- ---- the rows of later processes may change
 
--- given two lists that have the same rows before an item's
+-- given: two lists that have the same rows before an item's
 -- `same`: both lists have the same rows of all items whose producers are before that of x in the order.
 module _ (g : Graph) (urgency order : List ℕ) (frozen : List (Option ℕ)) (timed : IsTimed g urgency order frozen)
     (rows others : List (List Column)) (x : ℕ) (l : x < item_count g)
@@ -63,7 +63,7 @@ module _ (g : Graph) (urgency order : List ℕ) (frozen : List (Option ℕ)) (ti
 
 -- ---- rows have the times of the runs
 
--- given rows and the frozen times of the graph
+-- given: rows and the frozen times of the graph
 -- `timed`: the graph is admitted, and `frozen` has its frozen times.
 module _ (g : Graph) (urgency order : List ℕ) (frozen : List (Option ℕ)) (timed : IsTimed g urgency order frozen)
     (rows : List (List Column)) where
@@ -95,6 +95,7 @@ module _ (g : Graph) (urgency order : List ℕ) (frozen : List (Option ℕ)) (ti
   row_times x l earlier is s t law run =
       is.merge.times s law ∙ entries_times g urgency order frozen rows x timed l earlier is.entries is.are s t law run
 
+  -- given: the row of each item, which is that of its entries
   module _ (all : AreRows g urgency order frozen rows) where
     -- all rows before a place have the times of the runs
     pub all_before : (bound : ℕ) → AreRowsBefore g order frozen bound rows

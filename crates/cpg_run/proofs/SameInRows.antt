@@ -36,7 +36,7 @@ only_one x y j = elim (Contains-cases x [] y j) [ inl e ↦ e | inr none ↦ abs
 matching_in : List (List Column) → Scenario → ℕ → List Column
 matching_in rows s y = filter (λ (c : Column). matches c.cube s) (row_at rows y)
 
--- given a row with the times of the runs
+-- given: a row with the times of the runs
 -- `times`: in each scenario the columns of y's row that match have the time of the run, and none matches if it has
 -- none.
 module _ (g : Graph) (order : List ℕ) (frozen : List (Option ℕ)) (rows : List (List Column)) (y : ℕ)
@@ -80,17 +80,17 @@ module _ (g : Graph) (order : List ℕ) (frozen : List (Option ℕ)) (rows : Lis
         tells = ap (flat_map (λ (c : Column). c.cube)) r.1 ∙ append-nil r.0.cube;
       }
 
-  -- given two scenarios with their runs
+  -- given: the scenarios s and u with their runs t and w
   module _ (s u : Scenario) (ls : IsScenario g s) (lu : IsScenario g u) (t w : Times) (run : IsRun g order frozen s t)
       (other : IsRun g order frozen u w) where
-    -- the item is active in the second scenario too, at the same time, and its row tells the same
+    -- item y is active in u too, at the same time as in s, and its row tells the same
     pub record SameTold : Type 0 where
       pub acts : item_active g u.values (item_at g y) ≡ true
       pub time : get_or t.times y None ≡ get_or w.times y None
       pub tells : carried_by_row rows u y ≡ carried_by_row rows s y
 
-    -- This is so if what the row tells in the first scenario holds in the second. The column that matches in the first then matches
-    -- in the second too, and as only one does, it is the one there, with the same time and literals.
+    -- This is so if what the row tells in s holds in u. The column that matches in s then matches in u too, and as only one
+    -- does, it is the one there, with the same time and literals.
     pub told_alike : item_active g s.values (item_at g y) ≡ true → matches (carried_by_row rows s y) u ≡ true → SameTold
     told_alike on h =
         let m = the_match s ls t run on in

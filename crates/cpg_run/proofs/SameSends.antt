@@ -34,7 +34,7 @@ use Rattle.cpg_run.specs.Carried.{carried_at_send, carried_by_item, carried}
 use Rattle.cpg_run.specs.RowLaws.{CarriedDecides}
 use Rattle.cpg_run.proofs.CubesOf.{holds_left, holds_right, holds_each, holds_both, holds_all, same_numbers}
 use Rattle.cpg_run.proofs.Queued.{producer_no_later, queue_chain}
-use Rattle.cpg_run.proofs.SameStarts.{Two, SameStart, start_alike, end_is_same, end_told_same, active_is_same}
+use Rattle.cpg_run.proofs.SameStarts.{HaveRuns, SameStart, start_alike, end_is_same, end_told_same, active_is_same}
 use Rattle.cpg_run.proofs.SameStarts.{decided_is_same, frozen_time_same, free_time_same}
 
 -- an active item's producer is active
@@ -56,12 +56,12 @@ value_in_source g e c wanted h at is =
     (sym (subst (λ q. condition_of g q ≡ Some c) at (condition_of_process_of g c h)))
     (Contains-first (value_variable c) []))
 
--- given two scenarios with their runs, and rows with the times of the runs before a place
+-- given: two scenarios with their runs, and rows with the times of the runs before a place
 -- `z` has the facts on both: s and u are scenarios, t and w are their runs under the frozen times, and the rows up to
 -- the place `bound` have the times of the runs.
 module _ (g : Graph) (urgency order : List ℕ) (frozen : List (Option ℕ)) (rows : List (List Column)) (bound : ℕ)
     (s u : Scenario) (t w : Times)
-    (z : Two g urgency order frozen rows bound s u t w) where
+    (z : HaveRuns g urgency order frozen rows bound s u t w) where
   -- ---- whether an item is sent
 
   -- the value of its source lets an edge through in both scenarios or in neither, if the value in s holds in u; an edge without a
@@ -78,7 +78,7 @@ module _ (g : Graph) (urgency order : List ℕ) (frozen : List (Option ℕ)) (ro
       (Some wanted) is
 
   -- an item is active in both scenarios or in neither, if its producer is and, when that is active, the value by which the item is
-  -- sent in the first holds in the second: by its kind
+  -- sent in s holds in u: by its kind
   item_is_same : (x : ℕ) → x < item_count g → active g s.values (producer g x) ≡ active g u.values (producer g x) →
       (active g s.values (producer g x) ≡ true → matches (sent_by_value g s x) u ≡ true) →
       item_active g s.values (item_at g x) ≡ item_active g u.values (item_at g x)
@@ -148,7 +148,7 @@ module _ (g : Graph) (urgency order : List ℕ) (frozen : List (Option ℕ)) (ro
             then carried_at_end g order rows s (producer g y) else []) h);
       }
 
-  -- if what an item leaves holds in the second scenario, the item is active in both scenarios or in neither
+  -- if what an item leaves holds in u, the item is active in both scenarios or in neither
   leaves_active : (y : ℕ) → y < item_count g → Leaves y →
       item_active g s.values (item_at g y) ≡ item_active g u.values (item_at g y)
   leaves_active y l h =
@@ -161,21 +161,21 @@ module _ (g : Graph) (urgency order : List ℕ) (frozen : List (Option ℕ)) (ro
   end_count p h = from_all (holds u) (number_known s p ∷ []) (number_known s p) (holds_right u
       (carried_at_start g order rows s p) (number_known s p ∷ []) h) (Contains-first (number_known s p) [])
 
-  -- if what is carried beside an end holds in the second scenario, the start is the same in both
+  -- if what is carried beside an end holds in u, the start is the same in both
   end_start : (p : ℕ) → p < process_count g → place order p ≤ bound → active g s.values p ≡ true →
       matches (carried_at_end g order rows s p) u ≡ true →
       SameStart g urgency order frozen rows bound s u t w z p
   end_start p l at on h = start_alike g urgency order frozen rows bound s u t w z p l at on
       (holds_left u (carried_at_start g order rows s p) (number_known s p ∷ []) h)
 
-  -- if what is carried beside an end holds in the second scenario, the same is carried there
+  -- if what is carried beside an end holds in u, the same is carried there
   end_told : (p : ℕ) → p < process_count g → place order p ≤ bound → active g s.values p ≡ true →
       matches (carried_at_end g order rows s p) u ≡ true →
       carried_at_end g order rows u p ≡ carried_at_end g order rows s p
   end_told p l at on h =
       end_told_same g urgency order frozen rows bound s u t w z p (end_start p l at on h) (end_count p h)
 
-  -- what an item leaves to those behind it is the same in both, if its parts hold in the second: part by part
+  -- what an item leaves to those behind it is the same in both, if its parts hold in u: part by part
   leaves_same : (y : ℕ) → y < item_count g → place order (producer g y) ≤ bound → Leaves y →
       queued g order rows u y ≡ queued g order rows s y
   leaves_same y l at h =
@@ -198,7 +198,7 @@ module _ (g : Graph) (urgency order : List ℕ) (frozen : List (Option ℕ)) (ro
 
   -- ---- a send
 
-  -- the item is sent in the second scenario too, at the same time
+  -- the item is sent in u too, at the same time
   pub record SameSend (x : ℕ) : Type 0 where
     pub acts : item_active g u.values (item_at g x) ≡ true
     pub time : get_or t.times x None ≡ get_or w.times x None
@@ -206,8 +206,8 @@ module _ (g : Graph) (urgency order : List ℕ) (frozen : List (Option ℕ)) (ro
     pub told : carried_at_send g order rows u x ≡ carried_at_send g order rows s x
 
   -- each sent item with a moment before n is the same if it is active in s and what is carried beside it there holds in u
-  Sooner : ℕ → Type 0
-  Sooner n = (y : ℕ) → moment g order y < n → y < item_count g → is_sent g y ≡ true →
+  SameBefore : ℕ → Type 0
+  SameBefore n = (y : ℕ) → moment g order y < n → y < item_count g → is_sent g y ≡ true →
       place order (producer g y) ≤ bound → item_active g s.values (item_at g y) ≡ true →
       matches (carried_at_send g order rows s y) u ≡ true → SameSend y
 
@@ -225,7 +225,7 @@ module _ (g : Graph) (urgency order : List ℕ) (frozen : List (Option ℕ)) (ro
       else flat_map (queued g order rows s) (queued_before g order x) ++ carried_at_end g order rows s (producer g x))
       (sent_by_value g s x) h
 
-  -- if what is carried beside a send that is not frozen holds in the second scenario, so does what the queue left,
+  -- if what is carried beside a send that is not frozen holds in u, so does what the queue left,
   -- and what is carried beside the producer's end
   free_front : (x : ℕ) → is_frozen g x ≡ false → matches (carried_at_send g order rows s x) u ≡ true →
       matches (flat_map (queued g order rows s) (queued_before g order x)
@@ -246,7 +246,7 @@ module _ (g : Graph) (urgency order : List ℕ) (frozen : List (Option ℕ)) (ro
   end_holds x free h = holds_right u (flat_map (queued g order rows s) (queued_before g order x))
       (carried_at_end g order rows s (producer g x)) (free_front x free h)
 
-  -- if what is carried beside a frozen send holds in the second scenario, the send is the same in both
+  -- if what is carried beside a frozen send holds in u, the send is the same in both
   frozen_send : (x : ℕ) → x < item_count g → is_frozen g x ≡ true → item_active g s.values (item_at g x) ≡ true →
       matches (carried_at_send g order rows s x) u ≡ true → SameSend x
   frozen_send x l f on h =
@@ -261,13 +261,13 @@ module _ (g : Graph) (urgency order : List ℕ) (frozen : List (Option ℕ)) (ro
             ∙ sym (cond-true _ _ _ f)) (value_told_same x (value_of_send x h));
       }
 
-  -- given a send that is not frozen, such that what is carried beside it holds in the second scenario
+  -- given: a send that is not frozen, such that what is carried beside it holds in u
   -- `sent`: x is an item that is sent. `at`: its producer is at the place `bound` or before it. `free`: it isn't frozen.
   -- `on`: it is active in s. `h`: what is carried beside it in s holds in u. `sooner`: the theorem holds for earlier
   -- moments.
   module _ (x : ℕ) (within : x < item_count g) (sent : is_sent g x ≡ true) (at : place order (producer g x) ≤ bound)
       (free : is_frozen g x ≡ false) (on : item_active g s.values (item_at g x) ≡ true)
-      (h : matches (carried_at_send g order rows s x) u ≡ true) (sooner : Sooner (moment g order x)) where
+      (h : matches (carried_at_send g order rows s x) u ≡ true) (sooner : SameBefore (moment g order x)) where
     -- each part of what an item before x in the queue leaves holds in u
     leaves : (y : ℕ) → Contains (queued_before g order x) y → Leaves y
     leaves y j = leaves_parts y (queued_holds x free h y j)
@@ -295,7 +295,7 @@ module _ (g : Graph) (urgency order : List ℕ) (frozen : List (Option ℕ)) (ro
     -- an active item before x in the queue has the same time in both
     queued_same : (y : ℕ) → Contains (queued_before g order x) y → item_active g s.values (item_at g y) ≡ true →
         get_or t.times y None ≡ get_or w.times y None
-    unfolding Sooner
+    unfolding SameBefore
     queued_same y j acts = let q = queued_parts g order z.timed.admitted.topological x y within sent j in
         (sooner y q.less q.within q.sent (omega (arith, producer_no_later g order x y j, at)) acts
         (carried_before y j acts)).time
@@ -308,7 +308,7 @@ module _ (g : Graph) (urgency order : List ℕ) (frozen : List (Option ℕ)) (ro
     producer_on : active g s.values (producer g x) ≡ true
     producer_on = producer_active g s.values (item_at g x) on
 
-    -- the producer has the same start in the second scenario
+    -- the producer has the same start in u
     start : SameStart g urgency order frozen rows bound s u t w z (producer g x)
     start = end_start (producer g x) producer_within at producer_on (end_holds x free h)
 
@@ -336,8 +336,8 @@ module _ (g : Graph) (urgency order : List ℕ) (frozen : List (Option ℕ)) (ro
         record {
           acts = also;
           time = free_time_same g urgency order frozen rows bound s u t w z x within on also
-              (unfrozen_sent g order frozen s t z.run x sent ∙ ap greatest bounds_same
-              ∙ sym (unfrozen_sent g order frozen u w z.other x sent));
+              (unfrozen_sent g order frozen s t z.run_t x sent ∙ ap greatest bounds_same
+              ∙ sym (unfrozen_sent g order frozen u w z.run_w x sent));
           told = ap₂ ◌++◌
               (cond-false _ _ _ free
               ∙ ap₂ ◌++◌
@@ -349,25 +349,25 @@ module _ (g : Graph) (urgency order : List ℕ) (frozen : List (Option ℕ)) (ro
               (value_told_same x (value_of_send x h));
         }
 
-  -- `Sooner n` for each n, by induction: a send that isn't frozen rests on those of earlier moments
-  sends_below : (n : ℕ) → Sooner n
-  unfolding Sooner
+  -- `SameBefore n` for each n, by induction: a send that isn't frozen rests on those of earlier moments
+  sends_below : (n : ℕ) → SameBefore n
+  unfolding SameBefore
   sends_below zero y b l e at on h = absurd (omega (arith, b))
   sends_below (suc n) y b l e at on h = elim (cases_Bool (is_frozen g y)) [
     | inl f ↦ frozen_send y l f on h
     | inr free ↦ free_send y l e at free on h (λ v c. sends_below n v (omega (arith, b, c)))
   ]
 
-  -- if what is carried beside a send holds in the second scenario, the send is the same in both
+  -- if what is carried beside a send holds in u, the send is the same in both
   send_alike : (x : ℕ) → x < item_count g → is_sent g x ≡ true → place order (producer g x) ≤ bound →
       item_active g s.values (item_at g x) ≡ true →
       matches (carried_at_send g order rows s x) u ≡ true → SameSend x
-  unfolding Sooner
+  unfolding SameBefore
   send_alike x l e at on h = sends_below (suc (moment g order x)) x (omega arith) l e at on h
 
   -- ---- each item
 
-  -- the item is active in the second scenario too, at the same time
+  -- the item is active in u too, at the same time
   pub record SameItem (x : ℕ) : Type 0 where
     pub acts : item_active g u.values (item_at g x) ≡ true
     pub time : get_or t.times x None ≡ get_or w.times x None
@@ -386,7 +386,7 @@ module _ (g : Graph) (urgency order : List ℕ) (frozen : List (Option ℕ)) (ro
         ∙ sym (ap (carried_by_item g order rows s x) item ∙ b);
   }
 
-  -- if what is carried beside an item in the first scenario holds in the second, the item is the same in both: by whether it is a
+  -- if what is carried beside an item in s holds in u, the item is the same in both: by whether it is a
   -- start, a message or a broadcast
   pub item_alike : (x : ℕ) → x < item_count g → place order (producer g x) ≤ bound →
       item_active g s.values (item_at g x) ≡ true → matches (carried g order rows s x) u ≡ true → SameItem x
@@ -417,9 +417,9 @@ module _ (g : Graph) (urgency order : List ℕ) (frozen : List (Option ℕ)) (ro
 pub carried_decides : CarriedDecides
 carried_decides g urgency order frozen rows s u x timed l earlier ls lu on h =
     let two : (t w : Times) → IsRun g order frozen s t → IsRun g order frozen u w →
-    Two g urgency order frozen rows (place order (producer g x)) s u t w =
+    HaveRuns g urgency order frozen rows (place order (producer g x)) s u t w =
     λ t w run other.
-    record { timed = timed; times = earlier.times; first = ls; second = lu; run = run; other = other } in
+    record { timed = timed; times = earlier.times; lawful_s = ls; lawful_u = lu; run_t = run; run_w = other } in
     let r = a_run g order frozen s timed.admitted.topological in
     let q = a_run g order frozen u timed.admitted.topological in
     let same = item_alike g urgency order frozen rows (place order (producer g x)) s u r.0 q.0 (two r.0 q.0 r.1 q.1) x l

@@ -51,23 +51,23 @@ same_filter_at p q xs e x j = same_truth (p x) (q x)
     (λ h. (Contains-filter_parts q xs x (subst (λ ys. Contains ys x) e (Contains-filter p xs x h j))).1)
     (λ h. (Contains-filter_parts p xs x (subst (λ ys. Contains ys x) (sym e) (Contains-filter q xs x h j))).1)
 
--- What the laws on two scenarios start from: the frozen times of an admitted graph (`timed`), rows that have the times of the runs
--- for all items of processes before `bound` (`times`), and the runs of both scenarios.
-pub record Two (g : Graph) (urgency order : List ℕ) (frozen : List (Option ℕ)) (rows : List (List Column)) (bound : ℕ)
+-- What the laws on two scenarios start from: the frozen times of an admitted graph (`timed`), rows that have the times of
+-- the runs for all items of processes before `bound` (`times`), and the runs t and w of the scenarios s and u.
+pub record HaveRuns (g : Graph) (urgency order : List ℕ) (frozen : List (Option ℕ)) (rows : List (List Column)) (bound : ℕ)
     (s u : Scenario) (t w : Times) : Type 0 where
   pub timed : IsTimed g urgency order frozen
   pub times : (y : ℕ) → IsEarlier g order bound y → HaveTimesOf g order frozen y (row_at rows y)
-  pub first : IsScenario g s
-  pub second : IsScenario g u
-  pub run : IsRun g order frozen s t
-  pub other : IsRun g order frozen u w
+  pub lawful_s : IsScenario g s
+  pub lawful_u : IsScenario g u
+  pub run_t : IsRun g order frozen s t
+  pub run_w : IsRun g order frozen u w
 
--- given two scenarios with their runs, and rows with the times of the runs before a place
+-- given: two scenarios with their runs, and rows with the times of the runs before a place
 -- `z` has the facts on both: s and u are scenarios, t and w are their runs under the frozen times, and the rows up to
 -- the place `bound` have the times of the runs.
 module _ (g : Graph) (urgency order : List ℕ) (frozen : List (Option ℕ)) (rows : List (List Column)) (bound : ℕ)
     (s u : Scenario) (t w : Times)
-    (z : Two g urgency order frozen rows bound s u t w) where
+    (z : HaveRuns g urgency order frozen rows bound s u t w) where
   -- what the graph is admitted with
   k : Admitted g urgency order
   k = z.timed.admitted
@@ -78,31 +78,32 @@ module _ (g : Graph) (urgency order : List ℕ) (frozen : List (Option ℕ)) (ro
       item_active g u.values (item_at g x) ≡ true →
       get_or t.times x None ≡ get_or w.times x None
   frozen_time_same x l f on also =
-      has_time g order frozen s t z.run x l on
-      ∙ sym (has_frozen_time g order frozen z.timed.frozen_times s z.first t z.run x l f on)
-      ∙ has_frozen_time g order frozen z.timed.frozen_times u z.second w z.other x l f also
-      ∙ sym (has_time g order frozen u w z.other x l also)
+      has_time g order frozen s t z.run_t x l on
+      ∙ sym (has_frozen_time g order frozen z.timed.frozen_times s z.lawful_s t z.run_t x l f on)
+      ∙ has_frozen_time g order frozen z.timed.frozen_times u z.lawful_u w z.run_w x l f also
+      ∙ sym (has_time g order frozen u w z.run_w x l also)
 
   -- an item that is active in both has the same time if its bounds are the same
   pub free_time_same : (x : ℕ) → x < item_count g → item_active g s.values (item_at g x) ≡ true →
       item_active g u.values (item_at g x) ≡ true →
       unfrozen_time g order s t x ≡ unfrozen_time g order u w x → get_or t.times x None ≡ get_or w.times x None
-  free_time_same x l on also e = time_active g order frozen s t z.run x l on
+  free_time_same x l on also e = time_active g order frozen s t z.run_t x l on
       ∙ ap (λ n. Some (greatest (n ∷ option_to_list (get_or frozen x None)))) e ∙
-      sym (time_active g order frozen u w z.other x l also)
+      sym (time_active g order frozen u w z.run_w x l also)
 
   -- if y is an item of a process before the bound, it has the same time in both scenarios, and its row carries the same
   Told : ℕ → Type 0
   Told y = (e : IsEarlier g order bound y) →
-      SameTold g order frozen rows y e.0 (z.times y e) s u z.first z.second t w z.run z.other
+      SameTold g order frozen rows y e.0 (z.times y e) s u z.lawful_s z.lawful_u t w z.run_t z.run_w
 
   -- this holds if y is active in s and what its row carries there holds in u
   told : (y : ℕ) → item_active g s.values (item_at g y) ≡ true → matches (carried_by_row rows s y) u ≡ true → Told y
   unfolding Told
-  told y on h e = told_alike g order frozen rows y e.0 (z.times y e) s u z.first z.second t w z.run z.other on h
+  told y on h e = told_alike g order frozen rows y e.0 (z.times y e) s u z.lawful_s z.lawful_u t w z.run_t z.run_w on h
 
   -- ---- if what decides a process holds
 
+  -- given: a process p, and that what decides it in s holds in u (`d`)
   module _ (p : ℕ) (d : matches (decided g s p) u ≡ true) where
     -- the variable of a condition that decides the process has the same number in both
     value_same : (c : ℕ) → Contains (deciding g s.values p) c →
@@ -121,7 +122,7 @@ module _ (g : Graph) (urgency order : List ℕ) (frozen : List (Option ℕ)) (ro
     -- the process has the same activation in both
     activation_is_same : activation g s.values p ≡ activation g u.values p
     unfolding k
-    activation_is_same = activation_same g urgency k.urgent p s.values u.values z.first.values z.second.values agrees
+    activation_is_same = activation_same g urgency k.urgent p s.values u.values z.lawful_s.values z.lawful_u.values agrees
 
     -- the process is active in both scenarios or in neither
     pub active_is_same : active g s.values p ≡ active g u.values p
@@ -151,6 +152,7 @@ module _ (g : Graph) (urgency order : List ℕ) (frozen : List (Option ℕ)) (ro
                 (urgency_is_topological g k.formed order k.topological urgency k.urgent) s.values p c l r.1,
           )
 
+      -- given: p stands before the place `bound` or at it, so the rows of all that comes before p have the times of the runs
       module _ (at : place order p ≤ bound) where
         -- if what p hears in s of the conditions that decide it holds in u, it hears the same there
         module _ (h : matches (heard g rows s p) u ≡ true) where
@@ -206,6 +208,7 @@ module _ (g : Graph) (urgency order : List ℕ) (frozen : List (Option ℕ)) (ro
 
         -- ---- its inputs, if it is active
 
+        -- given: p is active in s
         module _ (on : active g s.values p ≡ true) where
           -- the same inputs of the process are live
           live_is_same : filter (live g s.values) (inputs g p) ≡ filter (live g u.values) (inputs g p)
@@ -215,7 +218,7 @@ module _ (g : Graph) (urgency order : List ℕ) (frozen : List (Option ℕ)) (ro
               let mine = activation_is g order k.topological s.values p some in
               let its = activation_is g order k.topological u.values p some in
               same_live_inputs (process_at g p).join (inputs g p) (live g s.values) (live g u.values)
-              (λ j. k.joins p s.values within j z.first.values) (λ j. k.joins p u.values within j z.second.values)
+              (λ j. k.joins p s.values within j z.lawful_s.values) (λ j. k.joins p u.values within j z.lawful_u.values)
               (sym mine ∙ activation_is_same ∙ its)
               (ap is_active (sym mine) ∙ on)
 
@@ -233,6 +236,7 @@ module _ (g : Graph) (urgency order : List ℕ) (frozen : List (Option ℕ)) (ro
           unfolding k
           receives_at e j = let r = receives_earlier g order k.topological p e j in (r.0, omega (arith, r.1, at))
 
+          -- given: what the messages to p told in s holds in u (`m`)
           module _ (m : matches (received g rows s p) u ≡ true) where
             -- the message of a live input tells in both scenarios
             receives : (e : ℕ) → Contains (inputs g p) e → is_message g e ≡ true → live g s.values e ≡ true →
@@ -259,9 +263,9 @@ module _ (g : Graph) (urgency order : List ℕ) (frozen : List (Option ℕ)) (ro
                   | inl v ↦ (receives e j is v at).tells
                   | inr off ↦
                       tells_nothing g order frozen rows (message_item g e) at.0 (z.times (message_item g e) at) u
-                      z.second w z.other (message_acts u.values e l is ∙ sym (live_at e j) ∙ off)
+                      z.lawful_u w z.run_w (message_acts u.values e l is ∙ sym (live_at e j) ∙ off)
                       ∙ sym (tells_nothing g order frozen rows (message_item g e) at.0
-                      (z.times (message_item g e) at) s z.first t z.run (message_acts s.values e l is ∙ off))
+                      (z.times (message_item g e) at) s z.lawful_s t z.run_t (message_acts s.values e l is ∙ off))
                 ]
 
             -- the process receives the same in both
@@ -293,9 +297,9 @@ module _ (g : Graph) (urgency order : List ℕ) (frozen : List (Option ℕ)) (ro
   pub end_is_same : (p : ℕ) → p < process_count g → active g s.values p ≡ true → SameStart p →
       holds u (number_known s p) ≡ true →
       end_in t p ≡ end_in w p
-  end_is_same p l on same h = end_active g order frozen s t z.run p l on
+  end_is_same p l on same h = end_active g order frozen s t z.run_t p l on
       ∙ ap₂ (λ o f. unwrap_or o 0 + duration g p f) same.time (count_same p l h)
-      ∙ sym (end_active g order frozen u w z.other p l same.acts)
+      ∙ sym (end_active g order frozen u w z.run_w p l same.acts)
 
   -- the same is carried beside the end of p in both, if its fault count is the same too
   pub end_told_same : (p : ℕ) → SameStart p → holds u (number_known s p) ≡ true →
@@ -332,13 +336,13 @@ module _ (g : Graph) (urgency order : List ℕ) (frozen : List (Option ℕ)) (ro
       (holds_right u (if (process_at g q).frozen then [] else received g rows s q) (number_known s q ∷ []) h)
       (Contains-first (number_known s q) [])
 
-  -- if what an execution that is not frozen adds holds in the second scenario, so does what the messages to it told
+  -- if what an execution that is not frozen adds holds in u, so does what the messages to it told
   executed_received : (q : ℕ) → (process_at g q).frozen ≡ false → matches (executed g rows s q) u ≡ true →
       matches (received g rows s q) u ≡ true
   executed_received q free h = subst (λ b. matches (if b then [] else received g rows s q) u ≡ true) free
       (holds_left u (if (process_at g q).frozen then [] else received g rows s q) (number_known s q ∷ []) h)
 
-  -- what an execution adds is the same in both if it holds in the second
+  -- what an execution adds is the same in both if it holds in u
   executed_is_same : (q : ℕ) → q < process_count g → place order q ≤ bound → Passes q → active g s.values q ≡ true →
       executed g rows u q ≡ executed g rows s q
   executed_is_same q l at h on =
@@ -351,7 +355,7 @@ module _ (g : Graph) (urgency order : List ℕ) (frozen : List (Option ℕ)) (ro
             ∙ sym (cond-false _ _ _ free)
       ])
 
-  -- what a node carries on from a process is the same in both if it holds in the second
+  -- what a node carries on from a process is the same in both if it holds in u
   passed_is_same : (q : ℕ) → q < process_count g → place order q ≤ bound → Passes q →
       passed g rows u q ≡ passed g rows s q
   passed_is_same q l at h = ap₂ ◌++◌
@@ -380,7 +384,7 @@ module _ (g : Graph) (urgency order : List ℕ) (frozen : List (Option ℕ)) (ro
     -- what the messages to p told
     received : matches (received g rows s p) u ≡ true
 
-  -- if what is carried beside a start that is not frozen holds in the second scenario, its parts hold together
+  -- if what is carried beside a start that is not frozen holds in u, its parts hold together
   free_parts : (p : ℕ) → (process_at g p).frozen ≡ false → matches (carried_at_start g order rows s p) u ≡ true →
       matches (flat_map (passed g rows s) (before_on_node g order p) ++ decided g s p ++ heard g rows s p
       ++ received g rows s p) u ≡ true
@@ -398,7 +402,7 @@ module _ (g : Graph) (urgency order : List ℕ) (frozen : List (Option ℕ)) (ro
       (holds_both u (flat_map (passed g rows s) (before_on_node g order p) ++ decided g s p) (heard g rows s p)
       (holds_both u (flat_map (passed g rows s) (before_on_node g order p)) (decided g s p) a b) c) d)
 
-  -- what a process before it on its node carries on holds in the second scenario
+  -- what a process before it on its node carries on holds in u
   passes_at : (p : ℕ) → (process_at g p).frozen ≡ false → matches (carried_at_start g order rows s p) u ≡ true →
       (q : ℕ) → Contains (before_on_node g order p) q →
       matches (passed g rows s q) u ≡ true
@@ -427,7 +431,7 @@ module _ (g : Graph) (urgency order : List ℕ) (frozen : List (Option ℕ)) (ro
             (received g rows s p) (free_parts p free h);
       }
 
-  -- given a start that is not frozen, such that what is carried beside it holds in the second scenario
+  -- given: a start that is not frozen, such that what is carried beside it holds in u
   -- `at`: p is at the place `bound` or before it. `free`: its start isn't frozen. `on`: it is active in s. `h`: what is
   -- carried beside its start in s holds in u. `earlier`: the theorem holds for the processes before p.
   module _ (p : ℕ) (within : p < process_count g) (at : place order p ≤ bound) (free : (process_at g p).frozen ≡ false)
@@ -572,7 +576,7 @@ module _ (g : Graph) (urgency order : List ℕ) (frozen : List (Option ℕ)) (ro
 
   -- ---- each start
 
-  -- if what is carried beside a frozen start holds in the second scenario, the start is the same in both
+  -- if what is carried beside a frozen start holds in u, the start is the same in both
   frozen_start : (p : ℕ) → p < process_count g → (process_at g p).frozen ≡ true → active g s.values p ≡ true →
       matches (carried_at_start g order rows s p) u ≡ true → SameStart p
   frozen_start p l f on h =
@@ -596,7 +600,7 @@ module _ (g : Graph) (urgency order : List ℕ) (frozen : List (Option ℕ)) (ro
         (λ r c. starts_below n (omega (arith, m)) r (omega (arith, b, c)))
   ]
 
-  -- if what is carried beside a start holds in the second scenario, the start is the same in both
+  -- if what is carried beside a start holds in u, the start is the same in both
   pub start_alike : (p : ℕ) → p < process_count g → place order p ≤ bound → active g s.values p ≡ true →
       matches (carried_at_start g order rows s p) u ≡ true → SameStart p
   unfolding Before

@@ -23,6 +23,7 @@ many_nodes a b n h k other = elim (cases_order a b) [
 ]
 
 module _ (g : Graph) where
+  -- given: each node that sends has a slot
   module _ (slots : HasSenderSlots g) where
     -- the node that sends a message has a slot
     pub message_slot : (e : ℕ) → e < edge_count g → is_message g e ≡ true → HasSlot g (node_of g (source g e))
@@ -39,6 +40,7 @@ module _ (g : Graph) where
     pub queued_slot : (p x : ℕ) → Contains (queue_of g p) x → HasSlot g (node_of g p)
     queued_slot p x c = let q = in_queue g p x c in subst (λ r. HasSlot g (node_of g r)) q.by (slots x q.within q.sent)
 
+  -- given: an outcome (`values`), and an item x that p sends
   module _ (values : List Bool) (p x : ℕ) (queued : Contains (queue_of g p) x) where
     -- a broadcast in the queue of an active process is active: the items from this number on are broadcasts
     pub broadcast_active : active g values p ≡ true → process_count g + edge_count g ≤ x →

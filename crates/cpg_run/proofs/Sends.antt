@@ -62,12 +62,13 @@ pub Contains-take : (n : ℕ) (xs : List ℕ) (x : ℕ) → Contains (take n xs)
 Contains-take n xs x c =
     subst (λ ys. Contains ys x) (take-append-drop n xs) (Contains-append_left (take n xs) (drop n xs) x c)
 
--- given a process under a topological order
+-- given: a process under a topological order
 -- the queue of p has the items that p sends over the bus, in the order in which they are sent
 module _ (g : Graph) (order : List ℕ) (topological : IsTopological g order) (s : Scenario) (p : ℕ)
     (l : p < process_count g) where
   -- ---- what a node has sent before an item
 
+  -- given: a place k of p's queue
   module _ (k : ℕ) (inside : k < length (queue_of g p)) where
     -- the item at place k of the queue
     abbrev here : ℕ
@@ -109,10 +110,10 @@ module _ (g : Graph) (order : List ℕ) (topological : IsTopological g order) (s
           | inl less ↦ or_left _ _ (comes_before_from_places order (producer g y) (producer g here)
               (Contains-order (process_count g) order topological.all (producer g y)
               (producer_in_range g order topological y h.0.within)) (omega (arith, ap (place order) x.by)))
-          | inr first ↦
-              let inq : Contains (queue_of g p) y = Contains-take k (queue_of g p) y first in
+          | inr among ↦
+              let inq : Contains (queue_of g p) y = Contains-take k (queue_of g p) y among in
               or_right _ _ (and_from _ _ (eq-eqb _ _ ((in_queue g p y inq).by ∙ sym x.by))
-              (lt-ltb _ _ (below_first (rank_at g) (queue_of g p) (queue_rises g p) k inside y first)))
+              (lt-ltb _ _ (below_first (rank_at g) (queue_of g p) (queue_rises g p) k inside y among)))
         ]))
 
     -- the item at place k is not among the first k
@@ -121,7 +122,7 @@ module _ (g : Graph) (order : List ℕ) (topological : IsTopological g order) (s
 
     -- ---- when it is sent
 
-    -- given an active item, and the time from which the slots are free
+    -- given: an active item, and the time from which the slots are free
     -- `run`: t is the run of the scenario. `is_free`: the slots are free once the items before this one in the queue
     -- are sent, and all that the node has sent before. `acts`: the item here is active.
     module _ (frozen : List (Option ℕ)) (t : Times) (run : IsRun g order frozen s t) (free : ℕ)
@@ -167,7 +168,7 @@ module _ (g : Graph) (order : List ℕ) (topological : IsTopological g order) (s
         above = λ y h. elim h.1 [
           | inl less ↦ omega (arith, free_by, is_free.above y (h.0, inl less))
           | inr c ↦ elim (take_next (queue_of g p) k y inside c) [
-            | inl first ↦ omega (arith, free_by, is_free.above y (h.0, inr first))
+            | inl among ↦ omega (arith, free_by, is_free.above y (h.0, inr among))
             | inr e ↦ omega (arith, ap (time_in t) e)
           ]
         ];
@@ -188,7 +189,7 @@ module _ (g : Graph) (order : List ℕ) (topological : IsTopological g order) (s
           elim h.1 [
             | inl less ↦ inl less
             | inr c ↦ elim (take_next (queue_of g p) k y inside c) [
-              | inl first ↦ inr first
+              | inl among ↦ inr among
               | inr e ↦ absurd (true≢false (sym h.0.active ∙ ap (λ z. item_active g s.values (item_at g z)) e ∙ idle))
             ]
           ],
@@ -210,7 +211,7 @@ module _ (g : Graph) (order : List ℕ) (topological : IsTopological g order) (s
         can.slots_free;
   }
 
-  -- given that the first k items of the queue have their times
+  -- given: the first k items of the queue have their times
   -- `inside`: there is another item in the queue. `has`: the first k items have their times in `known`, where `old`
   -- is what was known before p sent anything, and `free` is when its slots are free.
   module _ (frozen : List (Option ℕ)) (t : Times) (run : IsRun g order frozen s t) (old known : Times) (k free : ℕ)
@@ -230,11 +231,11 @@ module _ (g : Graph) (order : List ℕ) (topological : IsTopological g order) (s
         time_is g order frozen s t run item x.within ∙ cond-false _ _ _ idle in
         record {
           sent = λ y c. elim (take_next (queue_of g p) k y inside c) [
-            | inl first ↦ has.sent y first
+            | inl among ↦ has.sent y among
             | inr e ↦ subst (λ z. get_or known.times z None ≡ get_or t.times z None) (sym e)
                 (has.others item (not_among k inside) ∙ none item (here_sent k inside) ∙ sym no_time)
           ];
-          others = λ y c. has.others y (λ first. c (in_next (queue_of g p) k y inside (inl first)));
+          others = λ y c. has.others y (λ among. c (in_next (queue_of g p) k y inside (inl among)));
           slots_free = free_same k inside t free idle has.slots_free;
         }
 
@@ -256,14 +257,14 @@ module _ (g : Graph) (order : List ℕ) (topological : IsTopological g order) (s
                 ∙ ap Some right ∙ sym (has_time g order frozen s t run item x.within acts))
             | inr other ↦ ap (λ ts. get_or ts y None) is ∙ get_or-set_other known.times item y (Some time) None other
                 ∙ elim (take_next (queue_of g p) k y inside c) [
-                  | inl first ↦ has.sent y first
+                  | inl among ↦ has.sent y among
                   | inr e ↦ absurd (other e)
                 ]
           ];
           others = λ y c. ap (λ ts. get_or ts y None) is
               ∙ get_or-set_other known.times item y (Some time) None
               (λ e. c (in_next (queue_of g p) k y inside (inr e)))
-              ∙ has.others y (λ first. c (in_next (queue_of g p) k y inside (inl first)));
+              ∙ has.others y (λ among. c (in_next (queue_of g p) k y inside (inl among)));
           -- the item is the last that was sent, so the slots are free a round after it
           slots_free = subst (IsMost (IsSentBy g order s p (k + 1)) (free_after g t))
               (ap (λ n. n + round g) (sym right)) (free_next k inside frozen t run free has.slots_free acts);

@@ -86,6 +86,7 @@ module _ (g : Graph) (order : List ℕ) (topological : IsTopological g order) wh
     none = λ e time w. f.none e time (would_have_same others frozen x time h (λ y i l. sym (same y i l)) w);
   }
 
+  -- given: a list of items
   module _ (items : List ℕ) where
     -- without any frozen time, none of the items is settled yet
     pub settled_first : (frozen : List (Option ℕ)) (h : Graph) → items ≡ frozen_along g order →
@@ -103,6 +104,7 @@ module _ (g : Graph) (order : List ℕ) (topological : IsTopological g order) wh
         none : (x : ℕ) → get_or frozen x None ≡ None
         none x = ap (λ f. get_or f x None) is ∙ none_frozen h x
 
+    -- given: frozen times in which the first n of the listed items are settled (`a`)
     module _ (n : ℕ) (frozen : List (Option ℕ)) (a : AreSettled g order items n frozen) where
       -- each listed item is a frozen item of the graph
       pub item_frozen : (i : ℕ) → i < length items →

@@ -12,7 +12,7 @@ use Rattle.cpg_run.specs.Run.{Times, IsRun, time_in, end_in, time_by, end_by}
 use Rattle.cpg_run.specs.Known.{AreEarly, AreSmall}
 use Rattle.cpg_run.proofs.Rising.{AreLow, SmallBefore, small_before, last_le}
 
--- given the run of a scenario under early frozen times
+-- given: the run t of a scenario s under frozen times below 2 ^ 58 (`early`)
 -- `within`: the graph is within the limits. `lawful`: s is a scenario of it. `early`: frozen times are small enough.
 module _ (g : Graph) (order : List ℕ) (frozen : List (Option ℕ)) (s : Scenario) (t : Times) (within : IsWithinLimits g)
     (topological : IsTopological g order) (lawful : IsScenario g s)

@@ -41,7 +41,7 @@ greatest_option (Some n) = greatest-cons n [] ∙ omega arith
 pub both_ways_equal : (a b : ℕ) → a ≤ b → b ≤ a → a ≡ b
 both_ways_equal a b h k = omega arith
 
--- given what is known before place i: the times and ends of all processes before it, as they are in the run t
+-- given: what is known before place i: the times and ends of all processes before it, as they are in the run t
 module _ (g : Graph) (order : List ℕ) (t : Times) (i : ℕ) (known : Times) (knows : Knows g order t i known) where
   -- what is known of the time of an item before the place is its time in the run
   pub known_item : (x : ℕ) → x < item_count g → place order (producer g x) < i → time_in known x ≡ time_in t x
@@ -96,7 +96,7 @@ module _ (g : Graph) (order : List ℕ) (t : Times) (i : ℕ) (known : Times) (k
     ];
   }
 
-  -- given the process at the place
+  -- given: the process at the place
   module _ (topological : IsTopological g order) (s : Scenario) (p : ℕ) (l : p < process_count g)
       (at : place order p ≡ i) where
     -- what is known of when an input of p is there is so in the run
@@ -137,7 +137,7 @@ module _ (g : Graph) (order : List ℕ) (t : Times) (i : ℕ) (known : Times) (k
           (λ c d. omega (arith, h c d, known_heard_of (node_of g p) c d.0 (decided_sooner p c (omega arith) d.0 d.1)));
     }
 
-    -- given when the node is ready, and when it has heard what decides the process, which is active
+    -- given: when the node is ready, and when it has heard what decides the process, which is active
     -- `run`, `acts`: t is the run, and p is active in it. `is_ready`: the node is ready once the active processes
     -- before p have ended and it has heard what decides them. `is_heard`: it has heard what decides p.
     module _ (frozen : List (Option ℕ)) (run : IsRun g order frozen s t) (acts : active g s.values p ≡ true)

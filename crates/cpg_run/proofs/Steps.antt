@@ -63,7 +63,7 @@ message_start e q h = true≢false (sym (ap starts_one h))
 broadcast_start : (c q : ℕ) → Broadcast c ≡ Start q → ⊥
 broadcast_start c q h = true≢false (sym (ap starts_one h))
 
--- given the run of a scenario and the process at a place
+-- given: the run of a scenario and the process at a place
 -- `topological`: the order has each process once, behind the sources of its inputs. `run`: t is the run of s under
 -- the frozen times. `at`: process p is at place i.
 module _ (g : Graph) (order : List ℕ) (topological : IsTopological g order) (frozen : List (Option ℕ)) (s : Scenario)
@@ -220,7 +220,7 @@ module _ (g : Graph) (order : List ℕ) (topological : IsTopological g order) (f
     no_ends = λ q k h. knows.no_ends q k (omega arith);
   }
 
-  -- given what is known before the place, with the start, the end and the sends of the process set
+  -- given: what is known before the place, with the start, the end and the sends of the process set
   -- `acts`: p is active. `knows`: what is known is that of the run before place i. `places`, `ends`: the lists have
   -- an entry for each item and each process. `starts`, `stops`: `begun` is what was known, with start and end of p
   -- set. `start_is`, `end_is`: both are those of the run. `sent`, `keeps`: `new` also has the times of all that p

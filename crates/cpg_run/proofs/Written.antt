@@ -54,8 +54,8 @@ columns_there : (rows : List Row) (a k : ℕ) → k < length rows →
 columns_there [] a k l h = absurd (omega arith)
 columns_there (row ∷ rows) a zero l h = cond-true _ _ _ (eq-eqb row.item (a + 0) (h 0 (omega arith)))
 columns_there (row ∷ rows) a (suc k) l h =
-    let first : row.item ≡ a + 0 = h 0 (omega arith) in
-    cond-false _ _ _ (ne_eqb row.item (a + suc k) (λ e. omega (arith, first, e)))
+    let row_is : row.item ≡ a + 0 = h 0 (omega arith) in
+    cond-false _ _ _ (ne_eqb row.item (a + suc k) (λ e. omega (arith, row_is, e)))
     ∙ ap (columns_in rows) (let e : a + suc k ≡ a + 1 + k = omega arith in e)
     ∙ columns_there rows (a + 1) k (omega arith) (λ i m. h (suc i) (omega arith) ∙ omega arith)
 
@@ -79,7 +79,7 @@ columns_at rows x = elim (cases_lt x (length rows)) [
       ∙ sym (ap (λ (row : Row). row.columns) (get_or_past rows x no_row past))
 ]
 
--- given the rows that are found about a graph within the limits
+-- given: the rows that are found about a graph within the limits
 -- `is`: there is one row for each item, each carries no more than it may, and all frozen times are early.
 module _ (g : Graph) (within : IsWithinLimits g) (urgency order : List ℕ) (admitted : Admitted g urgency order)
     (frozen : List (Option ℕ)) (rows : List Row)
@@ -103,6 +103,7 @@ module _ (g : Graph) (within : IsWithinLimits g) (urgency order : List ℕ) (adm
 
   -- ---- tables with these rows
 
+  -- given: tables that have the columns of the rows
   module _ (tables : List NodeTable) (have : (x : ℕ) → columns_of tables x ≡ (row_for rows x).columns) where
     -- the tables carry what the rows carry
     of_rows : AreTablesCarrying g urgency order frozen columns tables
@@ -121,8 +122,8 @@ module _ (g : Graph) (within : IsWithinLimits g) (urgency order : List ℕ) (adm
   -- the columns of item x are those of its own row, since the row at place x is that of item x
   one_has : (x : ℕ) → columns_of (one_table rows) x ≡ (row_for rows x).columns
   one_has x = ap (λ rs. columns_in rs x) all_rows ∙ elim (cases_lt x (item_count g)) [
-    | inl l ↦ let first : ℕ = 0 in ap (columns_in rows) (let e : x ≡ first + x = omega arith in e) ∙
-        columns_there rows first x (omega (arith, l, long)) (λ i m. item_is i (omega (arith, m, long)) ∙ omega arith)
+    | inl l ↦ let place_0 : ℕ = 0 in ap (columns_in rows) (let e : x ≡ place_0 + x = omega arith in e) ∙
+        columns_there rows place_0 x (omega (arith, l, long)) (λ i m. item_is i (omega (arith, m, long)) ∙ omega arith)
     | inr past ↦ columns_nowhere rows x (λ i m e. let own = item_is i (omega (arith, m, long)) in
         absurd (omega (arith, m, long, own, e, past)))
         ∙ sym (ap (λ (row : Row). row.columns) (get_or_past rows x no_row (omega (arith, past, long))))
@@ -217,6 +218,7 @@ module _ (g : Graph) (within : IsWithinLimits g) (urgency order : List ℕ) (adm
 
   -- ---- how many columns there are
 
+  -- given: no item is too wide under the order
   module _ (narrow : NoneIsTooWide g order) where
     -- some reach of the graph
     abbrev reach : Reach
@@ -259,10 +261,10 @@ module _ (g : Graph) (within : IsWithinLimits g) (urgency order : List ℕ) (adm
         let more : sum_by (load g reach) (numbers_below (n + 1))
         ≡ sum_by (load g reach) (numbers_below n) + load g reach n = ap (sum_by (load g reach)) (below_push n) ∙
         sum_by_push (load g reach) (numbers_below n) n in
-        let before = loads_few n (omega arith) in
+        let few_so_far = loads_few n (omega arith) in
         subst (λ m. sum_by (load g reach) (numbers_below m) ≤ most_loads) (let e : n + 1 ≡ suc n = omega arith in e)
         (elim (cases_lt 0 (rows_of_item g (item_at g n))) [
-          | inr none ↦ omega (arith, more, before, no_load n (omega (arith, none)))
+          | inr none ↦ omega (arith, more, few_so_far, no_load n (omega (arith, none)))
           | inl some ↦ elim (cases_lt most_loads (sum_by (load g reach) (numbers_below (n + 1)))) [
             | inl many ↦ absurd (not_wide n (omega arith) (wide_by_loads n some many))
             | inr few ↦ few

@@ -5,7 +5,7 @@ use Rattle.cpg_run.specs.Frozen.{WouldHave}
 
 -- the later of two times, the one that there is if there is only one, and None if there is none
 abbrev pub later : Option ℕ → Option ℕ → Option ℕ
-later None second = second
+later None other = other
 later (Some time) None = Some time
 later (Some time) (Some other) = Some (max time other)
 

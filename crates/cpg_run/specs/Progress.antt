@@ -99,20 +99,21 @@ pub record CanSend (g : Graph) (order : List ℕ) (s : Scenario) (t : Times) (p 
   -- `free` is when the slots of its node are free after what comes from earlier processes
   pub slots_free : IsFree g order s t (place order p) (node_of g p) free
 
--- the process p has sent the first k items of its queue: `old` is what was known before it sent, `new` what is known now
-pub record HasSent (g : Graph) (order : List ℕ) (s : Scenario) (t : Times) (p k : ℕ) (old new : Times)
+-- the process p has sent the first k items of its queue: `known_old` is what was known before that, `known_new` what is
+-- known then
+pub record HasSent (g : Graph) (order : List ℕ) (s : Scenario) (t : Times) (p k : ℕ) (known_old known_new : Times)
     (free : ℕ) : Type 0 where
   -- the first k have their times of the run
-  pub sent : (x : ℕ) → Contains (take k (queue_of g p)) x → get_or new.times x None ≡ get_or t.times x None
+  pub sent : (x : ℕ) → Contains (take k (queue_of g p)) x → get_or known_new.times x None ≡ get_or t.times x None
   -- every other item is as before
-  pub others : (x : ℕ) → (Contains (take k (queue_of g p)) x → ⊥) → get_or new.times x None ≡ get_or old.times x None
+  pub others : (x : ℕ) → (Contains (take k (queue_of g p)) x → ⊥) → get_or known_new.times x None ≡ get_or known_old.times x None
   -- `free` is when the slots of the node are free after them
   pub slots_free : IsMost (IsSentBy g order s p k) (free_after g t) free
 
 -- sending changes no end, and adds no place for a time
-pub record KeepsEnds (old new : Times) : Type 0 where
-  pub times : length new.times ≡ length old.times
-  pub ends : new.ends ≡ old.ends
+pub record KeepsEnds (known_old known_new : Times) : Type 0 where
+  pub times : length known_new.times ≡ length known_old.times
+  pub ends : known_new.ends ≡ known_old.ends
 
 -- What is found of a run: its times so far and, for each node, when it is ready and when its slots are free. A node that
 -- is ready may still wait for what decides its next process and for that process's inputs.

@@ -39,8 +39,8 @@ CanSendIn setting frozen s p known free =
 
 -- the first n items that the process p sends have their times of the scenario's run
 abbrev pub HasSentIn : Setting → List (Option ℕ) → Scenario → ℕ → ℕ → Times → Times → ℕ → Type 0
-HasSentIn setting frozen s p n old new free =
-    (t : Times) → IsRunOf setting frozen s t → HasSent setting.problem.now setting.order.now s t p n old new free
+HasSentIn setting frozen s p n known_old known_new free =
+    (t : Times) → IsRunOf setting frozen s t → HasSent setting.problem.now setting.order.now s t p n known_old known_new free
 
 -- when a process starts whose node is ready for it at the time `ready`: not before its release, its live inputs and, if it
 -- has one, its frozen time

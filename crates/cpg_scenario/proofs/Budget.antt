@@ -1,5 +1,5 @@
--- The counts and lengths of a document: when they keep the fault number and the durations, and that they then are a
--- scenario to play.
+-- The counts and lengths of a document: when they keep the budget of faults and the durations, and that they then are
+-- a scenario to play.
 use Rattle.std.proofs.Common.{ℕ, ℤ, ◌+◌, ◌<◌, ◌≤◌, ◌≡◌, ◌⊎◌, Bool, true, false, List, map, sum_by, sym, ap, ap₂, ◌∙◌}
 use Rattle.std.proofs.Common.{⊎_elim, arith, pos, negsuc, true≢false, Option, Some, None, get_or, subst}
 use Rattle.std.specs.Prelude.{nat_le}
@@ -27,7 +27,7 @@ pub scenario_is : (s : Scenario) (values : List Bool) (faults : List ℕ) → s.
 scenario_is s values faults e k =
     ap₂ (λ (v : List Bool) (f : List ℕ). let t : Scenario = record { values = v; faults = f } in t) e k
 
--- a length that passes its test, or the longest if none is given, is from 1 to the longest
+-- a length that passes its test, or `longest` if none is given, is from 1 to `longest`
 given_within : (longest : ℕ) (given : Option ℤ) → 1 ≤ longest → is_length_if longest given ≡ true →
     (1 ≤ length_or longest given) × (length_or longest given ≤ longest)
 given_within longest None l t = (l, omega arith)
@@ -35,9 +35,10 @@ given_within longest (Some (pos n)) l t = let parts = and_parts (nat_le 1 n) (na
     (leb-true 1 n parts.0, leb-true n longest parts.1)
 given_within longest (Some (negsuc n)) l t = absurd (true≢false (sym t))
 
+-- given: the members of a scenario that is read for a graph
 module _ (g : Graph) (ms : Members) where
-  -- If the counts before process n leave `left` of the fault number, and n is given a count below 0 or above this rest,
-  -- the test of the counts fails: in its first part, or as the sum is too great.
+  -- If the counts before process n leave `left` of the budget, and n is given a count below 0 or above that, the test
+  -- of the counts fails: in its first part, or as the sum is too great.
   pub budget_broken : (n left : ℕ) (given : ℤ) → n < process_count g → given ≡ count_given g ms n →
       left + sum_by (count_of g ms) (numbers_below n) ≡ g.faults →
       (is_natural given ≡ false) ⊎
@@ -49,7 +50,7 @@ module _ (g : Graph) (ms : Members) where
       (process_count g) n g.faults left l total (let same = ap natural e in omega arith)))
       cause
 
-  -- if no count is below 0, and all counts leave a rest of the fault number, the test of the counts passes
+  -- if no count is below 0, and all together are within the budget, the test of the counts passes
   pub budget_kept : (left : ℕ) → ((p : ℕ) → p < process_count g → is_natural (count_given g ms p) ≡ true) →
       left + sum_by (count_of g ms) (numbers_below (process_count g)) ≡ g.faults →
       keeps_budget g ms ≡ true
@@ -82,8 +83,8 @@ module _ (g : Graph) (ms : Members) where
   takes_time within p f l = let at : IsProcessWithin _ (process_at g p) = within.processes p _ l in
       omega (arith, at.works)
 
-  -- If the lengths pass their test, each length of the document is from 1 to the duration of its process with its
-  -- faults.
+  -- If the lengths of the document pass their test, the length of process q is at least 1, and at most the duration
+  -- of q with the faults that the document gives it.
   within_length : keeps_lengths g ms ≡ true → IsWithinLimits g → (q : ℕ) → q < process_count g →
       (1 ≤ get_or (lengths_of g ms) q 0) ×
       (get_or (lengths_of g ms) q 0 ≤ duration g q (fault_of (scenario_of g ms) q))

@@ -84,12 +84,12 @@ module _ (p : ℕ → Bool) (n : ℕ) where
     | inr h ↦ absurd (both_ways (list_all p (numbers_below n)) e (all_pass p n (λ i l. on (p i) (h i l))))
   ]
     where
-      -- what isn't true is false
+      -- if the negation of b is true, b is false
       off : (b : Bool) → not b ≡ true → b ≡ false
       off true e = absurd (true≢false (sym e))
       off false e = refl
 
-      -- what isn't false is true
+      -- if the negation of b is false, b is true
       on : (b : Bool) → not b ≡ false → b ≡ true
       on true e = refl
       on false e = absurd (true≢false e)
@@ -271,7 +271,7 @@ few Condition = omega arith
 few Budget = omega arith
 few Length = omega arith
 
--- causes with one place are equal
+-- causes with the same rank are equal
 same_place : (c e : Cause) → rank_of_cause c ≡ rank_of_cause e → c ≡ e
 same_place c e k = sym (at_place c) ∙ ap cause_at k ∙ at_place e
 
@@ -441,7 +441,7 @@ judged g (Some ms) = (
     order : List Cause
     order = Field ∷ Unknown ∷ Condition ∷ Budget ∷ Length ∷ []
 
-    -- they are those from the second on, in order
+    -- these causes are those from the second on, in order
     rise : Rise 1 order
     rise = (refl, (refl, (refl, (refl, (refl, refl)))))
 

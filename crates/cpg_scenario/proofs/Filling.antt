@@ -28,9 +28,11 @@ below_next P n h here i l =
 
 -- ---- a list that is filled in
 
--- a list of `count` places has at each place below n what f gives; d is for places past its end
+-- a list of `count` places is filled in up to n with what f gives; d is what `get_or` answers past its end, so it plays no part
 pub record FilledTo {X : Type 0} (f : ℕ → X) (count : ℕ) (d : X) (n : ℕ) (xs : List X) : Type 0 where
+  -- it has as many places
   pub long : length xs ≡ count
+  -- at each place below n it has what f gives
   pub there : (i : ℕ) → i < n → get_or xs i d ≡ f i
 
 -- at the start nothing is filled in
@@ -38,7 +40,7 @@ pub filled_first : {X : Type 0} (f : ℕ → X) (count : ℕ) (d : X) (xs : List
     FilledTo f count d 0 xs
 filled_first f count d xs l = record { long = l; there = λ i k. absurd (omega arith) }
 
--- one more place is filled in
+-- with f n set at place n, a list that is filled up to n is filled up to n + 1
 pub filled_next : {X : Type 0} (f : ℕ → X) (count : ℕ) (d : X) (n : ℕ) (xs : List X) (x : X) → n < count → x ≡ f n →
     FilledTo f count d n xs →
     FilledTo f count d (n + 1) (set xs n x)

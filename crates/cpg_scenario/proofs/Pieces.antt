@@ -81,7 +81,7 @@ pieces_some g s ps = AreSome-flat_map (pieces_of g s)
     (λ p. AreSome-append (fault_pieces (process_at g p).name (fault_of s p)) _ (faults_some (process_at g p).name
     (fault_of s p)) (value_some (process_at g p).name (value_at s (condition_of g p)))) ps
 
--- the pieces of one more process are written after those before it
+-- if the pieces of process n are written behind those of the processes before it, all up to process n are written
 pub next_pieces : (f : ℕ → List (List ℕ)) (n : ℕ) (text next : List ℕ) →
     text ≡ with_pieces [] (flat_map f (numbers_below n)) →
     next ≡ with_pieces text (f n) →

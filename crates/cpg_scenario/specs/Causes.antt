@@ -25,10 +25,13 @@ Stands (member text e ms) key d = ((key ≡ text) × (d ≡ e)) ⊎ Stands ms ke
 
 -- the table has an entry for which the fact holds
 pub record HasEntry (ms : Members) (Fact : List ℕ → Data → Type 0) : Type 0 where
+  -- the key of the entry
   pub key : List ℕ
+  -- the value of the entry
   pub value : Data
   -- the table has this value at this key
   pub stands : Stands ms key value
+  -- the fact holds for this key and this value
   pub fact : Fact key value
 
 -- the table has an entry whose key isn't among these
@@ -39,12 +42,12 @@ HasOtherKey keys ms = HasEntry ms (λ key d. Contains keys key → ⊥)
 abbrev pub HasOtherType : Bool → Members → Type 0
 HasOtherType flags ms = HasEntry ms (λ key d. is_typed flags d ≡ false)
 
--- this is no table, or has an entry of another type than `flags` says
+-- the value is no table, or a table with an entry of another type than `flags` says
 abbrev pub IsNoTableOf : Bool → Data → Type 0
 IsNoTableOf flags (table ms) = HasOtherType flags ms
 IsNoTableOf flags _ = ⊤
 
--- the key is there, and what it has is no table of such entries
+-- the key is there, and its value is no table of entries of the type that `flags` says
 abbrev pub HasBadTable : Bool → List ℕ → Members → Type 0
 HasBadTable flags key ms = IsSomeAnd (get_member key ms) (IsNoTableOf flags)
 
@@ -65,8 +68,11 @@ HasUnknownName g ms =
 
 -- some process is given a value, and has no condition
 pub record HasBadValue (g : Graph) (ms : Members) : Type 0 where
+  -- the process
   pub process : ℕ
+  -- it is one of the graph
   pub within : process < process_count g
+  -- its value
   pub value : Bool
   -- the file gives it this value
   pub given : value_given g ms process ≡ Some value
@@ -80,24 +86,29 @@ IsNegative (negsuc n) = ⊤
 
 -- some process is given a fault count below 0
 pub record HasNegativeCount (g : Graph) (ms : Members) : Type 0 where
+  -- the process
   pub process : ℕ
+  -- it is one of the graph
   pub within : process < process_count g
-  -- the count that the file gives it
+  -- the count that the file gives it is below 0
   pub negative : IsNegative (count_given g ms process)
 
--- a fault count is below 0, or the counts add up to more than the graph's fault number
+-- a fault count is below 0, or the counts add up to more than the graph allows
 abbrev pub IsOverBudget : Graph → Members → Type 0
 IsOverBudget g ms = HasNegativeCount g ms ⊎ (g.faults < sum_by (count_of g ms) (numbers_below (process_count g)))
 
--- a number is no length: below 1 or above the longest
+-- a number is no length: it is below 1 or above `longest`
 abbrev pub IsNoLength : ℕ → ℤ → Type 0
 IsNoLength longest (pos n) = (n < 1) ⊎ (longest < n)
 IsNoLength longest (negsuc n) = ⊤
 
 -- some process is given a length that isn't from 1 to its duration with its faults
 pub record HasBadLength (g : Graph) (ms : Members) : Type 0 where
+  -- the process
   pub process : ℕ
+  -- it is one of the graph
   pub within : process < process_count g
+  -- its length
   pub length : ℤ
   -- the file gives it this length
   pub given : length_given g ms process ≡ Some length
@@ -128,6 +139,7 @@ rank_of_cause Length = 5
 
 -- the cause is there, and none before it is
 pub record IsFirstCauseOf (g : Graph) (bytes : List ℕ) (cause : Cause) : Type 0 where
+  -- the cause is there
   pub there : IsThere g bytes cause
   -- no cause that is looked for before it is there
   pub none : (other : Cause) → rank_of_cause other < rank_of_cause cause → IsThere g bytes other → ⊥

@@ -33,17 +33,17 @@ are_among texts (member text d ms) = list_any (bytes_eq text) texts && are_among
 abbrev pub is_typed : Bool → Data → Bool
 is_typed flags d = if flags then is_some (as_bool d) else is_some (as_integer d)
 
--- whether all entries of a table have that type
+-- whether all entries of a table have the type that `flags` says
 abbrev pub are_typed : Bool → Members → Bool
 are_typed flags no_members = true
 are_typed flags (member text d ms) = is_typed flags d && are_typed flags ms
 
--- whether there is a table and all its entries have that type
+-- whether there is a table, and all its entries have the type that `flags` says
 abbrev pub is_typed_table : Bool → Option Members → Bool
 is_typed_table flags None = false
 is_typed_table flags (Some ms) = are_typed flags ms
 
--- whether what a key has, if it is there, is a table whose entries have that type
+-- whether a key's value, if the key is there, is a table whose entries have the type that `flags` says
 abbrev pub is_table_of : Bool → Option Data → Bool
 is_table_of flags None = true
 is_table_of flags (Some d) = is_typed_table flags (as_table d)
@@ -111,7 +111,7 @@ count_given g ms p = unwrap_or (option_and_then as_integer (entry_at ms (codes "
 abbrev pub count_of : Graph → Members → ℕ → ℕ
 count_of g ms p = natural (count_given g ms p)
 
--- whether no count is below 0, and together they are at most the graph's fault number
+-- whether no count is below 0, and together they are no more than the graph allows
 abbrev pub keeps_budget : Graph → Members → Bool
 keeps_budget g ms = list_all (λ p.
     is_natural (count_given g ms p)) (numbers_below (process_count g))
@@ -127,12 +127,12 @@ scenario_of g ms = record { values = values_of g ms; faults = map (count_of g ms
 abbrev pub length_given : Graph → Members → ℕ → Option ℤ
 length_given g ms p = option_and_then as_integer (entry_at ms (codes "lengths") (name_of g p))
 
--- whether a number is a length: from 1 to the longest
+-- whether a number is a length: from 1 to `longest`
 abbrev pub is_length : ℕ → ℤ → Bool
 is_length longest (pos n) = nat_le 1 n && nat_le n longest
 is_length longest (negsuc n) = false
 
--- whether no length is given, or one in this range
+-- whether no length is given, or one from 1 to `longest`
 abbrev pub is_length_if : ℕ → Option ℤ → Bool
 is_length_if longest None = true
 is_length_if longest (Some n) = is_length longest n
@@ -142,7 +142,7 @@ abbrev pub keeps_lengths : Graph → Members → Bool
 keeps_lengths g ms = list_all (λ p. is_length_if (duration g p (count_of g ms p)) (length_given g ms p))
     (numbers_below (process_count g))
 
--- the length that is given, or the longest if none is
+-- the length that is given, or `longest` if none is
 abbrev pub length_or : ℕ → Option ℤ → ℕ
 length_or longest None = longest
 length_or longest (Some n) = natural n
@@ -176,10 +176,12 @@ played_if g (Some ms) = played_of g ms
 unfoldable pub file_of : Graph → List ℕ → Reading
 file_of g bytes = played_if g (if is_utf8 bytes then parse_document bytes else None)
 
--- a scenario of the graph, and for each process a length from 1 to its duration with its faults
+-- what can be played of the graph: a scenario, and a length for the execution of each process
 pub record IsPlayed (g : Graph) (p : Played) : Type 0 where
+  -- the scenario is one of the graph
   pub scenario : IsScenario g p.scenario
   -- each process has a length
   pub count : length p.lengths ≡ process_count g
+  -- the length of process q is from 1 to its duration with its faults
   pub lengths : (q : ℕ) → q < process_count g →
       (1 ≤ get_or p.lengths q 0) × (get_or p.lengths q 0 ≤ duration g q (fault_of p.scenario q))

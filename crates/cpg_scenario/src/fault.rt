@@ -13,7 +13,7 @@ pub enum Cause {
     Unknown,
     /// A process that is given a value has no condition.
     Condition,
-    /// A fault count is below 0, or all together are more than the graph's fault number.
+    /// A fault count is below 0, or all together are more than the graph allows.
     Budget,
     /// A length is below 1 or above the duration of its process with its faults.
     Length,

@@ -18,7 +18,7 @@ use toml::Table;
 /// A scenario to play, and how long each execution takes in it.
 #[derive(Drop)]
 pub struct Played {
-    /// The values of the conditions and the fault counts of the processes.
+    /// The value of each condition and the fault count of each process.
     pub scenario: Scenario,
     /// The length of each process's execution, in time units.
     pub lengths: Lengths,
@@ -49,6 +49,7 @@ fn may_have_value(problem: &Problem, document: &Table, process: u32) -> bool
 fn has_conditions(problem: &Problem, document: &Table) -> bool
     ensures { result ≡ has_conditions problem.now (table_view document.now) }
 {
+    // there are at most 128 processes, so the cast keeps their count
     for process in 0..problem.processes().len() as u32 {
         if !may_have_value(problem, document, process) {
             return false;
@@ -77,8 +78,8 @@ fn count_given(problem: &Problem, document: &Table, process: u32) -> i64
     integer_at(document, "faults", name).unwrap_or(0)
 }
 
-/// Returns a fault count if it is from 0 to `left`, the part of the fault number that earlier processes leave.
-/// Otherwise `None`.
+/// Returns a fault count if it is from 0 to `left`, the faults that earlier processes leave of the most in one cycle; `None`
+/// otherwise.
 fn count_within(count: i64, left: u8) -> Option<u8>
     requires { left ≤ 8 }
     ensures some { IfSome result (λ n. (count ≡ pos n) × (n ≤ left)) }
@@ -95,7 +96,7 @@ fn count_within(count: i64, left: u8) -> Option<u8>
 }
 
 /// Sets the fault count of each process to the given one, or to 0. Returns false if a count is below 0 or all together
-/// are more than the fault number; then some may not be set.
+/// are more than the graph allows; then some may not be set.
 fn set_faults(problem: &Problem, document: &Table, scenario: &mut Scenario) -> bool
     requires { length scenario.old.faults ≡ process_count problem.now }
     ensures kept { result ≡ keeps_budget problem.now (table_view document.now) }
@@ -105,6 +106,7 @@ fn set_faults(problem: &Problem, document: &Table, scenario: &mut Scenario) -> b
     }) }
 {
     let mut left = problem.faults();
+    // there are at most 128 processes, so the cast keeps their count
     for process in 0..problem.processes().len() as u32 {
         let Some(count) = count_within(count_given(problem, document, process), left) else {
             return false;
@@ -120,7 +122,7 @@ fn length_within(given: Option<i64>, longest: u64) -> Option<u64>
     ensures some { IfSome result (λ n. (n ≡ length_or longest given) × (is_length_if longest given ≡ true)) }
     ensures none { IfNone result (is_length_if longest given ≡ false) }
 {
-    // an execution that isn't named takes its longest time
+    // an execution that is given no length takes its longest time
     let Some(given) = given else {
         return Some(longest);
     };
@@ -144,7 +146,7 @@ fn length_given(problem: &Problem, document: &Table, process: u32) -> Option<i64
     integer_at(document, "lengths", name)
 }
 
-/// Sets each length that is given, where all are the longest before. Returns false if a given one is below 1 or above
+/// Sets each length that is given; before, each is the longest of its process. Returns false if a given one is below 1 or above
 /// the longest; then some may not be set.
 fn set_lengths(problem: &Problem, document: &Table, lengths: &mut Lengths) -> bool
     requires { lengths.old ≡ map (λ p. duration problem.now p (count_of problem.now (table_view document.now) p)) (numbers_below (process_count problem.now)) }
@@ -152,6 +154,7 @@ fn set_lengths(problem: &Problem, document: &Table, lengths: &mut Lengths) -> bo
     ensures within { IsWithinLimits problem.now }
     ensures lengths { OnTrue result (lengths.new ≡ lengths_of problem.now (table_view document.now)) }
 {
+    // there are at most 128 processes, so the cast keeps their count
     for process in 0..problem.processes().len() as u32 {
         let longest = lengths.length_of(process);
         let Some(length) = length_within(length_given(problem, document, process), longest) else {

@@ -85,6 +85,7 @@ pub fn scenario_text(
     ensures { IfOk result (λ text. string_bytes text ≡ scenario_text problem.now scenario.now) }
 {
     let mut out = String::new(alloc);
+    // there are at most 128 processes, so the cast keeps their count
     for process in 0..problem.processes().len() as u32 {
         write_process(&mut out, problem, scenario, process)?;
     }

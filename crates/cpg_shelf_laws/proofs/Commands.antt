@@ -34,7 +34,7 @@ use Rattle.cpg_shelf_laws.specs.Causes.{Admits, AreSaid, GRAPH_LIMIT, IsAfterRea
 use Rattle.cpg_shelf_laws.specs.Causes.{SaysLog, SaysPlayed, Spells, StopsCommand, StopsGraph, StopsNaming}
 use Rattle.cpg_shelf_laws.specs.Causes.{StopsReading}
 use Rattle.cpg_shelf_laws.specs.Causes.{StopsTables, StopsVerdict, seen}
-use Rattle.cpg_shelf_laws.specs.Outputs.{PrintsCommand}
+use Rattle.cpg_shelf_laws.specs.Outputs.{CommandPrints}
 use Rattle.cpg_shelf_laws.proofs.Fetched.{IsLast, agreed, last, tells_whole}
 use Rattle.cpg_shelf_laws.proofs.Parts.{some_parts}
 use Rattle.cpg_shelf_laws.proofs.Stops.{admits, says, says_acts, says_scenario, spells, stops_graph, stops_log}
@@ -65,7 +65,7 @@ memory_stops old new (Hyper pairs) halt e = inl (inr e)
 memory_stops old new (Tune graph) halt e = inl (inl (unread_memory old new _ halt e))
 memory_stops old new (Audit graph pack log) halt e = inl (inl (unread_memory old new _ halt e))
 
--- a halt by which a check stops is one of the earlier contract
+-- a halt by which a check of tables `t` stops is one of the earlier contract
 verdict_told : (a : Admission) (t : Tables) (halt : Halt) → Unverified a t halt → StopsVerdict a t halt
 verdict_told a t halt (inl other) = inl other
 verdict_told a t halt (inr broken) = inr (inl broken)
@@ -82,23 +82,23 @@ module _ (old new : ShelfState) (k : KeepsShelf old new) where
   one : (f : Fetch) → new.history ≡ f ∷ old.history → IsLast old new f
   one f e = last old new k f [] e
 
-  -- of two fetches, the second is the last
+  -- of two fetches `f` and `p`, one after the other, the second is the last
   two : (f p : Fetch) → new.history ≡ p ∷ f ∷ old.history → IsLast old new p
   two f p e = last old new k p (f ∷ []) e
 
-  -- of two fetches, the first gave what the shelf reports
+  -- of two fetches `f` and `p`, one after the other, the first gave what the shelf reports
   first : (f p : Fetch) → new.history ≡ p ∷ f ∷ old.history → Agrees old.stands f
   first f p e = agreed old new k f (record { newer = p ∷ []; older = []; is = e })
 
-  -- of three fetches, the third is the last
+  -- of three fetches `f`, `p` and `c`, one after another, the third is the last
   three : (f p c : Fetch) → new.history ≡ c ∷ p ∷ f ∷ old.history → IsLast old new c
   three f p c e = last old new k c (p ∷ f ∷ []) e
 
-  -- of three fetches, the first gave what the shelf reports
+  -- of three fetches `f`, `p` and `c`, one after another, the first gave what the shelf reports
   first_three : (f p c : Fetch) → new.history ≡ c ∷ p ∷ f ∷ old.history → Agrees old.stands f
   first_three f p c e = agreed old new k f (record { newer = c ∷ p ∷ []; older = []; is = e })
 
-  -- of three fetches, the second gave what the shelf reports
+  -- of three fetches `f`, `p` and `c`, one after another, the second gave what the shelf reports
   second_three : (f p c : Fetch) → new.history ≡ c ∷ p ∷ f ∷ old.history → Agrees old.stands p
   second_three f p c e = agreed old new k p (record { newer = c ∷ []; older = f ∷ []; is = e })
 
@@ -106,7 +106,8 @@ module _ (old new : ShelfState) (k : KeepsShelf old new) where
   within : (f : Fetch) (limit : ℕ) → IsLast old new f → length f.given ≤ limit → given_count new ≤ limit
   within f limit is short = let c = is.count in omega (arith, c, short)
 
-  -- the value of a graph file that was read is an admitted graph, and what the shelf reports of the file says it
+  -- the value `v` of a graph file that fetch `f` read is an admitted graph, and what the shelf reports of the file says
+  -- it
   graph_of : (g : Option Graph) (name : Text) (f : Fetch) (v : Value) → IsRead g (file GraphFile name) f v →
       Agrees old.stands f →
       (a : Admission) × (v ≡ graph_value a) × Admits (old.stands name) a
@@ -117,7 +118,7 @@ module _ (old new : ShelfState) (k : KeepsShelf old new) where
         (tells_whole old.stands (file GraphFile name) f r.whole ag) r.whole.short r.says.2,
   )
 
-  -- the value of a pack that was read is tables, and what the shelf reports of the file spells them
+  -- the value `v` of a pack that fetch `f` read is tables, and what the shelf reports of the file spells them
   tables_of : (g : Option Graph) (name : Text) (f : Fetch) (v : Value) → IsRead g (file PackFile name) f v →
       Agrees old.stands f →
       (t : Tables) × (v ≡ tables_value t) × Spells (old.stands name) t
@@ -128,48 +129,48 @@ module _ (old new : ShelfState) (k : KeepsShelf old new) where
         (tells_whole old.stands (file PackFile name) f r.whole ag) r.whole.short r.says.2,
   )
 
-  -- what the shelf reports of a graph file that was read says the graph
+  -- what the shelf reports of a graph file that fetch `f` read says the graph `a`
   graph_is : (g : Option Graph) (name : Text) (f : Fetch) (a : Admission) →
       IsRead g (file GraphFile name) f (graph_value a) → Agrees old.stands f →
       Admits (old.stands name) a
   graph_is g name f a r ag = admits (old.stands name) f.given a
       (tells_whole old.stands (file GraphFile name) f r.whole ag) r.whole.short (says_graph g f.given a r.says)
 
-  -- what the shelf reports of a pack that was read spells the tables
+  -- what the shelf reports of a pack that fetch `f` read spells the tables `t`
   tables_are : (g : Option Graph) (name : Text) (f : Fetch) (t : Tables) →
       IsRead g (file PackFile name) f (tables_value t) → Agrees old.stands f →
       Spells (old.stands name) t
   tables_are g name f t r ag = spells (old.stands name) f.given t
       (tells_whole old.stands (file PackFile name) f r.whole ag) r.whole.short (says_tables g f.given t r.says)
 
-  -- the same for a pack that was read before any graph
+  -- the same for a pack that fetch `f` read before any graph, with tables `t`
   pub spelled_by : (name : Text) (f : Fetch) (t : Tables) → IsRead None (file PackFile name) f (tables_value t) →
       Agrees old.stands f →
       Spells (old.stands name) t
   spelled_by name f t r ag = tables_are None name f t r ag
 
-  -- what the shelf reports of a scenario file that was read says the scenario
+  -- what the shelf reports of a scenario file that fetch `f` read says what is played, `p`
   played_is : (g : Graph) (name : Text) (f : Fetch) (p : Played) →
       IsRead (Some g) (file ScenarioFile name) f (played_value p) → Agrees old.stands f →
       SaysPlayed (old.stands name) g p
   played_is g name f p r ag = says_scenario (old.stands name) f.given g p
       (tells_whole old.stands (file ScenarioFile name) f r.whole ag) r.whole.short (says_played g f.given p r.says)
 
-  -- what the shelf reports of a log that was read says the log
+  -- what the shelf reports of a log that fetch `f` read says the log `l`
   log_is : (g : Graph) (name : Text) (f : Fetch) (l : Log) → IsRead (Some g) (file LogFile name) f (log_value l) →
       Agrees old.stands f →
       SaysLog (old.stands name) g l
   log_is g name f l r ag = says_acts (old.stands name) f.given g l
       (tells_whole old.stands (file LogFile name) f r.whole ag) r.whole.short (says_log g f.given l r.says)
 
-  -- what the shelf reports of a part's file that was read says its graph
+  -- what the shelf reports of a part's file that fetch `f` read says its graph `h`
   part_is : (g : Option Graph) (name : Text) (f : Fetch) (h : Graph) → IsRead g (file PartFile name) f (part_value h) →
       Agrees old.stands f →
       Says (old.stands name) h
   part_is g name f h r ag = says (old.stands name) f.given h
       (tells_whole old.stands (file PartFile name) f r.whole ag) r.whole.short (says_part g f.given h r.says)
 
-  -- after a graph and tables, files are read for that graph
+  -- after the values `v` and `w` of a graph and of tables, files are read for that graph
   behind : (v w : Value) (a : Admission) (t : Tables) → v ≡ graph_value a → w ≡ tables_value t →
       graph_after (graph_after None v) w ≡ Some a.graph
   behind v w a t e d = ap (graph_after (graph_after None v)) d ∙ ap (graph_after None) e
@@ -183,6 +184,7 @@ module _ (old new : ShelfState) (k : KeepsShelf old new) where
       StopsFiles g (part_files pairs) past new.history halt →
       IsUnsaid (seen old new) pairs halt
   unsaid g [] past older halt e s = absurd s
+  -- the first file stops it, and none is before it
   unsaid g (pair ∷ pairs) past older halt e (f, inl (stops, is)) = record {
     place = 0;
     within = omega arith;
@@ -190,6 +192,7 @@ module _ (old new : ShelfState) (k : KeepsShelf old new) where
     said = tt;
     stops = λ d. stops_part old new f (last old new k f older (is ∙ ap (λ h. f ∷ h) e)) pair.graph g halt stops;
   }
+  -- the first file was read, so what the shelf reports of it says its graph, and a later one stops the run
   unsaid g (pair ∷ pairs) past older halt e (f, inr (v, r, there)) =
       let rest = unsaid (graph_after g v) pairs (f ∷ past) (f ∷ older) halt (ap (λ h. f ∷ h) e) there in
       let grown = stops_grown (graph_after g v) (part_files pairs) (f ∷ past) new.history halt there in
@@ -213,9 +216,11 @@ module _ (old new : ShelfState) (k : KeepsShelf old new) where
       past ≡ older ++ old.history →
       Reads g (part_files pairs) past new.history (part_values parts) → HavePeriods pairs parts →
       AreSaid old.stands pairs parts
+  -- there are as many parts as pairs
   parts_said g [] [] past older e r h = tt
   parts_said g [] (part ∷ parts) past older e r h = absurd h
   parts_said g (pair ∷ pairs) [] past older e r h = absurd h
+  -- the first file was read, and so were the others
   parts_said g (pair ∷ pairs) (part ∷ parts) past older e (f, r, rest) h =
       let grown = reads_grown g (part_files pairs) (f ∷ past) new.history (part_values parts) rest in
       let ag = agreed old new k f
@@ -232,11 +237,14 @@ module _ (old new : ShelfState) (k : KeepsShelf old new) where
       0 < length pairs →
       Reads g (part_files pairs) past new.history (part_values parts) → HavePeriods pairs parts →
       given_count new ≤ GRAPH_LIMIT
+  -- there is a pair, and as many parts
   parts_within g [] parts past older e some r h = absurd (omega (arith, some))
   parts_within g (pair ∷ pairs) [] past older e some r h = absurd h
+  -- a single file is the last
   parts_within g (pair ∷ []) (part ∷ []) past older e some (f, r, is) h =
       within f (limit_of PartFile) (last old new k f older (is ∙ ap (λ h. f ∷ h) e)) r.whole.short
   parts_within g (pair ∷ []) (part ∷ other ∷ parts) past older e some r h = absurd h.1
+  -- if another file follows, the last one is among the others
   parts_within g (pair ∷ next ∷ pairs) (part ∷ parts) past older e some (f, r, rest) h =
       parts_within g (next ∷ pairs) parts (f ∷ past) (f ∷ older) (ap (λ h. f ∷ h) e) (omega arith) rest h.1
 
@@ -246,17 +254,20 @@ module _ (old new : ShelfState) (k : KeepsShelf old new) where
   -- command, and by which of its files stops it: each earlier one was read, and gave what the shelf reports.
   pub stops_files : (c : Command) (halt : Halt) → StopsFiles None (files_of c) old.history new.history halt →
       StopsCommand (seen old new) c halt
+  -- commands on a graph file alone
   stops_files (Show name) halt (f, inl (stops, e)) = inl (stops_graph old new f (one f e) name None halt stops)
   stops_files (Show name) halt (f, inr (v, r, none)) = absurd none
   stops_files (Compile name) halt (f, inl (stops, e)) = inl (stops_graph old new f (one f e) name None halt stops)
   stops_files (Compile name) halt (f, inr (v, r, none)) = absurd none
   stops_files (Tune name) halt (f, inl (stops, e)) = inl (stops_graph old new f (one f e) name None halt stops)
   stops_files (Tune name) halt (f, inr (v, r, none)) = absurd none
+  -- `check`: the graph file, or the pack after it
   stops_files (Check name pack) halt (f, inl (stops, e)) = inl (stops_graph old new f (one f e) name None halt stops)
   stops_files (Check name pack) halt (f, inr (v, r, (p, inl (stops, e)))) =
       let a = graph_of None name f v r (first f p e) in
       inr (a.0, a.2, inl (stops_pack old new p (two f p e) pack (graph_after None v) halt stops))
   stops_files (Check name pack) halt (f, inr (v, r, (p, inr (w, q, none)))) = absurd none
+  -- `play`: the graph file, the pack after it, or the scenario file after both
   stops_files (Play name pack scenario turns) halt (f, inl (stops, e)) =
       inl (stops_graph old new f (one f e) name None halt stops)
   stops_files (Play name pack scenario turns) halt (f, inr (v, r, (p, inl (stops, e)))) =
@@ -276,6 +287,7 @@ module _ (old new : ShelfState) (k : KeepsShelf old new) where
         ),
       )
   stops_files (Play name pack scenario turns) halt (f, inr (v, r, (p, inr (w, q, (c, inr (u, s, none)))))) = absurd none
+  -- `audit`: the graph file, the pack after it, or the log after both
   stops_files (Audit name pack log) halt (f, inl (stops, e)) =
       inl (stops_graph old new f (one f e) name None halt stops)
   stops_files (Audit name pack log) halt (f, inr (v, r, (p, inl (stops, e)))) =
@@ -295,11 +307,13 @@ module _ (old new : ShelfState) (k : KeepsShelf old new) where
         ),
       )
   stops_files (Audit name pack log) halt (f, inr (v, r, (p, inr (w, q, (c, inr (u, s, none)))))) = absurd none
+  -- commands on a pack alone
   stops_files (Node pack name) halt (p, inl (stops, e)) = inl (stops_pack old new p (one p e) pack None halt stops)
   stops_files (Node pack name) halt (p, inr (v, r, none)) = absurd none
   stops_files (Live pack name stream) halt (p, inl (stops, e)) =
       inl (stops_pack old new p (one p e) pack None halt stops)
   stops_files (Live pack name stream) halt (p, inr (v, r, none)) = absurd none
+  -- `trial` has no file, and `hyper` one for each part
   stops_files (Trial number) halt none = absurd none
   stops_files (Hyper pairs) halt s = inl (inl (unsaid None pairs old.history [] halt refl s))
 
@@ -307,8 +321,10 @@ module _ (old new : ShelfState) (k : KeepsShelf old new) where
 
   -- one file was read
   record OneRead (kind : FileKind) (name : Text) (v : Value) : Type 0 where
+    -- the fetch, in which the file said `v`
     f : Fetch
     r : IsRead None (file kind name) f v
+    -- it is the only new one
     end : new.history ≡ f ∷ old.history
 
   -- reading a list of one file is reading it
@@ -319,13 +335,16 @@ module _ (old new : ShelfState) (k : KeepsShelf old new) where
 
   -- a graph and a pack were read
   record TwoRead (name pack : Text) (a : Admission) (t : Tables) : Type 0 where
+    -- the fetches of the graph and of the pack
     f : Fetch
     p : Fetch
+    -- in them the files said the graph of `a`, and tables `t` for it
     r : IsRead None (file GraphFile name) f (graph_value a)
     q : IsRead (Some a.graph) (file PackFile pack) p (tables_value t)
+    -- they are the only new ones
     end : new.history ≡ p ∷ f ∷ old.history
 
-  -- reading a list of both is reading both
+  -- to read the two files of a graph `a` and of tables `t` is to read each of them
   two_read : (name pack : Text) (a : Admission) (t : Tables) →
       Reads None (file GraphFile name ∷ file PackFile pack ∷ []) old.history new.history
       (graph_value a ∷ tables_value t ∷ []) →
@@ -334,15 +353,18 @@ module _ (old new : ShelfState) (k : KeepsShelf old new) where
 
   -- a graph, a pack and a third file were read
   record ThreeRead (kind : FileKind) (name pack third : Text) (a : Admission) (t : Tables) (v : Value) : Type 0 where
+    -- the fetches of the graph, of the pack and of the third file
     f : Fetch
     p : Fetch
     c : Fetch
+    -- in them the files said the graph of `a`, and tables `t` and a value `v` for it
     r : IsRead None (file GraphFile name) f (graph_value a)
     q : IsRead (Some a.graph) (file PackFile pack) p (tables_value t)
     s : IsRead (Some a.graph) (file kind third) c v
+    -- they are the only new ones
     end : new.history ≡ c ∷ p ∷ f ∷ old.history
 
-  -- reading a list of three is reading all
+  -- to read the three files of a graph `a`, tables `t` and a value `v` is to read each of them
   three_read : (kind : FileKind) (name pack third : Text) (a : Admission) (t : Tables) (v : Value) →
       Reads None (file GraphFile name ∷ file PackFile pack ∷ file kind third ∷ []) old.history new.history
       (graph_value a ∷ tables_value t ∷ v ∷ []) → ThreeRead kind name pack third a t v
@@ -387,6 +409,7 @@ module _ (old new : ShelfState) (k : KeepsShelf old new) where
     two_within : given_count new ≤ PACK_LIMIT
     two_within = within h.p (limit_of PackFile) (two h.f h.p h.end) h.q.whole.short
 
+  -- given that a graph, a pack and a third file were read
   module _ (kind : FileKind) (name pack third : Text) (a : Admission) (t : Tables) (v : Value)
       (h : ThreeRead kind name pack third a t v) where
     -- given three files that were read, what the shelf reports of the first says the graph
@@ -433,12 +456,15 @@ module _ (old new : ShelfState) (k : KeepsShelf old new) where
   pub stops_work : (words : List Text) (c : Command) (halt : Halt) (values : List Value) → command_of words ≡ Some c →
       Files c values → StopsWork c values halt →
       StopsCommand (seen old new) c halt
+  -- commands on a graph file alone; the work of `tune` and `trial` stops for nothing but memory
   stops_work words (Show name) halt values is reads stops = compiled_stops name halt values reads stops
   stops_work words (Compile name) halt values is reads stops = compiled_stops name halt values reads stops
   stops_work words (Tune name) halt values is reads stops = absurd stops
   stops_work words (Trial number) halt values is reads stops = absurd stops
+  -- commands on a pack alone
   stops_work words (Node pack name) halt values is reads stops = naming_stops pack name halt values reads stops
   stops_work words (Live pack name stream) halt values is reads stops = naming_stops pack name halt values reads stops
+  -- `check`: both files were read
   stops_work words (Check name pack) halt values is reads (a, t, e, un) =
       let h = two_read name pack a t (subst (λ vs. Files (Check name pack) vs) e reads) in
       inr (
@@ -450,6 +476,7 @@ module _ (old new : ShelfState) (k : KeepsShelf old new) where
           record { stops = verdict_told a t halt un; within = two_within name pack a t h },
         ),
       )
+  -- `play`: the three files were read, and the last says what is played
   stops_work words (Play name pack scenario turns) halt values is reads (a, t, p, e, un) =
       let v = played_value p in
       let h = three_read ScenarioFile name pack scenario a t v
@@ -468,6 +495,7 @@ module _ (old new : ShelfState) (k : KeepsShelf old new) where
           ),
         ),
       )
+  -- `audit`: the three files were read, and the last says the log
   stops_work words (Audit name pack log) halt values is reads (a, t, l, e, un) =
       let v = log_value l in
       let h = three_read LogFile name pack log a t v (subst (λ vs. Files (Audit name pack log) vs) e reads) in
@@ -485,6 +513,7 @@ module _ (old new : ShelfState) (k : KeepsShelf old new) where
           ),
         ),
       )
+  -- `hyper`: the files of all parts were read
   stops_work words (Hyper pairs) halt values is reads (parts, e, periods, un) =
       let h = subst (λ vs. Files (Hyper pairs) vs) e reads in
       inr (
@@ -502,7 +531,8 @@ module _ (old new : ShelfState) (k : KeepsShelf old new) where
   -- the command, whose files were all read.
   pub prints : (words : List Text) (c : Command) (text : Text) (values : List Value) → command_of words ≡ Some c →
       Files c values → PutsOut c values text →
-      PrintsCommand (seen old new) c text
+      CommandPrints (seen old new) c text
+  -- commands on a graph file alone
   prints words (Show name) text values is reads (a, e, made) =
       let h = one_read GraphFile name (graph_value a) (subst (λ vs. Files (Show name) vs) e reads) in
       record { output = (a, one_graph name a h, made); within = one_within name a h }
@@ -512,17 +542,21 @@ module _ (old new : ShelfState) (k : KeepsShelf old new) where
   prints words (Tune name) text values is reads (a, e, made) =
       let h = one_read GraphFile name (graph_value a) (subst (λ vs. Files (Tune name) vs) e reads) in
       record { output = (a, one_graph name a h, made); within = one_within name a h }
+  -- `trial` has no file
   prints words (Trial number) text values is reads made = record { output = made; within = tt }
+  -- commands on a pack alone; `live` puts out no text here
   prints words (Node pack name) text values is reads (t, e, made) =
       let h = one_read PackFile pack (tables_value t) (subst (λ vs. Files (Node pack name) vs) e reads) in
       record { output = (t, one_pack pack t h, made); within = pack_within pack t h }
   prints words (Live pack name stream) text values is reads none = absurd none
+  -- `check`: both files were read
   prints words (Check name pack) text values is reads (a, t, e, made) =
       let h = two_read name pack a t (subst (λ vs. Files (Check name pack) vs) e reads) in
       record {
         output = (a, two_graph name pack a t h, (t, two_pack name pack a t h, made));
         within = two_within name pack a t h;
       }
+  -- `play`: the three files were read, and the last says what is played
   prints words (Play name pack scenario turns) text values is reads (a, t, p, e, made) =
       let v = played_value p in
       let h = three_read ScenarioFile name pack scenario a t v
@@ -546,6 +580,7 @@ module _ (old new : ShelfState) (k : KeepsShelf old new) where
         );
         within = three_within ScenarioFile name pack scenario a t v h;
       }
+  -- `audit`: the three files were read, and the last says the log
   prints words (Audit name pack log) text values is reads (a, t, l, e, made) =
       let v = log_value l in
       let h = three_read LogFile name pack log a t v (subst (λ vs. Files (Audit name pack log) vs) e reads) in
@@ -568,6 +603,7 @@ module _ (old new : ShelfState) (k : KeepsShelf old new) where
         );
         within = three_within LogFile name pack log a t v h;
       }
+  -- `hyper`: the files of all parts were read
   prints words (Hyper pairs) text values is reads (parts, e, periods, made) =
       let h = subst (λ vs. Files (Hyper pairs) vs) e reads in
       record {

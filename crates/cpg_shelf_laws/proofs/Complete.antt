@@ -66,7 +66,7 @@ abbrev command_or : Command → Option Command → Command
 command_or d None = d
 command_or d (Some c) = c
 
--- if words form two commands, these are equal
+-- if the words form commands `a` and `b` (`o`), these are equal
 pub same_command : (o : Option Command) (a b : Command) → o ≡ Some a → o ≡ Some b → a ≡ b
 same_command o a b e f = ap (command_or a) (sym e ∙ f)
 
@@ -76,11 +76,11 @@ no_command c e = absurd (cc e)
 
 -- ---- values that are alike, and facts of admissions that are alike
 
--- what holds of one of two admissions that are alike holds of the other
+-- if admissions `a` and `b` are alike, what holds of the graph and order of `a` holds of those of `b`
 moved_on : (a b : Admission) → AreAlike a b → (P : Graph → List ℕ → Type 0) → P a.graph a.order → P b.graph b.order
 moved_on a b same P p = subst (P b.graph) (sym same.order) (subst (λ g. P g a.order) (sym same.graph) p)
 
--- values that are alike to one graph alone are one graph, which is alike
+-- values `ws` that are alike to a graph `a` alone are one graph `b`, which is alike
 graph_alone : (a : Admission) (ws : List Value) → AllAlike (graph_value a ∷ []) ws →
     (b : Admission) × (ws ≡ graph_value b ∷ []) × AreAlike a b
 graph_alone a [] x = absurd x
@@ -91,7 +91,7 @@ graph_alone a (tables_value t ∷ ws) x = absurd x.0
 graph_alone a (played_value p ∷ ws) x = absurd x.0
 graph_alone a (log_value l ∷ ws) x = absurd x.0
 
--- values that are alike to tables alone are these tables
+-- values `ws` that are alike to tables `t` alone are these tables
 pub tables_alone : (t : Tables) (ws : List Value) → AllAlike (tables_value t ∷ []) ws → ws ≡ tables_value t ∷ []
 tables_alone t [] x = absurd x
 tables_alone t (tables_value u ∷ []) x = ap (λ u. tables_value u ∷ []) x.0
@@ -101,7 +101,7 @@ tables_alone t (part_value h ∷ ws) x = absurd x.0
 tables_alone t (played_value p ∷ ws) x = absurd x.0
 tables_alone t (log_value l ∷ ws) x = absurd x.0
 
--- values that are alike to a graph and others are a graph that is alike, and others that are alike
+-- values `ws` that are alike to a graph `a` and others, `vs`, are a graph `b` that is alike, and others that are alike
 graph_first : (a : Admission) (vs ws : List Value) → AllAlike (graph_value a ∷ vs) ws →
     (b : Admission) × (rest : List Value) × (ws ≡ graph_value b ∷ rest) × AreAlike a b × AllAlike vs rest
 graph_first a vs [] x = absurd x
@@ -111,7 +111,7 @@ graph_first a vs (tables_value t ∷ ws) x = absurd x.0
 graph_first a vs (played_value p ∷ ws) x = absurd x.0
 graph_first a vs (log_value l ∷ ws) x = absurd x.0
 
--- values that are alike to tables and others are these tables, and others that are alike
+-- values `ws` that are alike to tables `t` and others, `vs`, are these tables, and others that are alike
 tables_first : (t : Tables) (vs ws : List Value) → AllAlike (tables_value t ∷ vs) ws →
     (rest : List Value) × (ws ≡ tables_value t ∷ rest) × AllAlike vs rest
 tables_first t vs [] x = absurd x
@@ -121,8 +121,8 @@ tables_first t vs (part_value h ∷ ws) x = absurd x.0
 tables_first t vs (played_value p ∷ ws) x = absurd x.0
 tables_first t vs (log_value l ∷ ws) x = absurd x.0
 
--- Values that are alike to one scenario alone are one scenario: no value, a further value or a value of another kind
--- isn't alike.
+-- Values `ws` that are alike to what is played, `p`, alone are one such value: no value, a further value or a value of
+-- another kind isn't alike.
 played_alone : (p : Played) (ws : List Value) → AllAlike (played_value p ∷ []) ws →
     (q : Played) × (ws ≡ played_value q ∷ [])
 played_alone p [] x = absurd x
@@ -133,7 +133,7 @@ played_alone p (part_value h ∷ ws) x = absurd x.0
 played_alone p (tables_value t ∷ ws) x = absurd x.0
 played_alone p (log_value l ∷ ws) x = absurd x.0
 
--- values that are alike to one log alone are one log, by the same cases as for a scenario
+-- values `ws` that are alike to a log `l` alone are one log, by the same cases as for a scenario
 log_alone : (l : Log) (ws : List Value) → AllAlike (log_value l ∷ []) ws → (m : Log) × (ws ≡ log_value m ∷ [])
 log_alone l [] x = absurd x
 log_alone l (log_value m ∷ []) x = (m, refl)
@@ -168,12 +168,12 @@ parts_told stands (pair ∷ pairs) (part ∷ parts) t =
     let rest = parts_told stands pairs parts t.2 in
     ((t.1.bytes, t.1.is, t.1.short, (part.problem, refl, t.1.says), rest.0), (t.0, rest.1))
 
--- bytes that say an admitted graph tell it as a value
+-- bytes that say an admitted graph `a` tell it as a value, whatever graph `o` was read before
 graph_tells : (o : Option Graph) (bytes : Text) (a : Admission) → AreAdmitted bytes a →
     Tells o GraphFile bytes (graph_value a)
 graph_tells o bytes a x = (a, refl, record { says = x.says; admitted = x.admitted })
 
--- the spelling of lawful tables tells them as a value
+-- the spelling of lawful tables `t` tells them as a value, whatever graph `o` was read before
 pack_tells : (o : Option Graph) (t : Tables) → AreLawful t → Tells o PackFile (spelling t) (tables_value t)
 pack_tells o t lawful = (t, refl, record { spelled = refl; lawful = lawful })
 
@@ -194,8 +194,8 @@ module _ (r : Run) (w : IsLawfulRun r) (k : KeepsShelf r.shelf.old r.shelf.new) 
   abbrev Comes : Command → List Value → Type 0
   Comes c values = ((ws : List Value) × Has r c ws × AllAlike values ws) ⊎ ((r.status ≡ 8) ⊎ FollowsRun r)
 
-  -- If its words are c, and the shelf reports files of c with values, then whatever command and values the run has, the
-  -- command is c, and the values are alike.
+  -- If the run's words are command `c`, and the shelf reports files of `c` with values, then whatever command `d` and
+  -- values `ws` the run has, the command is `c`, and the values are alike.
   has : (c : Command) (values : List Value) → command_of r.words ≡ Some c →
       AreTold r.shelf.old.stands None (files_of c) values → (d : Command) (ws : List Value) → Has r d ws →
       Comes c values
@@ -252,7 +252,8 @@ module _ (r : Run) (w : IsLawfulRun r) (k : KeepsShelf r.shelf.old r.shelf.new) 
 
   -- ---- tables of a graph
 
-  -- For a command on one graph file: the run asks for it with an admission that is alike, or memory ran out (status 8).
+  -- For a command on one graph file, which `make` makes of its name: the run asks for it with an admission that is
+  -- alike to `a`, or memory ran out (status 8).
   of_graph : (make : Text → Command) (graph : Text) (a : Admission) → is_live (Some (make graph)) ≡ false →
       files_of (make graph) ≡ file GraphFile graph ∷ [] →
       command_of r.words ≡ Some (make graph) →
@@ -265,7 +266,8 @@ module _ (r : Run) (w : IsLawfulRun r) (k : KeepsShelf r.shelf.old r.shelf.new) 
         | inr memory ↦ inr memory
       ]
 
-  -- if the tables of a graph are asked for, the run asks for those of an admission that is alike, or memory ran out
+  -- if the tables of a graph `a` are asked for, the run asks for those of an admission `b` that is alike, or memory ran
+  -- out
   tables_asked : (a : Admission) → Asks (told_of r) a →
       ((b : Admission) × AsksForTables r b × AreAlike a b) ⊎ (r.status ≡ 8)
   tables_asked a q =
@@ -282,7 +284,7 @@ module _ (r : Run) (w : IsLawfulRun r) (k : KeepsShelf r.shelf.old r.shelf.new) 
         ]
       ]
 
-  -- a graph that is too wide under its urgency order is rejected as such, with 6
+  -- a graph with an item `x` that is too wide under its urgency order is rejected as such, with 6
   pub wide : (a : Admission) (x : ℕ) → Asks (told_of r) a → a.graph.order ≡ None →
       IsWide a.graph (first_order a.graph a.order) x → Answer 6
   wide a x q ungiven is = elim (tables_asked a q) [
@@ -291,7 +293,7 @@ module _ (r : Run) (w : IsLawfulRun r) (k : KeepsShelf r.shelf.old r.shelf.new) 
     | inr memory ↦ inr memory
   ]
 
-  -- if a graph is rejected as too wide, so is one that is alike
+  -- if a graph `b` is rejected as too wide, so is a graph `a` that is alike
   as_wide : (a b : Admission) → AreAlike a b → (n : ℕ) → Answer n ⊎ WideRun r b → Answer n ⊎ WideTold (told_of r) a
   as_wide a b same n answer = elim answer [
     | inl e ↦ inl e
@@ -327,11 +329,13 @@ module _ (r : Run) (w : IsLawfulRun r) (k : KeepsShelf r.shelf.old r.shelf.new) 
   -- the command: `check`, `play` or `audit`; the values of its files are alike to those that the shelf reports.
   verdict_asked : (a : Admission) (t : Tables) → AsksVerdict (told_of r) a t →
       ((b : Admission) × AsksVerdictRun r b t × AreAlike a b) ⊎ (r.status ≡ 8)
+  -- in each case the values that the files say are alike to those that the shelf reports (`b`, `u`, `p`)
   verdict_asked a t q =
       let graph_told = graph_tells None q.bytes a q.file in
       let pack_told = pack_tells (Some a.graph) t q.lawful in
       let short = all_short t q.lawful in
       elim q.words [
+        -- `check`: a graph that is alike, and the same tables
         | inl check ↦ elim (asked (Check q.graph q.pack) (graph_value a ∷ tables_value t ∷ []) refl check
             (q.bytes, q.told, q.file.short, graph_told, (spelling t, q.spelled, short, pack_told, tt))) [
               | inl h ↦ (
@@ -349,6 +353,7 @@ module _ (r : Run) (w : IsLawfulRun r) (k : KeepsShelf r.shelf.old r.shelf.new) 
               | inr memory ↦ inr memory
             ]
         | inr rest ↦ elim rest [
+          -- `play`: also what is played, which is the same
           | inl play ↦ (let n = play.3 in let c = Play q.graph q.pack play.0 play.1 in
               elim (asked c (graph_value a ∷ tables_value t ∷ played_value n.played ∷ []) refl play.2 (
                 q.bytes,
@@ -373,6 +378,7 @@ module _ (r : Run) (w : IsLawfulRun r) (k : KeepsShelf r.shelf.old r.shelf.new) 
                     ))
                 | inr memory ↦ inr memory
               ])
+          -- `audit`: also a log, which may be another
           | inr audit ↦ (let n = audit.2 in let c = Audit q.graph q.pack audit.0 in
               elim (asked c (graph_value a ∷ tables_value t ∷ log_value n.log ∷ []) refl audit.1 (
                 q.bytes,
@@ -406,14 +412,14 @@ module _ (r : Run) (w : IsLawfulRun r) (k : KeepsShelf r.shelf.old r.shelf.new) 
         ]
       ]
 
-  -- tables of another graph are rejected, with 4
+  -- tables `t` of another graph than `a` are rejected, with 4
   pub other : (a : Admission) (t : Tables) → AsksVerdict (told_of r) a t → (IsHeadFor a.graph t.head → ⊥) → Answer 4
   other a t q differs = elim (verdict_asked a t q) [
     | inl h ↦ w.other h.0 t h.1 (moved_on a h.0 h.2 (λ g o. IsHeadFor g t.head → ⊥) differs)
     | inr memory ↦ inr memory
   ]
 
-  -- valid tables of the graph are accepted, with 0
+  -- valid tables `t` of the graph are accepted, with 0
   pub safe : (a : Admission) (t : Tables) → AsksVerdict (told_of r) a t → IsHeadFor a.graph t.head →
       IsValid a.graph t.nodes → Answer 0
   safe a t q head valid = elim (verdict_asked a t q) [
@@ -422,7 +428,7 @@ module _ (r : Run) (w : IsLawfulRun r) (k : KeepsShelf r.shelf.old r.shelf.new) 
     | inr memory ↦ inr memory
   ]
 
-  -- tables of the graph that break a rule are found unsafe, with 7
+  -- tables `t` of the graph that break a rule are found unsafe, with 7
   pub broken : (a : Admission) (t : Tables) → AsksVerdict (told_of r) a t → IsHeadFor a.graph t.head →
       (IsValid a.graph t.nodes → ⊥) → Answer 7
   broken a t q head invalid = elim (verdict_asked a t q) [
@@ -433,7 +439,8 @@ module _ (r : Run) (w : IsLawfulRun r) (k : KeepsShelf r.shelf.old r.shelf.new) 
 
   -- ---- a node, parts
 
-  -- if the table of a node is asked for, the run asks for it of the tables that the shelf reports, or memory ran out
+  -- if the table of a node is asked for (`q`), the run asks for it of the tables `t` that the shelf reports, or memory
+  -- ran out
   node_asked : (t : Tables) (name : Text) (q : AsksNode (told_of r) t name) →
       AsksRun r (Node q.pack name) (tables_value t ∷ []) ⊎ (r.status ≡ 8)
   node_asked t name q = elim (asked (Node q.pack name) (tables_value t ∷ []) refl q.words

@@ -32,7 +32,7 @@ use Rattle.cpg_shelf_laws.proofs.Fetched.{IsLast, agreed, last}
 use Rattle.cpg_shelf_laws.proofs.Sinks.{either_told, part_told, said_told}
 use Rattle.cpg_shelf_laws.proofs.Streams.{closed_told, cut_told, lawful_told, refused_told}
 
--- memory may run out in a run, whatever it was asked
+-- memory may run out in a run `r`, whatever it was asked, `c`
 asked_memory : (r : Run) (c : Option Command) (halt : Halt) → halt ≡ Memory →
     StopsAsked (seen r.shelf.old r.shelf.new) c halt
 asked_memory r None halt e = inr e
@@ -185,6 +185,7 @@ module _ (r : Run) (k : KeepsShelf r.shelf.old r.shelf.new) where
   -- A run ends by the earlier contract, too. By how it ends: a stream that was followed to its close has become an
   -- output.
   pub ends_told : EndsRun r → Ends (told_of r)
+  -- it has an output
   ends_told (inl (text, e)) = inl (
     text,
     record {
@@ -192,6 +193,7 @@ module _ (r : Run) (k : KeepsShelf r.shelf.old r.shelf.new) where
       ending = elim e.ending [ inl p ↦ inl (printed text p) | inr c ↦ inr (cut text c) ];
     },
   )
+  -- it stops with a halt
   ends_told (inr (inl (halt, e))) = inr (inl (
     halt,
     record {
@@ -199,6 +201,7 @@ module _ (r : Run) (k : KeepsShelf r.shelf.old r.shelf.new) where
       ending = elim e.ending [ inl t ↦ inl (told halt t) | inr m ↦ inr (muted halt m) ];
     },
   ))
+  -- it followed a stream to its close
   ends_told (inr (inr (inl e))) = let c = e.completes in inl (
     c.0,
     record {
@@ -206,5 +209,6 @@ module _ (r : Run) (k : KeepsShelf r.shelf.old r.shelf.new) where
       ending = inl (record { status = e.status; out = c.2.taken; err = e.err.taken });
     },
   )
+  -- it followed a stream, but not to its close
   ends_told (inr (inr (inr e))) = inr (inr (record
       { follows = follows_told e.follows; broken = e.broken; breaks = breaks_told e.follows e.broken e.breaks; said = said_told r.err r.status e.broken e.said }))

@@ -24,7 +24,7 @@ longer f newer past now is same = let l = ap (λ (h : List Fetch). length h) (sy
     let k = length-append newer (f ∷ past) in
     omega (arith, l, k)
 
--- a reading that stops has fetched something
+-- a reading that stops with halt `h` has fetched something, so the history has changed
 grows : (g : Option Graph) (files : List File) (past now : List Fetch) (h : Halt) →
     StopsReading g files past now h → now ≡ past → ⊥
 grows g [] past now h s same = absurd s

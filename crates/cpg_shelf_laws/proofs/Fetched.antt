@@ -13,7 +13,7 @@ use Rattle.cpg_inputs.specs.Files.{File, limit_of}
 use Rattle.cpg_inputs.specs.Reading.{IsFetchOf, IsWhole}
 use Rattle.cpg_shelf_laws.specs.Causes.{IsShort}
 
--- if one fact implies another, and the first holds of the bytes that the shelf reports, if it does, so does the second
+-- if `P` implies `Q`, and `P` holds of the bytes that the shelf reports, if it does, so does `Q`
 pub on_some : (told : Option Text) (P Q : Text → Type 0) → ((bytes : Text) → P bytes → Q bytes) → IfSome told P →
     IfSome told Q
 on_some None P Q f p = tt
@@ -33,7 +33,7 @@ told_short told given limit alike short = on_some told (λ bytes. bytes ≡ give
 pub told_says : (told : Option Text) (given : Text) (P : Text → Type 0) → TellsAs told given → P given → IfSome told P
 told_says told given P alike p = on_some told (λ bytes. bytes ≡ given) P (λ bytes e. subst P (sym e) p) alike
 
--- what holds of all fetches holds of one in the middle
+-- if `P` holds of all fetches, it holds of `f`, which is among them
 all_at : (P : Fetch → Type 0) (newer : List Fetch) (f : Fetch) (older : List Fetch) → All P (newer ++ f ∷ older) → P f
 all_at P [] f older h = All-head P f older h
 all_at P (x ∷ newer) f older h = all_at P newer f older (All-tail P x (newer ++ f ∷ older) h)
@@ -52,8 +52,11 @@ longer f older base e = let l = ap length e in let k = length-append older base 
 -- what is so of the newest fetch of a run: it gave as many bytes as the shelf counts, raised the count of faults if it
 -- failed, and gave what the shelf reports
 pub record IsLast (old new : ShelfState) (f : Fetch) : Type 0 where
+  -- the shelf counts as many bytes as it gave
   pub count : given_count new ≡ length f.given
+  -- if it failed, the count of faults rose (`Rose`)
   pub rose : f.failed ≡ true → Rose old.faults new.faults
+  -- it gave what the shelf reports under its name
   pub agrees : Agrees old.stands f
 
 -- given a shelf that a run has kept

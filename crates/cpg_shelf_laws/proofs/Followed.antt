@@ -110,14 +110,14 @@ module _ (r : Run) (w : IsLawfulRun r) (k : KeepsShelf r.shelf.old r.shelf.new) 
 
   -- ---- it isn't stopped before, unless memory runs out
 
-  -- the values of the command are the tables
+  -- the values `ws` of the command `c` are the tables
   value_is : (c : Command) (ws : List Value) → c ≡ Live q.pack name q.stream → Has r c ws → ws ≡ tables_value t ∷ []
   value_is c ws e h =
       let also : Has r (Live q.pack name q.stream) ws = subst (λ c. Has r c ws) e h in
       tables_alone t ws (read_as_told r.shelf.old r.shelf.new k None (file PackFile q.pack ∷ []) r.shelf.old.history []
       (tables_value t ∷ []) ws refl told also.reads)
 
-  -- If the run stops in its work, no node has the name, or memory ran out. P is what follows in both cases.
+  -- If the run stops in its work (`x`), no node has the name, or memory ran out. `P` is what follows in both cases.
   by_work : (P : Type 0) (halt : Halt) → (x : StopsInWork r halt) → (first_named t.head name ≡ None → P) →
       (halt ≡ Memory → P) → P
   by_work P halt x none memory =

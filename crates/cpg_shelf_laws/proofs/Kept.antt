@@ -47,14 +47,14 @@ module _ (r : Run) (w : IsLawfulRun r) (k : KeepsShelf r.shelf.old r.shelf.new) 
     | inr s ↦ inr (refused_stream_told r k s)
   ]
 
-  -- with status 5 the run stops as a process is late
+  -- with status 5 the run stops as a process `p` is late in a scenario `s`, and ends at `finish` there
   is_late : r.status ≡ 5 →
       (a : Admission) × (s : Scenario) × (p : ℕ) × (finish : ℕ) ×
       Stops (seen r.shelf.old r.shelf.new) r.words (Late a s p finish) × IsTold (told_of r) (Late a s p finish)
   is_late e = let p = w.is_late e in
       (p.0, p.1, p.2, p.3, stops_told r k (Late p.0 p.1 p.2 p.3) p.4, told r k (Late p.0 p.1 p.2 p.3) p.5)
 
-  -- with status 6 the run stops as an item is too wide
+  -- with status 6 the run stops as an item `x` is too wide
   is_wide : r.status ≡ 6 →
       (a : Admission) × (x : ℕ) × Stops (seen r.shelf.old r.shelf.new) r.words (TooWide a x) ×
       IsTold (told_of r) (TooWide a x)
@@ -83,6 +83,7 @@ module _ (r : Run) (w : IsLawfulRun r) (k : KeepsShelf r.shelf.old r.shelf.new) 
   -- the run keeps the earlier contract, clause by clause
   pub kept : IsLawful (told_of r)
   kept = record {
+    -- how it ends, and what each status says
     ends = ends_told r k w.ends;
     done = done;
     words = w.words;
@@ -94,6 +95,7 @@ module _ (r : Run) (w : IsLawfulRun r) (k : KeepsShelf r.shelf.old r.shelf.new) 
     is_wide = is_wide;
     is_unsafe = is_unsafe;
     silent = silent;
+    -- what each command answers
     wide = λ a x q ungiven is. wide r w k q.faultless a x q ungiven is;
     made = λ a q timely. made r w k q.faultless a q timely;
     late = λ a q is. late r w k q.faultless a q is;

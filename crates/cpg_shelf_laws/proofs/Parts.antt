@@ -34,7 +34,8 @@ one_has make h (a ∷ []) [] = h a
 one_has make h (a ∷ []) (t ∷ ts) = tt
 one_has make h (a ∷ b ∷ ws) ts = tt
 
--- the same for a form of two words
+-- the same for a form of two words, `a` and `b`, of which `make` makes the command; `ws` are all words, and `ts` the
+-- turns
 two_have : (make : Text → Text → Command) → ((a b : Text) → HasParts (Some (make a b))) → (ws ts : List Text) →
     HasParts (two_words make ws ts)
 two_have make h [] ts = tt
@@ -81,7 +82,7 @@ trial_has (n ∷ []) [] = tried (number n)
 trial_has (n ∷ []) (t ∷ ts) = tt
 trial_has (n ∷ m ∷ ws) ts = tt
 
--- pairs that pass the test for 1 to 4 are at least one
+-- pairs `ps` after a first one, `p`, are at least one pair, if they pass the test for 1 to 4 (`b`)
 few : (b : Bool) (p : Pair) (ps : List Pair) → HasParts (option_map Hyper (cond b (Some (p ∷ ps)) None))
 few true p ps = omega arith
 few false p ps = tt
@@ -104,19 +105,19 @@ abbrev AllHave : List Form → Type 0
 AllHave [] = ⊤
 AllHave (f ∷ fs) = ((ws ts : List Text) → HasParts (f.1 ws ts)) × AllHave fs
 
--- a command by the first form, if it is found, or by the others has parts
+-- a command by the first form `f`, if `b` says that it is found, or by the others has parts
 found : (p : Parts) (b : Bool) (f : Form) (rest : Option Form) → HasParts (f.1 p.positionals p.turns) →
     HasParts (in_form p rest) →
     HasParts (in_form p (cond b (Some f) rest))
 found p true f rest h k = h
 found p false f rest h k = k
 
--- the command that a name's form makes has parts; by induction on the forms
+-- the command that a name's form, one of `fs`, makes of parts `p` has parts; by induction on the forms
 named : (fs : List Form) (name : Text) (p : Parts) → AllHave fs → HasParts (command_named fs name p)
 named [] name p h = tt
 named (f ∷ fs) name p h = found p (bytes_eq f.0 name) f _ (h.0 p.positionals p.turns) (named fs name p h.1)
 
--- the command of the words, if they can be parted, has parts
+-- the command of the words, if they can be parted (`p`), has parts
 parted : (fs : List Form) (name : Text) (p : Option Parts) → AllHave fs →
     HasParts (option_and_then (command_named fs name) p)
 parted fs name None h = tt

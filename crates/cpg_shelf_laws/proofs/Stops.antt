@@ -56,14 +56,14 @@ spells told given t alike short x = record {
   spelled = told_says told given (λ bytes. bytes ≡ spelling t) alike x.spelled;
 }
 
--- bytes within the limit that say a scenario of a graph say it as the shelf reports them
+-- bytes within the limit that say what is played, `p`, say it as the shelf reports them
 pub says_scenario : (told : Option Text) (given : Text) (g : Graph) (p : Played) → TellsAs told given →
     length given ≤ limit_of ScenarioFile → ArePlayed given g p →
     SaysPlayed told g p
 says_scenario told given g p alike short x =
     (told_short told given _ alike short, told_says told given (λ bytes. file_of g bytes ≡ Ok p) alike x.says)
 
--- bytes within the limit that are a log of a graph are so as the shelf reports them
+-- bytes within the limit that are a log `l` of a graph are so as the shelf reports them
 pub says_acts : (told : Option Text) (given : Text) (g : Graph) (l : Log) → TellsAs told given →
     length given ≤ limit_of LogFile → AreLogged given g l →
     SaysLog told g l

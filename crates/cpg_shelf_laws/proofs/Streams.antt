@@ -49,8 +49,11 @@ part_of limit fed rest l =
 
 -- a stream of these bytes is refused with this fault, after these lines
 record IsRefusedBy (h : Head) (table : NodeTable) (bytes : List ℕ) (fault : StreamFault) (lines : List ℕ) : Type 0 where
+  -- a stream of these bytes ends with this fault
   ends : stream_end table bytes ≡ Err fault
+  -- if the fault is `Long`, the stream is too long
   long : fault ≡ Long → IsTooLong table bytes
+  -- the lines are those that the bytes give
   spelled : lines ≡ stream_lines h table bytes
 
 -- given a fetch that gave a front of a stream, at most one byte more than the limit
@@ -68,7 +71,7 @@ module _ (h : Head) (table : NodeTable) (f : Fetch) (whole : List ℕ) (w : IsFr
   same_of_none : w.rest ≡ [] → read_part whole ≡ read_part f.given
   same_of_none none = ap read_part (w.front ∙ (ap (λ rest. f.given ++ rest) none ∙ append-nil f.given))
 
-  -- so it is if more than the limit was given
+  -- if more than the limit was given, the part that is read is that of what was given
   same_of_full : STREAM_LIMIT < length f.given → read_part whole ≡ read_part f.given
   same_of_full over =
       let e : STREAM_LIMIT + 1 - length f.given ≡ 0 = omega (arith, over, few) in
@@ -128,7 +131,8 @@ module _ (h : Head) (table : NodeTable) (f : Fetch) (whole : List ℕ) (w : IsFr
   by_lawless fault lines c None e = refused_lawful fault lines c e
   by_lawless fault lines c (Some lawless) e = refused_lawless fault lines lawless c e
 
-  -- A proper front of the lines of what was given is one of all lines, which go on with those of the rest.
+  -- If what was taken grew from `a` to `b` by a proper prefix of the lines of what was given, that is one of all lines,
+  -- which go on with those of the rest.
   cut_lines : (a b : List ℕ) → TookPrefix a b (act_lines h (after table f.given).progress.acts) →
       TookPrefix a b (stream_lines h table whole)
   cut_lines a b took =
@@ -203,8 +207,8 @@ module _ (h : Head) (table : NodeTable) (f : Fetch) where
   lawful_told told count lines e w c =
       record { bytes = f.given; count = e; first = given_first told count e w; lawful = c.lawful; spelled = c.spelled }
 
-  -- Lines that were cut off by what was given are so by what the shelf reports. The stream was given whole, or the
-  -- lines so far were cut, which are a front of all.
+  -- Lines that were cut off between `a` and `b` by what was given are so by what the shelf reports. The stream was
+  -- given whole, or the lines so far were cut, which are a front of all.
   pub cut_told : (told : Option (List ℕ)) (a b : List ℕ) → IfSome told (λ whole. IsFrontOf whole f) →
       IsCutFetch h table f a b →
       IsCutOff h table told (Some a) (Some b)

@@ -32,8 +32,8 @@ Tells g LogFile bytes v = Says g LogFile bytes v
 Tells (Some g) ScenarioFile bytes v = (p : Played) × (v ≡ played_value p) × (file_of g bytes ≡ Ok p)
 Tells None ScenarioFile bytes v = ⊥
 
--- if the same bytes tell a value and say another, later files are read for the same graph after both; by the kind of
--- file
+-- if the same bytes of kind `k` tell a value `v` and say another, `w`, later files are read for the same graph after
+-- both; by the kind of file
 tells_after : (g : Option Graph) (k : FileKind) (bytes : Text) (v w : Value) → Tells g k bytes v → Says g k bytes w →
     graph_after g w ≡ graph_after g v
 tells_after g GraphFile bytes v w x y = says_after g GraphFile bytes v w x y
@@ -44,7 +44,7 @@ tells_after (Some g) ScenarioFile bytes v w (p, e, x) (q, f, y) =
     ap (graph_after (Some g)) f ∙ sym (ap (graph_after (Some g)) e)
 tells_after None ScenarioFile bytes v w x y = absurd x
 
--- if the same bytes tell a value and say another, the two are alike; by the kind of file
+-- if the same bytes of kind `k` tell a value `v` and say another, `w`, the two are alike; by the kind of file
 tells_alike : (g : Option Graph) (k : FileKind) (bytes : Text) (v w : Value) → Tells g k bytes v → Says g k bytes w →
     IsAlike v w
 tells_alike g GraphFile bytes v w x y = says_alike g GraphFile bytes v w x y
@@ -55,7 +55,7 @@ tells_alike (Some g) ScenarioFile bytes v w (p, e, x) (q, f, y) = subst (λ u. I
     (subst (λ u. IsAlike (played_value p) u) (sym f) (same_value (file_of g bytes) q p y.says x))
 tells_alike None ScenarioFile bytes v w x y = absurd x
 
--- bytes that tell a value aren't rejected, unless memory runs out; by the kind of file
+-- bytes of kind `k` that tell a value `v` aren't rejected, unless memory runs out; by the kind of file
 tells_no_refusal : (g : Option Graph) (k : FileKind) (bytes : Text) (v : Value) (h : Halt) → Tells g k bytes v →
     Refuses g k bytes h → h ≡ Memory
 tells_no_refusal g GraphFile bytes v h x r = not_refused g GraphFile bytes v h x r
@@ -73,7 +73,7 @@ AreTold stands g (f ∷ fs) [] = ⊥
 AreTold stands g (f ∷ fs) (v ∷ vs) = (bytes : Text) × (stands f.name ≡ Some bytes) × (length bytes ≤ limit_of f.kind) ×
     Tells g f.kind bytes v × AreTold stands (graph_after g v) fs vs
 
--- if the shelf reports these bytes, what holds of what it reports holds of them
+-- if the shelf reports these bytes, in `o`, what holds of what it reports (`P`) holds of them
 known : (o : Option Text) (bytes : Text) (P : Text → Type 0) → o ≡ Some bytes → IfSome o P → P bytes
 known o bytes P e p = subst (λ o. IfSome o P) e p
 
@@ -86,31 +86,37 @@ module _ (old new : ShelfState) (k : KeepsShelf old new) where
   given_is f fetch bytes e w ag =
       known (old.stands f.name) bytes (λ b. b ≡ fetch.given) e (tells_whole old.stands f fetch w ag)
 
-  -- If the shelf meets no fault, none of the files stops the run, unless memory runs out. By induction on the files:
-  -- the first is neither too long nor rejected, or it was read, and a later one stops the run.
+  -- If the shelf meets no fault, and its bytes tell the values `vs`, none of the files stops the run, unless memory
+  -- runs out. By induction on the files: the first is neither too long nor rejected, or it was read, and a later one
+  -- stops the run.
   pub none_stops : (Rose old.faults new.faults → ⊥) →
       (g : Option Graph) (files : List File) (past older : List Fetch) (vs : List Value) (h : Halt) →
       past ≡ older ++ old.history →
       AreTold old.stands g files vs → StopsReading g files past new.history h → h ≡ Memory
   none_stops still g [] past older vs h e t s = absurd s
   none_stops still g (f ∷ fs) past older [] h e t s = absurd t
+  -- the first file stops the run: by none of the four ways, unless memory runs out
   none_stops still g (f ∷ fs) past older (v ∷ vs) h e t (fetch, inl (stops, is)) =
       let l = last old new k fetch older (is ∙ ap (λ p. fetch ∷ p) e) in
       elim stops [
+        -- the shelf met no fault
         | inl u ↦ absurd (still (l.rose u.failed))
         | inr rest ↦ elim rest [
+          -- it isn't too long, as what the shelf reports of it isn't
           | inl long ↦ absurd (let o = known (old.stands f.name) t.0 (λ b. limit_of f.kind < length b) t.1
               (tells_long old.stands f fetch long.of
               (more (length fetch.given) (limit_of f.kind) long.over) l.agrees) in
               let s = t.2 in
               omega (arith, o, s))
           | inr other ↦ elim other [
+            -- its bytes tell a value, so they aren't rejected
             | inl r ↦ tells_no_refusal g f.kind fetch.given v h
                 (subst (λ b. Tells g f.kind b v) (given_is f fetch t.0 t.1 r.whole l.agrees) t.3) r.refuses
             | inr w ↦ w.halt_is
           ]
         ]
       ]
+  -- the first file was read, and a later one stops the run
   none_stops still g (f ∷ fs) past older (v ∷ vs) h e t (fetch, inr (w, read, there)) =
       let grown = stops_grown (graph_after g w) fs (fetch ∷ past) new.history h there in
       let ag = agreed old new k fetch
@@ -119,8 +125,8 @@ module _ (old new : ShelfState) (k : KeepsShelf old new) where
       none_stops still (graph_after g w) fs (fetch ∷ past) (fetch ∷ older) vs h (ap (λ p. fetch ∷ p) e)
       (subst (λ o. AreTold old.stands o fs vs) (sym (tells_after g f.kind fetch.given v w x read.says)) t.4) there
 
-  -- If the files are read, the values that they say are alike to those that the shelf's bytes tell. By induction on the
-  -- files.
+  -- If the files are read, the values `ws` that they say are alike to those that the shelf's bytes tell, `vs`. By
+  -- induction on the files.
   pub read_as_told : (g : Option Graph) (files : List File) (past older : List Fetch) (vs ws : List Value) →
       past ≡ older ++ old.history →
       AreTold old.stands g files vs →

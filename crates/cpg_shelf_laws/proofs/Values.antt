@@ -37,26 +37,26 @@ abbrev log_in : Log → Value → Log
 log_in d (log_value l) = l
 log_in d v = d
 
--- the value of a graph file is the admitted graph that the bytes say
+-- the value of a graph file is the admitted graph `a` that the bytes `given` say
 pub says_graph : (g : Option Graph) (given : Text) (a : Admission) → Says g GraphFile given (graph_value a) →
     AreAdmitted given a
 says_graph g given a (b, e, x) = subst (AreAdmitted given) (sym (ap (graph_in a) e)) x
 
--- a part's value is the graph that the bytes say
+-- a part's value is the graph `h` that the bytes `given` say
 pub says_part : (g : Option Graph) (given : Text) (h : Graph) → Says g PartFile given (part_value h) →
     problem_of given ≡ Ok h
 says_part g given h (b, e, x) = subst (λ b. problem_of given ≡ Ok b) (sym (ap (part_in h) e)) x
 
--- the value of a pack is the tables that the bytes spell
+-- the value of a pack is the tables `t` that the bytes `given` spell
 pub says_tables : (g : Option Graph) (given : Text) (t : Tables) → Says g PackFile given (tables_value t) →
     AreSpelled given t
 says_tables g given t (u, e, x) = subst (AreSpelled given) (sym (ap (tables_in t) e)) x
 
--- the value of a scenario file is the scenario and the lengths that the bytes say
+-- the value of a scenario file is the scenario and the lengths, `p`, that the bytes `given` say
 pub says_played : (g : Graph) (given : Text) (p : Played) → Says (Some g) ScenarioFile given (played_value p) →
     ArePlayed given g p
 says_played g given p (q, e, x) = subst (ArePlayed given g) (sym (ap (played_in p) e)) x
 
--- the value of a log is the log that the bytes are
+-- the value of a log is the log `l` that the bytes `given` are
 pub says_log : (g : Graph) (given : Text) (l : Log) → Says (Some g) LogFile given (log_value l) → AreLogged given g l
 says_log g given l (m, e, x) = subst (AreLogged given g) (sym (ap (log_in l) e)) x

@@ -109,7 +109,9 @@ pub record IsFaulty (seen : Seen) (told : Option Text) (halt : Halt) : Type 0 wh
 -- something about x stops a run, after a file was read that gave no more bytes than its limit
 pub record IsAfterReading {T : Type 0} (given limit : ℕ) (Stops : T → Halt → Type 0) (x : T)
     (halt : Halt) : Type 0 where
+  -- something about `x` stops the run
   pub stops : Stops x halt
+  -- the file that was read last gave no more bytes than its limit
   pub within : given ≤ limit
 
 -- the reading of a graph file stops with this halt: the shelf met a fault, the file is too long or says no graph, or

@@ -1,5 +1,5 @@
--- How a run ends: either its output or its line is taken whole, or a sink meets a fault. A run that follows a stream
--- has endings of its own.
+-- How a run ends, by the earlier contract: either its output or its line is taken whole, or a sink meets a fault. A
+-- run that follows a stream has endings of its own.
 use Rattle.std.specs.Prelude.{ℕ, ◌≡◌, ◌⊎◌, List, Some}
 use Rattle.cpg_words.specs.Parts.{Text}
 use Rattle.cpg_words.specs.Forms.{command_of}
@@ -30,26 +30,38 @@ pub record Ran : Type 0 where
 
 -- the output was taken whole, and nothing was written to `err`
 pub record IsPrinted (r : Ran) (text : Text) : Type 0 where
+  -- the status is 0
   pub status : r.status ≡ 0
+  -- `out` took the whole text
   pub out : Whole r.out text
+  -- `err` took nothing
   pub err : Untouched r.err
 
 -- `out` met a fault before it had taken the whole output, and `err` took the line that reports it, whole or in part
 pub record IsCut (r : Ran) (text : Text) : Type 0 where
+  -- the status is that of a fault of a sink
   pub status : r.status ≡ 3
+  -- `out` met a fault before it had taken the whole text
   pub out : Part r.out text
+  -- `err` took the line of a write fault, whole or in part
   pub err : Whole r.err write_fault_line ⊎ Part r.err write_fault_line
 
 -- the line that says why the run stops was taken whole, and nothing was written to `out`
 pub record IsTold (r : Ran) (halt : Halt) : Type 0 where
+  -- the status is the halt's
   pub status : r.status ≡ status_of halt
+  -- `out` took nothing
   pub out : Untouched r.out
+  -- `err` took the whole line
   pub err : Whole r.err (line_of halt)
 
 -- `err` met a fault before it had taken that whole line, and nothing was written to `out`
 pub record IsMuted (r : Ran) (halt : Halt) : Type 0 where
+  -- the status is that of a fault of a sink
   pub status : r.status ≡ 3
+  -- `out` took nothing
   pub out : Untouched r.out
+  -- `err` met a fault before it had taken the whole line
   pub err : Part r.err (line_of halt)
 
 -- a run has this output, and it was taken whole or cut

@@ -45,14 +45,18 @@ use Rattle.cpg_shelf_laws.specs.Sinks.{Untouched, Whole}
 
 -- neither the shelf nor one of the two sinks met a fault
 pub record IsFaultless (r : Ran) : Type 0 where
+  -- no count of faults rose: not the shelf's, nor that of `out` or of `err`
   pub shelf : Rose r.shelf.before r.shelf.now → ⊥
   pub out : Rose r.out.before r.out.now → ⊥
   pub err : Rose r.err.before r.err.now → ⊥
 
 -- the bytes, at most 16 MiB, say a graph, which is admitted with its order and its guards
 pub record AreAdmitted (bytes : Text) (a : Admission) : Type 0 where
+  -- the bytes are within the limit of a graph file
   pub short : length bytes ≤ GRAPH_LIMIT
+  -- they say the graph
   pub says : problem_of bytes ≡ Ok a.graph
+  -- the graph keeps the rules, with this order and these guards
   pub admitted : IsAdmitted a.graph a.order a.guards
 
 -- the words ask for the tables of a graph file, as a text or as a pack
@@ -64,26 +68,32 @@ pub record Asks (r : Ran) (a : Admission) : Type 0 where
   -- the graph file, and its bytes
   pub graph : Text
   pub bytes : Text
+  -- the command is `show` or `compile` on this file
   pub words : AsksFor graph (command_of r.words)
   pub told : r.shelf.stands graph ≡ Some bytes
   -- these bytes are a graph file, and `a` is the admitted graph with its order and guards
   pub file : AreAdmitted bytes a
+  -- nothing failed
   pub faultless : IsFaultless r
 
 -- the shelf reports the bytes of a file, at most 16 MiB, and they say a scenario of the graph with lengths of
 -- executions
 pub record SaysScenario (r : Ran) (g : Graph) (name : Text) : Type 0 where
+  -- the bytes that the shelf reports, within the limit of a scenario file
   pub bytes : Text
   pub told : r.shelf.stands name ≡ Some bytes
   pub short : length bytes ≤ SCENARIO_LIMIT
+  -- the scenario that they say, with lengths of executions
   pub played : Played
   pub says : file_of g bytes ≡ Ok played
 
 -- the shelf reports the bytes of a file, at most 16 MiB, and they are a log of the graph
 pub record SaysActs (r : Ran) (g : Graph) (name : Text) : Type 0 where
+  -- the bytes that the shelf reports, within the limit of a log
   pub bytes : Text
   pub told : r.shelf.stands name ≡ Some bytes
   pub short : length bytes ≤ LOG_LIMIT
+  -- the log that they are
   pub log : Log
   pub says : IsLogOf g bytes log
 
@@ -100,13 +110,16 @@ pub record AsksVerdict (r : Ran) (a : Admission) (t : Tables) : Type 0 where
   -- the files of the graph and of the pack
   pub graph : Text
   pub pack : Text
+  -- the command is `check`, `play` or `audit` on these files
   pub words : AsksToJudge r a.graph graph pack
   -- the bytes of the graph file
   pub bytes : Text
   pub told : r.shelf.stands graph ≡ Some bytes
+  -- they say the graph of `a`, which is admitted
   pub file : AreAdmitted bytes a
   -- the pack file has exactly the bytes that the tables are spelled with
   pub spelled : r.shelf.stands pack ≡ Some (spelling t)
+  -- the tables are lawful, and nothing failed
   pub lawful : AreLawful t
   pub faultless : IsFaultless r
 
@@ -114,8 +127,10 @@ pub record AsksVerdict (r : Ran) (a : Admission) (t : Tables) : Type 0 where
 pub record AsksNode (r : Ran) (t : Tables) (name : Text) : Type 0 where
   -- the file of the pack, which has exactly the bytes that the tables are spelled with
   pub pack : Text
+  -- the command is `node` on this pack and this name
   pub words : command_of r.words ≡ Some (Node pack name)
   pub spelled : r.shelf.stands pack ≡ Some (spelling t)
+  -- the tables are lawful, and nothing failed
   pub lawful : AreLawful t
   pub faultless : IsFaultless r
 
@@ -124,16 +139,21 @@ pub record AsksTuning (r : Ran) (a : Admission) : Type 0 where
   -- the graph file, and its bytes
   pub graph : Text
   pub bytes : Text
+  -- the command is `tune` on this file
   pub words : command_of r.words ≡ Some (Tune graph)
   pub told : r.shelf.stands graph ≡ Some bytes
+  -- the bytes say the graph of `a`, which is admitted
   pub file : AreAdmitted bytes a
+  -- nothing failed
   pub faultless : IsFaultless r
 
 -- the shelf reports bytes, at most 16 MiB, and they say a graph
 pub record TellsGraph (told : Option Text) (g : Graph) : Type 0 where
+  -- the bytes that the shelf reports, within the limit of a graph file
   pub bytes : Text
   pub is : told ≡ Some bytes
   pub short : length bytes ≤ GRAPH_LIMIT
+  -- they say the graph
   pub says : problem_of bytes ≡ Ok g
 
 -- there are as many parts as pairs of words, with the pairs' periods, and the shelf reports the bytes of their graphs
@@ -148,8 +168,11 @@ AreTold stands (pair ∷ pairs) (part ∷ parts) =
 pub record AsksUnrolling (r : Ran) (parts : List Part) : Type 0 where
   -- the words give a period and a graph file for each part
   pub pairs : List Pair
+  -- the command is `hyper` on these pairs
   pub words : command_of r.words ≡ Some (Hyper pairs)
+  -- the shelf reports the graphs of the parts under the names of the files
   pub told : AreTold r.shelf.stands pairs parts
+  -- nothing failed
   pub faultless : IsFaultless r
 
 -- the words ask a node with this name to follow a stream, the shelf reports the bytes of tables and of the stream, and
@@ -158,11 +181,14 @@ pub record AsksStream (r : Ran) (t : Tables) (name bytes : Text) : Type 0 where
   -- the files of the pack and of the stream
   pub pack : Text
   pub stream : Text
+  -- the command is `live` on these files and this name
   pub words : command_of r.words ≡ Some (Live pack name stream)
   -- the pack has exactly the bytes that the tables are spelled with
   pub spelled : r.shelf.stands pack ≡ Some (spelling t)
   pub lawful : AreLawful t
+  -- the stream has these bytes
   pub told : r.shelf.stands stream ≡ Some bytes
+  -- nothing failed
   pub faultless : IsFaultless r
 
 -- the status by a stream's end: 0 if it is its close, and 4 if the stream is rejected

@@ -102,7 +102,8 @@ IsOutputOf seen (Hyper parts) text = IsUnrolledOf seen.stands parts text
 IsOutputOf seen (Tune graph) text = IsTunedOf (seen.stands graph) text
 IsOutputOf seen (Audit graph pack log) text = IsAuditOf (seen.stands graph) (seen.stands pack) (seen.stands log) text
 
--- the file that the command reads last gave no more bytes than its limit; `trial` reads none
+-- `given`, the number of bytes that the file gave which the command reads last, is within the file's limit; `trial`
+-- reads none
 abbrev pub ReadsWithin : Command → ℕ → Type 0
 ReadsWithin (Show graph) given = given ≤ GRAPH_LIMIT
 ReadsWithin (Compile graph) given = given ≤ GRAPH_LIMIT
@@ -115,9 +116,9 @@ ReadsWithin (Hyper parts) given = given ≤ GRAPH_LIMIT
 ReadsWithin (Tune graph) given = given ≤ GRAPH_LIMIT
 ReadsWithin (Audit graph pack log) given = given ≤ LOG_LIMIT
 
--- A command puts out a text. The file that it reads last gave no more bytes than its limit, even if the shelf reports
--- nothing of it.
-pub record PrintsCommand (seen : Seen) (command : Command) (text : Text) : Type 0 where
+-- The command prints the text, and the file that it reads last gave no more bytes than its limit. This holds even if
+-- the shelf reports nothing of that file.
+pub record CommandPrints (seen : Seen) (command : Command) (text : Text) : Type 0 where
   -- given what the shelf reports, the text is the command's output
   pub output : IsOutputOf seen command text
   pub within : ReadsWithin command seen.given
@@ -125,7 +126,7 @@ pub record PrintsCommand (seen : Seen) (command : Command) (text : Text) : Type 
 -- the command, if the words form one, puts out the text
 abbrev pub PrintsAsked : Seen → Option Command → Text → Type 0
 PrintsAsked seen None text = ⊥
-PrintsAsked seen (Some command) text = PrintsCommand seen command text
+PrintsAsked seen (Some command) text = CommandPrints seen command text
 
 -- a run of the words puts out the text
 abbrev pub Prints : Seen → List Text → Text → Type 0

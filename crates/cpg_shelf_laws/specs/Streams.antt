@@ -30,23 +30,28 @@ pub record IsClosed (h : Head) (table : NodeTable) (told : Option (List ℕ)) (l
 -- a stream is rejected, and these are the lines of the lawful records before the place of the fault
 pub record IsRefused (h : Head) (table : NodeTable) (told : Option (List ℕ)) (fault : StreamFault)
     (lines : List ℕ) : Type 0 where
+  -- the bytes that were read
   pub bytes : List ℕ
   -- the bytes are the stream's, if these are known
   pub of : AreBytesOf told bytes
+  -- the stream ends with this fault
   pub ends : stream_end table bytes ≡ Err fault
   -- the fault `Long` says that all bytes up to the limit are lawful, have no close, and at least one byte more came
   pub long : fault ≡ Long → IsTooLong table bytes
+  -- the lines are those of the records before it
   pub spelled : lines ≡ stream_lines h table bytes
 
 -- the records in the first bytes of a stream, as many as the shelf gave, are all lawful, and these are their lines
 pub record IsLawfulSoFar (h : Head) (table : NodeTable) (told : Option (List ℕ)) (given : ℕ)
     (lines : List ℕ) : Type 0 where
+  -- the bytes that the shelf gave
   pub bytes : List ℕ
   pub count : given ≡ length bytes
   -- if the whole stream is known, the bytes are its first ones
   pub first : IfSome told (λ whole. bytes ≡ take given whole)
   -- no record in these bytes is lawless
   pub lawful : (after table bytes).lawless ≡ None
+  -- the lines are those of the acts after these bytes
   pub spelled : lines ≡ act_lines h (after table bytes).progress.acts
 
 -- only a proper prefix of all lines of a stream was written

@@ -1,4 +1,4 @@
--- One more part of a sheet, and the text of tables by their rows.
+-- The text of tables by their rows: with each item that has lines, a sheet has one more part.
 use Rattle.std.proofs.Common.{◌≡◌, ℕ, ◌+◌, List, [], ◌∷◌, ◌++◌, if◌then◌else◌, true, false, refl, flat_map}
 use Rattle.std.proofs.Common.{string_bytes, append-nil, sym, ap, ap₂, ◌∙◌}
 use Rattle.std.proofs.lemmas.Grind.{flat_map-append}
@@ -18,13 +18,13 @@ use Rattle.cpg_show.specs.TableText.{head_line, is_shown, item_text, lines_of_ro
 use Rattle.cpg_show.specs.TableText.{worst_line}
 use Rattle.cpg_show.specs.declared.sheet.SheetPart.{SheetPart}
 
--- the columns of a source are those that it shows
+-- if a source shows these columns, they are the columns of the source
 source_shows : (source : RowSource) (columns : List Column) → ShowsSource source columns →
     columns_of_source source ≡ columns
 source_shows (Listed listed) columns is = is
 source_shows (Kept tree) columns is = is
 
--- one more part adds its text
+-- the text of parts with one more at the end is theirs and then its text
 pushed : (labels : Labels) (rows : List SheetPart) (part : SheetPart) →
     flat_map (part_text labels) (rows ++ part ∷ []) ≡ flat_map (part_text labels) rows ++ part_text labels part
 pushed labels rows part = flat_map-append (part_text labels) rows (part ∷ [])

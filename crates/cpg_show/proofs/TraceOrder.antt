@@ -21,7 +21,7 @@ use Rattle.cpg_show.specs.declared.event.EventKind.TheVariants.{End, Send, Start
 use Rattle.cpg_show.specs.TraceEvents.{EventKind, TraceEvent, AreToldInOrder, all_events, kind_key, event_key}
 use Rattle.cpg_show.specs.TraceText.{IsTraceText, event_line, finish_line}
 
--- a comparison by o and then by p that isn't less stays so with q for p, if q isn't less whenever p isn't
+-- a comparison by `o` and then by `p` that isn't less stays so with `q` for `p`, if `q` isn't less whenever `p` isn't
 then_weaker : (o p q : Ordering) → (is_lt p ≡ false → is_lt q ≡ false) → is_lt (ordering_then o p) ≡ false →
     is_lt (ordering_then o q) ≡ false
 then_weaker Less p q h k = k
@@ -47,7 +47,8 @@ kind_order (Start p) (End q g w) h = refl
 kind_order (Start p) (Send y) h = refl
 kind_order (Start p) (Start q) h = then_equal (nat_cmp p q) h
 
--- an event that isn't less by the derived order hasn't a lower key: time, node and kind are compared in this order
+-- if event `a` isn't less than `b` by the derived order, it hasn't a lower key: time, node and kind are compared in
+-- this order
 event_order : (a b : TraceEvent) → is_lt ((event_ord.ghosts).cmp a b) ≡ false →
     is_below (event_key a) (event_key b) ≡ false
 event_order a b h = then_weaker (nat_cmp a.time b.time) _ _
@@ -74,26 +75,27 @@ in_order events up i j d h l = sorted_far is_event_below is_total events
 abbrev is_tied : TraceEvent → TraceEvent → Bool
 is_tied a b = not (is_event_below a b) && not (is_event_below b a)
 
--- neither is neither in either order
+-- neither `x` nor `y` is neither `y` nor `x`
 and_flips : (x y : Bool) → (not x && not y) ≡ (not y && not x)
 and_flips true true = refl
 and_flips true false = refl
 and_flips false true = refl
 and_flips false false = refl
 
--- if two tests aren't both false, their negations aren't both true
+-- if `x` and `y` aren't both false, their negations aren't both true
 not_both : (x y : Bool) → (x ≡ false → y ≡ false → ⊥) → (not x && not y) ≡ false
 not_both true y h = refl
 not_both false true h = refl
 not_both false false h = absurd (h refl refl)
 
--- if their negations aren't both true, and y is false, x is true
+-- if the negations of `x` and `y` aren't both true, and `y` is false, then `x` is true
 before_from : (x y : Bool) → (not x && not y) ≡ false → y ≡ false → x ≡ true
 before_from true y h k = refl
 before_from false true h k = absurd (true≢false k)
 before_from false false h k = absurd (true≢false h)
 
--- if no two events of xs have the same key, those of xs in order (ys) rise: of two, neither is after and not both are tied
+-- if no two events of `xs` have the same key, those of `xs` in order, `ys`, rise: of two, neither is after and not both
+-- are tied
 rises : (xs ys : List TraceEvent) → AllPairs (λ a b. event_key a ≢ event_key b) xs → IsPermutation xs ys →
     AllPairs (λ a b. is_below (event_key b) (event_key a) ≡ false) ys →
     AllPairs (λ a b. is_event_below a b ≡ true) ys
@@ -107,7 +109,7 @@ rises xs ys apart p up i j d h l =
     h l)
     (up i j d h l)
 
--- if no two events have the same key, two lists of all events in order are equal
+-- if no two events have the same key, two lists `xs` and `ys` of all events in order are equal
 one_events : (g : Graph) (acts : List (List Act)) (ends : List (List (ℕ × Ended))) (xs ys : List TraceEvent) →
     AllPairs (λ a b. event_key a ≢ event_key b) (all_events g acts ends) →
     AreToldInOrder g acts ends xs → AreToldInOrder g acts ends ys → xs ≡ ys

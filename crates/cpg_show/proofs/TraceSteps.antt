@@ -15,6 +15,7 @@ use Rattle.cpg_show.specs.TraceEvents.{event_of_act, event_of_end, node_events}
 use Rattle.cpg_show.specs.TraceText.{end_times}
 use Rattle.cpg_label.proofs.Steps.{next_piece}
 
+-- given a graph, and the acts and the ends of each node
 module _ (g : Graph) (acts : List (List Act)) (ends : List (List (ℕ × Ended))) where
   -- if `before` are the events of the nodes below i, then with the acts of node i and its ends they are those below i + 1
   pub one_node : (i : ℕ) (before middle after : List TraceEvent) →
@@ -44,16 +45,16 @@ module _ (g : Graph) (acts : List (List Act)) (ends : List (List (ℕ × Ended))
       (All-map (λ (e : TraceEvent). IsKindWithin g e.kind) (event_of_end i) (get_or ends i [])
       (λ k d l. ((h k d l).process, (h k d l).faults)))
 
-  -- if this holds of each node, it holds of all events: each is an event of some node
+  -- if the acts and ends of each node are of items and processes of the graph, so are all events: each is that of some node
   pub all_within : ((i : ℕ) → i < length g.nodes → All (IsActWithin g) (get_or acts i [])) →
       ((i : ℕ) → i < length g.nodes → All (IsEndWithin g) (get_or ends i [])) →
       All (λ e. IsKindWithin g e.kind) (all_events g acts ends)
   all_within a h k d l =
-      let there = Contains-flat_map_parts (node_events g acts ends) (numbers_below (length g.nodes))
+      let of_node = Contains-flat_map_parts (node_events g acts ends) (numbers_below (length g.nodes))
       (get_or (all_events g acts ends) k d) (Contains-get_or (all_events g acts ends) k d l) in
-      let i = numbers-Contains (length g.nodes) there.0 there.1 in
-      All-contains (λ (e : TraceEvent). IsKindWithin g e.kind) (node_events g acts ends there.0)
-      (get_or (all_events g acts ends) k d) (node_within there.0 (a there.0 i) (h there.0 i)) there.2
+      let i = numbers-Contains (length g.nodes) of_node.0 of_node.1 in
+      All-contains (λ (e : TraceEvent). IsKindWithin g e.kind) (node_events g acts ends of_node.0)
+      (get_or (all_events g acts ends) k d) (node_within of_node.0 (a of_node.0 i) (h of_node.0 i)) of_node.2
 
 -- if `before` is the greatest end of the nodes below i, the greatest of it and the ends of node i is that below i + 1
 pub one_finish : (ends : List (List (ℕ × Ended))) (i before after : ℕ) →

@@ -17,13 +17,14 @@ use Rattle.cpg_cluster.proofs.Passed.{played_reached}
 use Rattle.cpg_cluster.proofs.Plays.{played_of}
 use Rattle.cpg_show.specs.TraceEvents.{IsActWithin, IsEndWithin}
 
--- a process has at most the graph's faults in a lawful scenario, since all together have
+-- in a lawful scenario `s`, process `p` has at most the graph's faults, since all together have
 fault_within : (g : Graph) (s : Scenario) → IsScenario g s → (p : ℕ) → fault_of s p ≤ g.faults
 fault_within g s law p = elim (cases_lt p (length s.faults)) [
   | inl l ↦ omega (arith, get_or-le-sum_by (λ x. x) s.faults p 0 l, law.budget)
   | inr past ↦ omega (arith, get_or_past s.faults p 0 past)
 ]
 
+-- given a play of valid tables
 module _ (p : Playing) (is : IsPlaying p) where
   -- what is known of any play of these tables
   k : Played p.graph p.tables p.world
@@ -55,16 +56,16 @@ module _ (p : Playing) (is : IsPlaying p) where
         faults = omega (arith, faults, fault_within g p.world.scenario is.world.scenario planned.process);
       }) ends (All-contains_itself ends)
 
--- The same of the graph as code sees it.
+-- The same for `g`, the graph as code sees it, which is that of the play.
 
--- the acts of each node of a play are on items of the graph
+-- the acts of each `node` in the play `p` are on items of the graph
 pub acts_at : (p : Playing) → IsPlaying p → (g : Graph) → p.graph ≡ g → (node : ℕ) → node < length g.nodes →
     All (IsActWithin g) (get_or p.cluster.acts node [])
 acts_at p is g same =
     subst (λ (g : Graph). (node : ℕ) → node < length g.nodes → All (IsActWithin g) (get_or p.cluster.acts node [])) same
     (acts_within p is)
 
--- the ends of each node of a play are of processes of the graph, with at most the graph's faults
+-- the ends of each `node` in the play `p` are of processes of the graph, with at most the graph's faults
 pub ends_at : (p : Playing) → IsPlaying p → (g : Graph) → p.graph ≡ g → (node : ℕ) → node < length g.nodes →
     All (IsEndWithin g) (get_or p.cluster.ends node [])
 ends_at p is g same =

@@ -10,7 +10,7 @@ use Rattle.cpg_tree_columns.specs.Columns.{columns_of_paths}
 use Rattle.cpg_show.specs.declared.sheet.SheetPart.{SheetPart}
 use Rattle.cpg_show.specs.declared.sheet.Sheet.{Sheet}
 
--- the columns of a source: those that it lists, or those that its tree's paths lead to
+-- the columns of a source: those of its list, or those that the paths of its tree lead to
 abbrev pub columns_of_source : RowSource → List Column
 columns_of_source (Listed columns) = columns.now
 columns_of_source (Kept tree) = columns_of_paths tree.now.paths

@@ -30,11 +30,11 @@ head_line g x = act_text (labels_of g) (item_at g x) ++ codes " on " ++ get_or g
 abbrev pub item_text : Graph → List NodeTable → ℕ → List ℕ
 item_text g tables x = if is_shown g x then head_line g x ++ columns_text (labels_of g) (columns_of tables x) else []
 
--- the line of the order: the names of the processes in it
+-- the line of the order: the word, and the names of the processes in it, each after a blank
 abbrev pub order_line : Graph → List ℕ → List ℕ
 order_line g order = codes "order" ++ flat_map (λ p. codes " " ++ process_name (labels_of g) p) order ++ codes "\n"
 
--- the line of the greatest finish
+-- the line of the greatest finish, `worst`
 abbrev pub worst_line : ℕ → List ℕ
 worst_line worst = codes "worst " ++ decimal worst ++ codes "\n"
 

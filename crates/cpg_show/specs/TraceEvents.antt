@@ -58,12 +58,16 @@ event_key e = e.time ∷ e.node ∷ kind_key e.kind
 -- such list
 pub record AreToldInOrder (g : Graph) (acts : List (List Act)) (ends : List (List (ℕ × Ended)))
     (events : List TraceEvent) : Type 0 where
+  -- all events of the nodes, each as often as there are such
   pub all : IsPermutation (all_events g acts ends) events
+  -- no event comes after one of a greater key
   pub in_order : AllPairs (λ a b. is_below (event_key b) (event_key a) ≡ false) events
 
 -- an end is of a process of the graph, and has at most the graph's faults
 pub record IsEndWithin (g : Graph) (e : ℕ × Ended) : Type 0 where
+  -- the process is one of the graph
   pub process : e.1.process < process_count g
+  -- it has no more faults than the graph allows
   pub faults : e.1.faults ≤ g.faults
 
 -- an act is on an item of the graph

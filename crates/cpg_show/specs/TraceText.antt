@@ -14,33 +14,34 @@ use Rattle.cpg_label.specs.Labels.{labels_of, process_name}
 use Rattle.cpg_show.specs.TraceEvents.{EventKind, TraceEvent, AreToldInOrder}
 use Rattle.cpg_label.specs.ItemText.{done_text}
 
--- the value of a process's condition; nothing if it has none
+-- the text of the value of a process's condition; nothing if the process has none
 abbrev pub outcome_text : Graph → ℕ → Bool → List ℕ
 outcome_text g process value = if is_some (condition_of g process)
     then codes " value " ++ value_text (number_of_value value) else []
 
--- how long an execution ran; nothing if it ran its full duration
+-- the text of how long an execution ran, `length`, if that is less than its full duration, `full`; otherwise nothing
 abbrev pub ran_text : ℕ → ℕ → List ℕ
 ran_text length full = if nat_lt length full then codes " ran " ++ decimal length else []
 
--- the end of an execution: its process, its faults, its value, and how long it ran
+-- the text of the end of an execution: its process, its faults, its value if it has a condition, and how long it ran if it
+-- ended early; `lengths` has how long the execution of each process ran
 abbrev pub end_text : Graph → List ℕ → ℕ → ℕ → Bool → List ℕ
 end_text g lengths process faults value =
     codes "end " ++ process_name (labels_of g) process ++ codes " faults " ++ decimal faults
     ++ outcome_text g process value ++ ran_text (get_or lengths process 0) (duration g process faults)
 
--- what a node did, without the time and the node; `lengths` has how long the execution of each process ran
+-- the text of what a node did, without the time and the node; `lengths` has how long the execution of each process ran
 abbrev pub kind_text : Graph → List ℕ → EventKind → List ℕ
 kind_text g lengths (End process faults value) = end_text g lengths process faults value
 kind_text g lengths (Send item) = done_text (labels_of g) (item_at g item)
 kind_text g lengths (Start process) = done_text (labels_of g) (StartItem process)
 
--- the line of an event: its time, its node, and what it was
+-- the line of an event: its time, its node, and what it was; `lengths` has how long the execution of each process ran
 abbrev pub event_line : Graph → List ℕ → TraceEvent → List ℕ
 event_line g lengths e =
     decimal e.time ++ codes " " ++ get_or g.nodes e.node [] ++ codes " " ++ kind_text g lengths e.kind ++ codes "\n"
 
--- when the executions of a node ended
+-- the times of the ends of a node
 abbrev pub end_times : List (List (ℕ × Ended)) → ℕ → List ℕ
 end_times ends node = map {A = ℕ × Ended} {B = ℕ} (λ e. e.0) (get_or ends node [])
 

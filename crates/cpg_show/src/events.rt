@@ -39,7 +39,7 @@ fn add_ends(
     Ok(())
 }
 
-/// Returns the events of all nodes, node by node.
+/// Returns the events of all nodes, node by node: its starts and sends, and then its ends.
 fn gathered(
     alloc: Global,
     problem: &Problem,
@@ -50,6 +50,7 @@ fn gathered(
     ensures { IfOk result (λ events. events.items ≡ all_events problem.now cluster.now.cluster.acts cluster.now.cluster.ends) }
 {
     let mut events = Vec::new(alloc);
+    // there are at most 16 nodes, so the cast keeps their number
     for node in 0..problem.nodes().len() as u32 {
         add_acts(&mut events, problem, node, cluster.acts(node))?;
         add_ends(&mut events, node, cluster.ends(node))?;
@@ -57,7 +58,7 @@ fn gathered(
     Ok(events)
 }
 
-/// Returns the events of all nodes in the order of a trace.
+/// Returns the events of all nodes in the order of a trace: by time, then by node, then by kind and number.
 pub(crate) fn events_in_order(
     alloc: Global,
     problem: &Problem,

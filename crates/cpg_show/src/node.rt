@@ -1,4 +1,5 @@
-//! The text of a node's table. The errors are `OutOfMemory`, but for the last function.
+//! The text of a node's table: its name, and the rows of what it starts, sends and hears. Every error is `OutOfMemory`, but
+//! for the last function, which also fails if the sink meets a fault.
 ghost use Rattle.std.specs.Prelude.{◌≡◌, ◌<◌, ◌≤◌, ◌++◌, Err, IfOk, OnOk, codes, flat_map, length, string_bytes};
 ghost use Rattle.cpg_io.specs.Causes.{Rose};
 ghost use Rattle.cpg_io.specs.Sink.{Took, TookPrefix};
@@ -16,7 +17,7 @@ use cpg_table::{NodeTable, Row, Tables};
 use cpg_tree_columns::RowSource;
 use std::alloc::Global;
 
-/// Returns the line that says what a node starts or sends.
+/// Returns the line of an item that a node starts or sends: what is done with it.
 fn act_line(alloc: Global, labels: &Labels<'_>, item: u32) -> Result<String, OutOfMemory>
     ensures { IfOk result (λ line. string_bytes line ≡ act_text labels.now (item_of labels.now item) ++ codes "\n") }
 {
@@ -26,7 +27,7 @@ fn act_line(alloc: Global, labels: &Labels<'_>, item: u32) -> Result<String, Out
     Ok(line)
 }
 
-/// Returns the line that says what a node hears.
+/// Returns the line of an item that a node hears: what is heard.
 fn hear_line(alloc: Global, labels: &Labels<'_>, item: u32) -> Result<String, OutOfMemory>
     ensures { IfOk result (λ line. string_bytes line ≡ hear_text labels.now (item_of labels.now item) ++ codes "\n") }
 {
@@ -36,7 +37,7 @@ fn hear_line(alloc: Global, labels: &Labels<'_>, item: u32) -> Result<String, Ou
     Ok(line)
 }
 
-/// Adds a part for each row of what a node starts or sends.
+/// Adds a part for each row of what a node starts or sends: its line, and its columns.
 fn add_acts<'a>(
     parts: &mut Vec<SheetPart<'a>>,
     labels: &Labels<'_>,
@@ -55,7 +56,7 @@ fn add_acts<'a>(
     Ok(())
 }
 
-/// Adds a part for each row of what a node hears.
+/// Adds a part for each row of what a node hears: its line, and its columns.
 fn add_hears<'a>(
     parts: &mut Vec<SheetPart<'a>>,
     labels: &Labels<'_>,
@@ -89,7 +90,7 @@ fn rows_of<'a>(
     Ok(parts)
 }
 
-/// Returns the line of a node's name.
+/// Returns the line of the name of the node with this number.
 fn name_line(alloc: Global, head: &Head, node: u32) -> Result<String, OutOfMemory>
     requires { node < length head.now.nodes }
     ensures { IfOk result (λ line. string_bytes line ≡ name_line head.now node) }
@@ -100,7 +101,7 @@ fn name_line(alloc: Global, head: &Head, node: u32) -> Result<String, OutOfMemor
     Ok(line)
 }
 
-/// Returns the sheet of a node's table.
+/// Returns the text of a node's table as a sheet: the line of the node's name, and a part for each row.
 fn sheet_of<'a>(alloc: Global, tables: &'a Tables, node: u32) -> Result<Sheet<'a>, OutOfMemory>
     requires { node < length tables.now.head.nodes }
     ensures { IfOk result (λ sheet. sheet_text sheet ≡ node_text tables.entry.now node) }

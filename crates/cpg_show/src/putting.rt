@@ -68,7 +68,7 @@ fn cube_text<'a>(labels: &Labels<'_>, line: &'a Line, literals: &[Literal]) -> &
     line.text(labels, literals)
 }
 
-/// Puts what comes before the literals of a column: its time, with blanks and a colon.
+/// Puts what comes before the literals of a column: two blanks, its time, a colon and a blank.
 fn put_time<O: Sink>(buffer: &mut Buffer, sink: &mut O, time: u64) -> Result<(), Failed>
     ensures put { Puts (O.state sink.old).taken (O.state sink.new).taken buffer.old buffer.new result (codes "  " ++ decimal time ++ codes ": ") }
     ensures cause { HasCause (O.state sink.old).faults (O.state sink.new).faults result }
@@ -78,7 +78,7 @@ fn put_time<O: Sink>(buffer: &mut Buffer, sink: &mut O, time: u64) -> Result<(),
     put_three(buffer, sink, "  ", text, ": ")
 }
 
-/// Puts the line of a time and a text, without its end.
+/// Puts the line of a column without its end: its time, and the text of its literals.
 fn put_timed<O: Sink>(
     buffer: &mut Buffer,
     sink: &mut O,
@@ -93,7 +93,7 @@ fn put_timed<O: Sink>(
     buffer.put_any(sink, text)
 }
 
-/// Puts the line of a time and a text, part by part.
+/// Puts the line of a column, its time and the text of its literals, part by part: the line needn't fit the buffer.
 fn put_parts<O: Sink>(
     buffer: &mut Buffer,
     sink: &mut O,
@@ -108,7 +108,7 @@ fn put_parts<O: Sink>(
     put_text(buffer, sink, "\n")
 }
 
-/// Adds the line of a time and a text, for which the buffer has room.
+/// Adds the line of a column, its time and the text of its literals, to a buffer that has room for all of it.
 fn hold_line(buffer: &mut Buffer, time: u64, text: &[u8])
     requires { length buffer.old + (length text.now + MOST_BESIDE) ≤ 65536 }
     ensures { buffer.new ≡ buffer.old ++ (codes "  " ++ decimal time ++ codes ": " ++ text.now ++ codes "\n") }
@@ -121,8 +121,8 @@ fn hold_line(buffer: &mut Buffer, time: u64, text: &[u8])
     buffer.hold(b"\n");
 }
 
-/// Puts the line of a column of this time and these literals, of which `line` is the line. It is put at once if the buffer
-/// has room for it, which is the usual case.
+/// Puts a column's line: its time, and the text of its literals, which `line` holds. If the whole line fits, it is added at
+/// once.
 fn put_column<O: Sink>(
     buffer: &mut Buffer,
     sink: &mut O,
@@ -136,7 +136,7 @@ fn put_column<O: Sink>(
     ensures cause { HasCause (O.state sink.old).faults (O.state sink.new).faults result }
 {
     let text = cube_text(labels, line, literals);
-    // the whole line fits, so its parts needn't be looked at one by one; no text is shorter than a room of 0
+    // the whole line fits; if the room is at most `MOST_BESIDE`, the difference is 0, which no text is below
     if text.len() < buffer.room().saturating_sub(MOST_BESIDE) {
         hold_line(buffer, time, text);
         return Ok(());
@@ -145,8 +145,8 @@ fn put_column<O: Sink>(
     put_parts(buffer, sink, time, text)
 }
 
-/// Puts the line of a column of this time and these literals. `line` is that of the column before, and becomes that of
-/// this one; what both have in common isn't made again.
+/// Puts the line of a column of this time and these literals. `line` is that of any column before, and becomes that of this
+/// one; what both have in common isn't made again.
 pub(crate) fn put_next<O: Sink>(
     buffer: &mut Buffer,
     sink: &mut O,
@@ -165,7 +165,8 @@ pub(crate) fn put_next<O: Sink>(
     put_column(buffer, sink, labels, line, time, literals)
 }
 
-/// Puts the lines of columns, one after another. `line` may be that of any column before them.
+/// Puts the lines of columns, one after another. `line` is that of any column before them, and becomes that of the last, if
+/// there is one.
 pub(crate) fn put_columns<O: Sink>(
     buffer: &mut Buffer,
     sink: &mut O,

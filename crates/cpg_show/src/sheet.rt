@@ -1,5 +1,5 @@
-//! Texts of rows, which are written row by row: only one line of a column is in memory at a time. The functions that take a
-//! buffer fail only if the sink meets a fault.
+//! Texts of rows, which are written row by row through a buffer, so the whole text is never in memory. The functions that
+//! take a buffer fail only if the sink meets a fault.
 ghost use Rattle.std.specs.Prelude.{◌≡◌, ◌≤◌, ◌++◌, [], Err, OnErr, OnOk, flat_map};
 ghost use Rattle.cpg_io.specs.Causes.{HasCause, Rose};
 ghost use Rattle.cpg_io.specs.Sink.{Took, TookPrefix};
@@ -25,7 +25,7 @@ pub(crate) struct SheetPart<'a> {
     pub columns: RowSource<'a>,
 }
 
-/// A text of rows. All of it but the lines of the columns is made.
+/// A text of rows, of which all but the lines of the columns is made already.
 #[derive(Drop)]
 pub(crate) struct Sheet<'a> {
     /// The names of processes, conditions and edges.
@@ -36,8 +36,8 @@ pub(crate) struct Sheet<'a> {
     pub parts: Vec<SheetPart<'a>>,
 }
 
-/// Puts the lines of the columns of a source. Here and below, `Err` only if the sink meets a fault; `line` is that of any
-/// column before, and `path` is at the root of a tree.
+/// Puts the lines of the columns of a source: of a list, or of a tree. Here and below, `Err` only if the sink meets a fault;
+/// `line` is that of any column before, and `path` is at the root of a tree.
 fn put_source<O: Sink>(
     buffer: &mut Buffer,
     sink: &mut O,
@@ -69,7 +69,7 @@ fn put_source<O: Sink>(
     }
 }
 
-/// Puts a part: its line, and the lines of its columns.
+/// Puts a part: its line, and then the lines of its columns.
 fn put_part<O: Sink>(
     buffer: &mut Buffer,
     sink: &mut O,
@@ -89,8 +89,8 @@ fn put_part<O: Sink>(
     put_source(buffer, sink, labels, line, part.columns, path)
 }
 
-/// Puts parts, one after another.
-fn put_parts<O: Sink>(
+/// Puts the parts of a sheet, one after another.
+fn put_sheet_parts<O: Sink>(
     buffer: &mut Buffer,
     sink: &mut O,
     labels: &Labels<'_>,
@@ -109,7 +109,7 @@ fn put_parts<O: Sink>(
     Ok(())
 }
 
-/// Puts a sheet: its front and its parts.
+/// Puts a sheet: its front, and then its parts.
 fn put_sheet<O: Sink>(
     buffer: &mut Buffer,
     sink: &mut O,
@@ -123,7 +123,7 @@ fn put_sheet<O: Sink>(
     ensures cause { HasCause (O.state sink.old).faults (O.state sink.new).faults result }
 {
     put_text(buffer, sink, sheet.front.as_str())?;
-    put_parts(
+    put_sheet_parts(
         buffer,
         sink,
         &sheet.labels,
@@ -133,7 +133,7 @@ fn put_sheet<O: Sink>(
     )
 }
 
-/// Writes a sheet through an empty buffer.
+/// Writes a sheet through an empty buffer: puts it, and then writes what the buffer still holds.
 fn write_through<O: Sink>(
     buffer: &mut Buffer,
     sink: &mut O,

@@ -1,4 +1,5 @@
-//! The text of tables. The errors are those of memory, but for the last function.
+//! The text of tables: the order, the greatest finish, and the rows of what is started and sent. Every error says that
+//! memory ran out, but for the last function, which also fails if the sink meets a fault.
 ghost use Rattle.std.specs.Prelude.{◌≡◌, ◌<◌, ◌≤◌, ◌++◌, Err, IfOk, OnOk, codes, flat_map, string_bytes};
 ghost use Rattle.cpg_base.specs.Graph.{item_count};
 ghost use Rattle.cpg_base.specs.Numbers.{numbers_below};
@@ -41,7 +42,7 @@ fn write_names(out: &mut String, labels: &Labels<'_>, order: &[u32]) -> Result<(
     Ok(())
 }
 
-/// Writes the line of the order.
+/// Writes the line of the order: the word `order`, and the names of the processes along it, each after a blank.
 fn write_order(out: &mut String, labels: &Labels<'_>, order: &[u32]) -> Result<(), AllocError>
     ensures { OnOk result (string_bytes out.new ≡ string_bytes out.old
         ++ (codes "order" ++ flat_map (λ p. codes " " ++ process_name labels.now p) order.now ++ codes "\n")) }
@@ -51,7 +52,7 @@ fn write_order(out: &mut String, labels: &Labels<'_>, order: &[u32]) -> Result<(
     out.push_str("\n")
 }
 
-/// Writes the line that says what is done with an item, and on which node.
+/// Writes the line that says what is done with an item, and on which node. `labels` are those of the graph.
 fn write_head_line(
     out: &mut String,
     problem: &Problem,
@@ -68,7 +69,7 @@ fn write_head_line(
     write!(out, " on {name}\n")
 }
 
-/// Returns the line that says what is done with an item, and on which node.
+/// Returns the line that says what is done with an item, and on which node. `labels` are those of the graph.
 fn head_line_of(
     alloc: Global,
     problem: &Problem,
@@ -84,7 +85,7 @@ fn head_line_of(
     Ok(line)
 }
 
-/// Returns where the columns of an item are read; there are none if it has no row.
+/// Returns what an item's columns are read from: an empty list if it has no row.
 fn source_of(rows: &[MadeRow], item: u32) -> RowSource<'_>
     ensures { ShowsSource result (row_for rows.now item).columns }
 {
@@ -95,7 +96,8 @@ fn source_of(rows: &[MadeRow], item: u32) -> RowSource<'_>
     }
 }
 
-/// Returns a part for each item that is started or sent, by number.
+/// Returns a part for each item that is started or sent, by number. `labels` are those of the graph, and `rows` has the row
+/// of each item at its number; an item beyond them has no columns.
 fn parts_of<'a>(
     alloc: Global,
     problem: &Problem,
@@ -119,7 +121,7 @@ fn parts_of<'a>(
     Ok(parts)
 }
 
-/// Returns the lines of the order and of the greatest finish, which is in time units.
+/// Returns the line of the order, and then that of the greatest finish, `worst`, in time units.
 fn front_of(
     alloc: Global,
     labels: &Labels<'_>,
@@ -135,7 +137,8 @@ fn front_of(
     Ok(front)
 }
 
-/// Returns the sheet of the text of tables.
+/// Returns the text of the tables that have these rows, as a sheet: the order, the greatest finish `worst`, and a part for
+/// each item that is started or sent.
 fn sheet_of<'a>(
     alloc: Global,
     problem: &'a Problem,
@@ -155,9 +158,9 @@ fn sheet_of<'a>(
     })
 }
 
-/// Writes the text of the tables that have these rows: the order, the greatest finish in time units, and the rows of what is
-/// started and sent, by number of the item. An item beyond the rows has no columns, and a process of the order that isn't
-/// in the graph an empty name.
+/// Writes the text of the tables that have these rows: the order, the greatest finish `worst` in time units, and the rows of
+/// what is started and sent, by number of the item. An item beyond the rows has no columns, and a process of the order that
+/// isn't in the graph an empty name.
 ///
 /// `Failed` only if the sink met a fault. It has taken a proper prefix of the text then. On `OutOfMemory` the sink is as
 /// it was.

@@ -13,7 +13,7 @@ use cpg_node::Ended;
 use cpg_rules::Admitted;
 use std::alloc::{AllocError, Global};
 
-/// Writes the value of a process's condition; nothing if it has none.
+/// Writes the value of a process's condition, `value`; nothing if the process has none.
 fn write_outcome(
     out: &mut String,
     problem: &Problem,
@@ -31,7 +31,7 @@ fn write_outcome(
     write_value(out, u8::from(value))
 }
 
-/// Writes how long an execution ran; nothing if it ran its full duration.
+/// Writes how long an execution ran, `length`, if that is less than its full duration, `full`; otherwise nothing.
 fn write_ran(out: &mut String, length: u64, full: u64) -> Result<(), AllocError>
     ensures { OnOk result (string_bytes out.new ≡ string_bytes out.old ++ ran_text length full) }
 {
@@ -42,7 +42,7 @@ fn write_ran(out: &mut String, length: u64, full: u64) -> Result<(), AllocError>
     Ok(())
 }
 
-/// Writes what a node did, without the time and the node.
+/// Writes what a node did, without the time and the node. `lengths` has how long the execution of each process ran.
 fn write_kind(
     out: &mut String,
     problem: &Problem,
@@ -65,13 +65,15 @@ fn write_kind(
             let name = name_of(problem, process);
             write!(out, "end {name} faults {faults}")?;
             write_outcome(out, problem, process, value)?;
+            // how long the execution lasts, with these faults, if it doesn't end early
             let full = problem.duration(process, faults);
             write_ran(out, lengths.length_of(process), full)
         }
     }
 }
 
-/// Writes the line of an event: its time, its node, and what it was.
+/// Writes the line of an event: its time, its node, and what it was. `lengths` has how long the execution of each process
+/// ran.
 fn write_event(
     out: &mut String,
     problem: &Problem,
@@ -89,7 +91,7 @@ fn write_event(
     out.push_str("\n")
 }
 
-/// Writes the lines of events.
+/// Writes the lines of events, one after another. `lengths` has how long the execution of each process ran.
 fn write_events(
     out: &mut String,
     problem: &Problem,
@@ -117,12 +119,13 @@ fn last_of(time: u64, ends: &[(u64, Ended)]) -> u64
     last
 }
 
-/// Returns the greatest end that a node has come to, in time units; 0 if there is none.
+/// Returns the greatest planned end that any node has come to, in time units; 0 if there is none.
 pub fn finish(problem: &Problem, cluster: &Cluster) -> u64
     requires { cluster.now.graph ≡ problem.now }
     ensures { result ≡ finish_of problem.now cluster.now.cluster.ends }
 {
     let mut last = 0;
+    // there are at most 16 nodes, so the cast keeps their number
     for node in 0..problem.nodes().len() as u32 {
         last = last_of(last, cluster.ends(node));
     }

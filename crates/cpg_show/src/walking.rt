@@ -20,8 +20,9 @@ use cpg_tree::{Top, TreeItem, top_of};
 use cpg_tree_columns::PathCube;
 
 /// Puts the lines of the columns that the tree has below a path: the time of each is a leaf, and its cube is the path to
-/// there. `k` is the most faults. The path is narrowed on the way down and restored on the way up. `Err` only if the sink
-/// meets a fault; the path is then anywhere.
+/// there. `items` are those of the tree below the path, `k` is the most faults, and `line` is that of any column before. The
+/// path is narrowed on the way down and restored on the way up. `Err` only if the sink meets a fault; the path is then
+/// anywhere.
 pub(crate) fn put_paths<O: Sink>(
     buffer: &mut Buffer,
     sink: &mut O,

@@ -91,7 +91,7 @@ these_where_nothing xs rows (row ∷ rest) e b t = (
 pub these_never : (xs : List ℕ) (rows : List Row) → None ≡ after_items xs rows → IsTrue false ↔ (items_of rows ≡ xs)
 these_never xs rows e = (λ k. absurd (true≢false (sym k)), λ same. absurd (not_these xs rows e same))
 
--- given rows that begin with those of xs and then of ys
+-- given: rows that begin with those of xs, after which `a` are left, and then with those of ys, after which `b` are left
 module _ (xs ys zs : List ℕ) (rows a b : List Row) (front : Some a ≡ after_items xs rows)
     (middle : Some b ≡ after_items ys a) where
   -- the rows after xs, ys and zs are those after zs in the rest

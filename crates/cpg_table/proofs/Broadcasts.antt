@@ -9,7 +9,8 @@ use Rattle.cpg_table.specs.Items.{numbers_where}
 abbrev has_condition : HeadProcess → Bool
 has_condition p = p.condition
 
--- the number of the next condition is at most the first one and how many processes were passed; one process more keeps this
+-- the number `i` of the next condition is at most that of the first one, `n`, and how many processes were passed, `k`; with
+-- one process more, which has a condition if `c`, this still holds
 pub few_on : (c : Bool) (i n k : ℕ) → i ≤ n + k → cond c (i + 1) i ≤ n + (k + 1)
 few_on true i n k h = omega arith
 few_on false i n k h = omega arith
@@ -24,26 +25,27 @@ either true true i front more = append_assoc front (i ∷ []) (more (i + 1))
 either true false i front more = ap (λ (t : List ℕ). t ++ more (i + 1)) (append-nil front)
 either false b i front more = ap (λ (t : List ℕ). t ++ more i) (append-nil front)
 
+-- given: a test of processes
 module _ (test : HeadProcess → Bool) where
   -- the numbers of the conditions whose processes pass the test, if the first condition has the number i
   abbrev numbers : ℕ → List HeadProcess → List ℕ
   numbers i ps = numbers_where test i (filter has_condition ps)
 
-  -- the same, opened at the first process x: its number comes first if it has a condition (c) and passes
-  opened : (i : ℕ) (x : HeadProcess) (rest : List HeadProcess) (c : Bool) →
+  -- the numbers of process x and the processes in `rest`: that of x comes first if x has a condition (`c`) and passes
+  numbers_first : (i : ℕ) (x : HeadProcess) (rest : List HeadProcess) (c : Bool) →
       numbers_where test i (cond c (x ∷ filter has_condition rest) (filter has_condition rest)) ≡ cond c
       (cond (test x) (i ∷ numbers (i + 1) rest) (numbers (i + 1) rest)) (numbers i rest)
-  opened i x rest true = refl
-  opened i x rest false = refl
+  numbers_first i x rest true = refl
+  numbers_first i x rest false = refl
 
   -- the processes from a place on are the one there and those after it
   drop_is : (ps : List HeadProcess) (k : ℕ) (x : HeadProcess) → k < length ps →
       drop k ps ≡ get_or ps k x ∷ drop (k + 1) ps
   drop_is ps k x h = rw (add-one, drop-cons ps k x) refl
 
-  -- if what is listed (`front`) and the numbers from place k on are all, so are what is listed after the process at k
-  -- (`after`), and the numbers from the next place on: the number at k, if there is one, goes from the numbers to what
-  -- is listed
+  -- x is the process at place k, which is wanted if `w`; `i` and `j` are the numbers of the next condition before it and
+  -- after it. If the list `front` and the numbers from place k on make `total`, so do the list `after` and the numbers from
+  -- the next place on: if x is wanted, its number goes from the numbers to the list.
   pub broadcasts_on : (ps : List HeadProcess) (k i j : ℕ) (x : HeadProcess) (w : Bool) (front after total : List ℕ) →
       x ≡ get_or ps k x → k < length ps →
       w ≡ (x.condition && test x) →
@@ -55,6 +57,6 @@ module _ (test : HeadProcess → Bool) where
       ap₂ (λ (t : List ℕ) (m : ℕ). t ++ numbers m (drop (k + 1) ps))
       (ea ∙ ap (λ (v : Bool). front ++ cond v (i ∷ []) []) ew) ej
       ∙ either x.condition (test x) i front (λ m. numbers m (drop (k + 1) ps))
-      ∙ sym (ap (λ (t : List ℕ). front ++ t) (opened i x (drop (k + 1) ps) x.condition))
+      ∙ sym (ap (λ (t : List ℕ). front ++ t) (numbers_first i x (drop (k + 1) ps) x.condition))
       ∙ sym (ap (λ (qs : List HeadProcess). front ++ numbers i qs) d)
       ∙ so_far

@@ -93,6 +93,7 @@ cond-filter true p xs = refl
 cond-filter false p [] = refl
 cond-filter false p (x ∷ xs) = cond-filter false p xs
 
+-- given: a graph within its limits
 module _ (g : Graph) (w : IsWithinLimits g) where
   -- the head has as many processes as the graph
   process_number : length (head_of g).processes ≡ process_count g
@@ -121,7 +122,7 @@ module _ (g : Graph) (w : IsWithinLimits g) where
       (λ p c. has_condition g p (numbers-Contains (process_count g) p c)) ∙ by_place (disjunctions g) 0)
       ∙ map-map (head_process g) (process_of g) (numbers_below (condition_count g))
 
-  -- given a node. Items are in three parts of the numbers: starts, messages, broadcasts
+  -- given: a node; the numbers of items are in three parts: starts, messages, broadcasts
   module _ (node : ℕ) where
     -- the messages whose ends pass a test under the head are those whose edges pass it in the graph
     messages_are : (test : ℕ × ℕ → Bool) →

@@ -26,6 +26,7 @@ use Rattle.cpg_table.specs.Laws.{SuitsGraph}
 use Rattle.std.proofs.lemmas.List.{length-map}
 use Rattle.cpg_table.proofs.TableRows.{All-left}
 
+-- given: a graph within its limits
 module _ (g : Graph) (w : IsWithinLimits g) where
   -- the variable of a lawful literal is one of the graph
   variable_there : (l : Literal) → IsLawfulLiteral (space_of (head_of g)) l → IsVariable g l.variable

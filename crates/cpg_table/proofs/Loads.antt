@@ -47,6 +47,7 @@ is_sent_from g node x = is_sent g x && (home g x == node)
 abbrev is_heard_at : Graph → ℕ → ℕ → Bool
 is_heard_at g node x = is_heard_by g node (item_at g x)
 
+-- given: a graph, and a node of it
 module _ (g : Graph) (node : ℕ) where
   -- no node sends a start
   start_sent : (p : ℕ) → p < process_count g → is_sent_from g node p ≡ false
@@ -132,6 +133,7 @@ place_le w v n = elim (cases_lt w n) [
   )
 ]
 
+-- given: a graph within its limits, and a row for each item
 module _ (g : Graph) (within : IsWithinLimits g) (rows : List Row) where
   -- how many columns an item has
   abbrev columns : ℕ → ℕ
@@ -142,8 +144,8 @@ module _ (g : Graph) (within : IsWithinLimits g) (rows : List Row) where
   at_node node x = cond (is_started_on g node x) (columns x) 0
       + (cond (is_sent_from g node x) (columns x) 0 + cond (is_heard_at g node x) (columns x) 0)
 
-  -- the rows of a node have as many columns as the items have at the node in all. Starts, sends and hears are each a filter
-  -- of all items, whose sums are added
+  -- The rows of a node have as many columns as the items have at the node in all. Starts, sends and hears are each a filter
+  -- of all items, whose sums are added.
   node_count : (node : ℕ) → node < length g.nodes →
       column_count (rows_of_items g rows (lists_of (head_of g) node))
       ≡ sum_by (at_node node) (numbers_below (item_count g))

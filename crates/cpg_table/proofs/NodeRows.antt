@@ -1,4 +1,5 @@
--- The rows of a node's items, made of writable rows, are lawful rows of its table (`are_rows`).
+-- The rows of a node's items, made of writable rows, are lawful rows of its table (`are_rows`). In the lemmas x is an
+-- item.
 use Rattle.std.proofs.Common.{◌≡◌, ℕ, ◌^◌, ◌<◌, ◌≤◌, Bool, false, ◌==◌, ◌&&◌, List, [], ◌∷◌, ◌++◌, length, get_or, map}
 use Rattle.std.proofs.Common.{filter, All, Contains, refl, sym, ap, ap₂, ◌∙◌, subst, arith, inl, inr, eq-eqb}
 use Rattle.std.proofs.lemmas.Bool.{cases_eq, cases_lt, and_from, both_ways}
@@ -34,6 +35,7 @@ no_row = record { item = 0; columns = [] }
 
 -- ---- rows by number
 
+-- given: writable rows of a graph
 module _ (g : Graph) (rows : List Row) (w : AreWritable g rows) where
   -- there is a row for each item
   pub long : length rows ≡ item_count g
@@ -59,6 +61,7 @@ filter_below : (g : Graph) (p : ℕ → Bool) (x : ℕ) → Contains (filter p (
     x < item_count g
 filter_below g p x c = numbers-Contains (item_count g) x (Contains-filter_parts p (numbers_below (item_count g)) x c).0
 
+-- given: a graph within its limits, and a node
 module _ (g : Graph) (within : IsWithinLimits g) (node : ℕ) where
   -- what a node starts is an item of the graph
   pub start_below : (x : ℕ) → Contains (starts_of (head_of g) node) x → x < item_count g
@@ -86,6 +89,7 @@ all_below n m xs ys e is each = rw (e, is) (All-weaker (Contains ys) (λ x. x < 
 
 -- ---- columns
 
+-- given: a graph within its limits
 module _ (g : Graph) (within : IsWithinLimits g) where
   -- a range of fault counts that ends at the greatest and isn't whole doesn't begin at 0
   part_of_count : (l : Literal) → l.variable < process_count g → is_whole g.faults l ≡ false → l.high ≡ g.faults →
@@ -143,6 +147,7 @@ module _ (g : Graph) (within : IsWithinLimits g) where
   pub slot_short : (node : ℕ) → slot_length g node < 2 ^ 59
   slot_short node = omega (arith, slot_length-le g node, round-le g within)
 
+  -- given: writable rows of the graph
   module _ (rows : List Row) (w : AreWritable g rows) where
     -- the given row of each item is lawful
     lawful_row : (x : ℕ) → x < item_count g → IsLawfulRow (space_of (head_of g)) (row_for rows x)
@@ -179,6 +184,7 @@ module _ (g : Graph) (within : IsWithinLimits g) where
     items_are row (x ∷ xs) each =
         ap₂ (λ y ys. y ∷ ys) (each x (Contains-first x xs)) (items_are row xs (λ y c. each y (Contains-rest x xs y c)))
 
+    -- given: a node of the graph
     module _ (node : ℕ) (l : node < length g.nodes) where
       -- the items that the node starts
       abbrev started : List ℕ

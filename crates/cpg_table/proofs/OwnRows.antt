@@ -45,7 +45,7 @@ one_home h m n s apart e = elim (cases_eq h n) [
 
 -- ---- lists
 
--- given two tests of which q holds wherever p does
+-- given: two tests of which q holds wherever p does
 module _ {X : Type 0} (p q : X → Bool) (none : (x : X) → q x ≡ false → p x ≡ false) where
   -- what passes q and then p is what passes p
   passes_both : (xs : List X) → filter p (filter q xs) ≡ filter p xs
@@ -57,7 +57,7 @@ module _ {X : Type 0} (p q : X → Bool) (none : (x : X) → q x ≡ false → p
         ∙ sym (ap (λ b. cond b (x ∷ filter p xs) (filter p xs)) (none x off))
   ]
 
--- given a list of which `out` are those that passed so far, and x is the first of those left
+-- given: a list; `out` are those of it that passed so far, and x is the first of those left
 module _ {X : Type 0} (p : X → Bool) (all out left rest : List X) (x : X) (is : left ≡ x ∷ rest)
     (e : filter p all ≡ out ++ filter p left) where
   -- if x passes, it is moved to those that passed
@@ -119,6 +119,7 @@ pub still_known : (g : Graph) (node : ℕ) (rows : List Row) → All (λ row. ro
 still_known g node rows h =
     All-filter (λ (row : Row). not (has_own g node row.item)) (λ (row : Row). row.item < item_count g) rows h
 
+-- given: a graph within its limits, and a node
 module _ (g : Graph) (within : IsWithinLimits g) (node : ℕ) where
   -- whether the node sends item x
   abbrev is_sent_here : ℕ → Bool
@@ -150,6 +151,7 @@ module _ (g : Graph) (within : IsWithinLimits g) (node : ℕ) where
       (let r = from_range (process_count g + edge_count g) (condition_count g) x c in omega (arith, r.0))))
       ∙ sym (ap₂ (λ xs ys. xs ++ ys) (sent_messages g within node) (sent_broadcasts g within node)))
 
+  -- given: writable rows of the graph
   module _ (rows : List Row) (w : AreWritable g rows) where
     -- the rows are those of the items, by number
     by_item : rows ≡ map (row_for rows) (numbers_below (item_count g))

@@ -12,6 +12,7 @@ use Rattle.cpg_head.specs.Head.{Head}
 use Rattle.cpg_base.specs.declared.limits.TheConstants.{MOST_LOAD}
 use Rattle.cpg_table.specs.Found.{row_columns}
 
+-- given: the number x of an item
 module _ (x : ℕ) where
   -- x has the columns of its first row; none if no row is of it
   pub columns_in_row : (rows : List Row) → columns_in rows x ≡ unwrap_or (row_columns rows x) []

@@ -8,6 +8,7 @@ use Rattle.std.proofs.lemmas.List.Elements.{Contains-append_left, Contains-appen
 use Rattle.cpg_table.specs.Table.{Row}
 use Rattle.cpg_table.specs.Shape.{items_of}
 
+-- given: a fact P of elements
 module _ {X : Type 0} (P : X → Type 0) where
   -- what holds of each element of xs and ys holds of each of xs
   pub All-left : (xs ys : List X) → All P (xs ++ ys) → All P xs
@@ -19,7 +20,7 @@ module _ {X : Type 0} (P : X → Type 0) where
   All-right xs ys h = All-weaker (Contains ys) P
       (λ x c. All-contains P (xs ++ ys) x h (Contains-append_right xs ys x c)) ys (All-contains_itself ys)
 
-  -- given three lists, of which a test says whether P holds of each element
+  -- given: three lists, of which a test says whether P holds of each element
   module _ (xs ys zs : List X) where
     -- if it says no of the first list, P doesn't hold of each element of the three
     pub not_first : (r : Bool) → (IsTrue r ↔ All P xs) → r ≡ false → IsTrue false ↔ All P (xs ++ (ys ++ zs))
@@ -40,7 +41,7 @@ module _ {X : Type 0} (P : X → Type 0) where
       λ h. t.1 (All-right ys zs (All-right xs (ys ++ zs) h)),
     )
 
--- given rows of three lists of items, one after another, cut at the lengths of the first two
+-- given: rows of three lists of items, one after another, cut at the lengths of the first two
 module _ (rows : List Row) (xs ys zs : List ℕ) (is : items_of rows ≡ xs ++ (ys ++ zs)) where
   -- the rows up to the first cut are of the first list
   pub first_items : (n : ℕ) → n ≡ length xs → items_of (take n rows) ≡ xs

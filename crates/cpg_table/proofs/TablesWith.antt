@@ -36,6 +36,7 @@ module _ {X : Type 0} (a b d x y z : List X) (is : a ++ (b ++ d) ≡ x ++ (y ++ 
   rest_of : b ++ d ≡ y ++ z
   rest_of = sym (drop-append_seam a (b ++ d)) ∙ ap₂ drop p is ∙ drop-append_seam x (y ++ z)
 
+  -- given also that b is as long as y
   module _ (q : length b ≡ length y) where
     -- the second lists are equal
     second_of : b ≡ y
@@ -50,7 +51,7 @@ nothing : (cs : List Column) → ((c : Column) → Contains cs c → ⊥) → cs
 nothing [] h = refl
 nothing (c ∷ cs) h = absurd (h c (Contains-first c cs))
 
--- given tables that have the writable rows of a graph
+-- given: tables that have the writable rows of a graph
 -- `within`, `formed`: a well-formed graph within the limits; `rows`, `w`: its writable rows; `tables`, `are`: the
 -- tables
 module _ (g : Graph) (within : IsWithinLimits g) (formed : WellFormed g) (rows : List Row) (w : AreWritable g rows)
@@ -68,6 +69,7 @@ module _ (g : Graph) (within : IsWithinLimits g) (formed : WellFormed g) (rows :
   abbrev items : ℕ → ItemLists
   items node = lists_of (head_of g) node
 
+  -- given: a node of the graph
   module _ (node : ℕ) (l : node < length g.nodes) where
     -- rows of some items are as many as the rows that are made for these items
     count_by_items : (row : ℕ → Row) (rs : List Row) (xs : List ℕ) → items_of rs ≡ xs → length rs ≡ length (map row xs)

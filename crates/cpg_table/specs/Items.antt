@@ -15,7 +15,7 @@ abbrev pub numbers_where : {X : Type 0} → (X → Bool) → ℕ → List X → 
 numbers_where test i [] = []
 numbers_where test i (x ∷ xs) = if test x then i ∷ numbers_where test (i + 1) xs else numbers_where test (i + 1) xs
 
--- the node that process p runs on
+-- the node that process p runs on; 0 if there is no such process
 abbrev pub head_node_of : Head → ℕ → ℕ
 head_node_of h p = (get_or h.processes p (record { name = []; node = 0; condition = false; times = [] })).node
 
@@ -60,7 +60,7 @@ pub record ItemLists : Type 0 where
   pub sends : List ℕ
   pub hears : List ℕ
 
--- these lists of a node under a head
+-- the lists of a node's items under a head
 abbrev pub lists_of : Head → ℕ → ItemLists
 lists_of h node = record { starts = starts_of h node; sends = sends_of h node; hears = hears_of h node }
 
@@ -70,8 +70,8 @@ abbrev pub own_front : ℕ → ℕ → ℕ → HeadProcess → List Own
 own_front node p c q = if q.node == node
     then record { process = p; condition = if q.condition then Some c else None; times = q.times } ∷ [] else []
 
--- the same of all processes of a list, the first of which has the number p; the first condition of the list has the
--- number c
+-- what a node needs to know of those processes of a list that are on it; the first process of the list has the number p,
+-- and its first condition the number c
 abbrev pub own_from : ℕ → ℕ → ℕ → List HeadProcess → List Own
 own_from node p c [] = []
 own_from node p c (q ∷ qs) = own_front node p c q ++ own_from node (p + 1) (if q.condition then c + 1 else c) qs
@@ -80,7 +80,7 @@ own_from node p c (q ∷ qs) = own_front node p c q ++ own_from node (p + 1) (if
 abbrev pub own_of : Head → ℕ → List Own
 own_of h node = own_from node 0 0 h.processes
 
--- the rows after the first ones, if the first ones are of these items in turn; None if they aren't
+-- the rows after one row of each of these items, in their order; None if the rows don't begin with such
 abbrev pub after_items : List ℕ → List Row → Option (List Row)
 after_items [] rows = Some rows
 after_items (x ∷ xs) [] = None

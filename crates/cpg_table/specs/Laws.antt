@@ -8,7 +8,8 @@ use Rattle.cpg_head.specs.GraphHead.{head_of}
 use Rattle.cpg_table.specs.Items.{own_process}
 use Rattle.cpg_table.specs.Lawful.{AreTablesOf}
 
--- they have a row for each item that a node starts or sends, and the literals of these are on variables of the graph
+-- tables under the head for a graph have a row for each item that a node starts or sends, and the literals of these rows are
+-- on variables of the graph
 abbrev pub TablesHaveShape : Type 0
 TablesHaveShape =
     (g : Graph) (tables : List NodeTable) → IsWithinLimits g → AreTablesOf (head_of g) tables → HasShape g tables

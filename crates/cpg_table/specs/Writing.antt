@@ -70,12 +70,12 @@ abbrev pub rows_of_items : Graph → List Row → ItemLists → List Row
 rows_of_items g rows items =
     map (row_for rows) items.starts ++ (map (row_for rows) items.sends ++ map (heard_row g rows) items.hears)
 
--- the table of a node, with the rows that it has by these
+-- t is the table of a node, and its rows are those that `rows` gives it
 pub record IsTableWith (g : Graph) (rows : List Row) (node : ℕ) (t : NodeTable) : Type 0 where
   pub table : IsTableOf (head_of g) node t
   pub stands : rows_of t ≡ rows_of_items g rows (lists_of (head_of g) node)
 
--- the tables of the first `count` nodes
+-- these are the tables of the first `count` nodes, with the rows that `rows` gives them
 pub record AreNodeTables (g : Graph) (rows : List Row) (count : ℕ) (tables : List NodeTable) : Type 0 where
   pub long : length tables ≡ count
   pub each : (node : ℕ) → node < count → IsTableWith g rows node (table_at tables node)

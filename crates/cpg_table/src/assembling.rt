@@ -103,6 +103,7 @@ fn hears_of(
     let count = problem.nodes().len();
     let mut all = Vec::new(alloc);
     all.reserve(count)?;
+    // a graph has at most 16 nodes, so their numbers fit a `u32`
     for node in 0..count as u32 {
         let heard = node_hears(alloc, problem, head, rows, node)?;
         all.push(heard)?;

@@ -43,7 +43,7 @@ pub fn counts_of(head: &Head, node: u32, rows: &[Row]) -> Option<RowCounts>
     })
 }
 
-/// Returns whether these are the rows of what a node starts, by number and no others.
+/// Returns whether these are the rows of the items that a node starts, all of them in their order, and no others.
 pub fn have_starts(head: &Head, node: u32, rows: &[Row]) -> bool
     ensures { IsTrue result ↔ (items_of rows.now ≡ starts_of head.now node) }
 {
@@ -53,7 +53,7 @@ pub fn have_starts(head: &Head, node: u32, rows: &[Row]) -> bool
     }
 }
 
-/// Returns whether these are the rows of what a node sends, by number and no others.
+/// Returns whether these are the rows of the items that a node sends, all of them in their order, and no others.
 pub fn have_sends(head: &Head, node: u32, rows: &[Row]) -> bool
     ensures { IsTrue result ↔ (items_of rows.now ≡ sends_of head.now node) }
 {
@@ -63,7 +63,7 @@ pub fn have_sends(head: &Head, node: u32, rows: &[Row]) -> bool
     }
 }
 
-/// Returns whether these are the rows of what a node hears, by number and no others.
+/// Returns whether these are the rows of the items that a node hears, all of them in their order, and no others.
 pub fn have_hears(head: &Head, node: u32, rows: &[Row]) -> bool
     ensures { IsTrue result ↔ (items_of rows.now ≡ hears_of head.now node) }
 {

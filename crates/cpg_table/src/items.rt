@@ -52,14 +52,14 @@ pub fn is_crossing(head: &Head, node: u32, edge: (u32, u32), out: bool) -> bool
     }
 }
 
-/// Returns the rows after those of the messages from a node to others (`out`) or to it from others, or `None` if the
-/// rows don't begin with these.
+/// Returns the rows after those of the messages from a node to others if `out`, or to it from others if not; `None` exactly
+/// if the rows don't begin with these.
 fn after_messages<'a>(head: &Head, node: u32, out: bool, rows: &'a [Row]) -> Option<&'a [Row]>
     ensures { option_map (λ r. r.now) result ≡ after_items (numbers_where (λ e.
         if out then leaves head.now node e else enters head.now node e) (first_message head.now) head.now.edges) rows.now }
 {
     let mut rest = rows;
-    // the number of the first message
+    // the number of the first message: messages are numbered after the processes, of which a head has at most 128
     let mut item = head.processes().len() as u32;
     for edge in head.edges() {
         let Some(next) = after_row(rest, item, is_crossing(head, node, *edge, out)) else {
@@ -75,17 +75,18 @@ fn after_messages<'a>(head: &Head, node: u32, out: bool, rows: &'a [Row]) -> Opt
 pub fn first_broadcast(head: &Head) -> u32
     ensures { result ≡ first_broadcast head.now }
 {
+    // a head has at most 128 processes and 256 edges, so this fits a `u32`
     (head.processes().len() + head.edges().len()) as u32
 }
 
-/// Returns whether a process at `place` is on a node (`own`), or whether it is on another.
+/// Returns whether a process that is on the node `place` is on a given node if `own`, or on another if not.
 fn is_chosen(place: u32, node: u32, own: bool) -> bool
     ensures { result ≡ (if own then place == node else not (place == node)) }
 {
     if own { place == node } else { place != node }
 }
 
-/// Returns whether a process has a condition, and is on a node (`own`) or on another.
+/// Returns whether a process has a condition, and is on the node if `own`, or on another if not.
 pub fn is_wanted(process: &HeadProcess, node: u32, own: bool) -> bool
     ensures { result ≡ (process.now.condition && (if own then process.now.node == node else not (process.now.node == node))) }
 {
@@ -100,8 +101,8 @@ pub fn next_number(number: u32, condition: bool) -> u32
     if condition { number + 1 } else { number }
 }
 
-/// Returns the rows after those of the broadcasts of a node's own conditions (`own`) or of all others; `None` exactly if
-/// the rows don't begin with these.
+/// Returns the rows after those of the broadcasts of a node's own conditions if `own`, or of all other conditions if not;
+/// `None` exactly if the rows don't begin with these.
 fn after_broadcasts<'a>(head: &Head, node: u32, own: bool, rows: &'a [Row]) -> Option<&'a [Row]>
     ensures { option_map (λ r. r.now) result ≡ after_items (numbers_where (λ p.
         if own then p.node == node else not (p.node == node)) (first_broadcast head.now) (conditioned head.now)) rows.now }

@@ -1,4 +1,4 @@
-//! What a node starts, sends and hears, by item number. The errors are those of memory.
+//! What a node starts, sends and hears, by item number. Every error here is `OutOfMemory`.
 ghost use Rattle.std.specs.Prelude.{◌≡◌, ◌==◌, not, ◌++◌, ◌∷◌, [], IfOk, OnOk, if◌then◌else◌};
 ghost use Rattle.cpg_table.specs.Items.{numbers_where, leaves, enters, first_message, first_broadcast, conditioned, starts_of, sends_of, hears_of, lists_of};
 
@@ -33,7 +33,7 @@ impl Model for NodeItems {
     ghost invariant = { λ n. n.starts + n.sends ≤ length n.items.items };
 }
 
-/// Adds an item if it is wanted. Here and below, `Err` only if memory runs out.
+/// Adds an item if it is wanted.
 fn push_if(items: &mut Vec<u32>, item: u32, wanted: bool) -> Result<(), OutOfMemory>
     ensures { OnOk result (items.new.items ≡ items.old.items ++ (if wanted then item ∷ [] else [])) }
 {
@@ -55,12 +55,12 @@ fn push_starts(items: &mut Vec<u32>, head: &Head, node: u32) -> Result<(), OutOf
     Ok(())
 }
 
-/// Adds the messages from a node to others (`out`), or to it from others.
+/// Adds the messages from a node to others if `out`, or to it from others if not.
 fn push_messages(items: &mut Vec<u32>, head: &Head, node: u32, out: bool) -> Result<(), OutOfMemory>
     ensures { OnOk result (items.new.items ≡ items.old.items ++ numbers_where (λ e.
         if out then leaves head.now node e else enters head.now node e) (first_message head.now) head.now.edges) }
 {
-    // the number of the first message
+    // the number of the first message: messages are numbered after the processes, of which a head has at most 128
     let mut item = head.processes().len() as u32;
     for edge in head.edges() {
         push_if(items, item, is_crossing(head, node, *edge, out))?;
@@ -69,7 +69,7 @@ fn push_messages(items: &mut Vec<u32>, head: &Head, node: u32, out: bool) -> Res
     Ok(())
 }
 
-/// Adds the broadcasts of a node's own conditions (`own`), or of all others.
+/// Adds the broadcasts of a node's own conditions if `own`, or of all other conditions if not.
 fn push_broadcasts(
     items: &mut Vec<u32>,
     head: &Head,

@@ -24,6 +24,7 @@ pub struct VariableSpace {
 pub fn space_of(head: &Head) -> VariableSpace
     ensures { result ≡ space_of head.now }
 {
+    // a head has at most 128 processes, and no more conditions, so both numbers fit a `u32`
     VariableSpace {
         faults: head.faults(),
         processes: head.processes().len() as u32,

@@ -44,7 +44,7 @@ fn are_tables_of(head: &Head, nodes: &[NodeTable]) -> bool
     true
 }
 
-/// Returns whether the tables together have at most 524,288 columns.
+/// Returns whether the tables together have at most `MOST_LOAD` columns, which is 524,288.
 fn are_columns_few(nodes: &[NodeTable]) -> bool
     ensures { IsTrue result ↔ (sum_by (λ t. column_count (rows_of t)) nodes.now ≤ MOST_LOAD) }
 {

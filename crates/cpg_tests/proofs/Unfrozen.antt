@@ -15,11 +15,11 @@ use Rattle.cpg_run.specs.Frozen.{nothing_frozen}
 use Rattle.cpg_run.specs.Known.{AreEarly}
 
 module _ (g h : Graph) (frozen : List (Option ℕ)) (is : frozen ≡ nothing_frozen h) (same : h ≡ g) where
-  -- there is a frozen time, or none, for each item
+  -- the list of the frozen times has a place for each item
   pub unfrozen_long : length frozen ≡ item_count g
   unfrozen_long = ap length is ∙ length-replicate {A = Option ℕ} (item_count h) None ∙ ap item_count same
 
-  -- without frozen times all of them are early
+  -- as there are no frozen times, all are early
   pub unfrozen_early : AreEarly frozen
   unfrozen_early x time e = absurd (none-some time (sym none ∙ e))
     where
@@ -42,7 +42,7 @@ zero_lawful g = record {
   budget = omega (arith, sum_of_zeros (process_count g));
 }
 
--- with another value
+-- with another value of a condition it is still a scenario of the graph
 pub valued_lawful : (g h : Graph) (s new : Scenario) (c : ℕ) (value : Bool) → s ≡ zero_scenario h → h ≡ g →
     new ≡ record s { values = set s.values c value } →
     IsScenario g new

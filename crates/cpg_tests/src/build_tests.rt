@@ -7,7 +7,7 @@ use crate::fixtures::{MIXED, PAIR};
 use crate::list_tests::listed;
 use cpg_all_runs::has_few_scenarios;
 use cpg_base::Scenario;
-use cpg_expand::expand;
+use cpg_core::expand;
 use cpg_list::list;
 use cpg_rules::Admitted;
 use cpg_run::Built;
@@ -24,7 +24,7 @@ fn built_by_list(alloc: Global, admitted: &Admitted) -> Option<Built> {
     list(alloc, admitted, admitted.order()).ok()
 }
 
-/// Returns what is built under the urgency order by trees, or `None` if the build fails.
+/// Returns what is built under the urgency order by trees, or `None` if an item is too wide or memory runs out.
 #[tactic(auto, using(crate::proofs::Unfrozen::urgent_topological))]
 fn built_by_trees(alloc: Global, admitted: &Admitted) -> Option<Built> {
     expand(alloc, admitted, admitted.order()).ok()
@@ -59,7 +59,7 @@ fn has_rows(built: &Built) -> bool {
     are_rows(first.sends(), &[sent.as_slice()]) && are_rows(second.hears(), &[heard.as_slice()])
 }
 
-/// Whether what is built of a graph by lists is what was worked out for the pair.
+/// Whether what is built of a graph over a list of all scenarios is what was worked out for the pair.
 pub fn is_pair(alloc: Global, admitted: &Admitted) -> bool {
     match built_by_list(alloc, admitted) {
         Some(built) => has_peaks(&built) && has_rows(&built),
@@ -82,7 +82,7 @@ fn time_in(row: &Row, scenario: &Scenario) -> Option<u64> {
     None
 }
 
-/// Whether rows are of the same items, with the same times in a scenario.
+/// Whether two lists of rows are of the same items, in order, with the same times in a scenario.
 fn rows_agree(first: &[Row], second: &[Row], scenario: &Scenario) -> bool {
     if first.len() != second.len() {
         return false;
@@ -105,7 +105,7 @@ fn nodes_agree(first: &NodeTable, second: &NodeTable, scenario: &Scenario) -> bo
         && rows_agree(first.hears(), second.hears(), scenario)
 }
 
-/// Whether all items of two nodes have the same times in a scenario.
+/// Whether in two builds of two nodes each all items have the same times in a scenario.
 fn agree_in(first: &Built, second: &Built, scenario: &Scenario) -> bool {
     match (both(first), both(second)) {
         (Some((a, b)), Some((c, d))) => {
@@ -125,7 +125,7 @@ fn are_measured_alike(first: &Built, second: &Built) -> bool {
         && first.excess > 0
 }
 
-/// Whether two builds have the same measures, and the same times in each of these scenarios.
+/// Whether two builds have the same measures, with some process late, and the same times in each of these scenarios.
 fn agree(first: &Built, second: &Built, scenarios: &[Scenario]) -> bool {
     are_measured_alike(first, second)
         && scenarios
@@ -133,7 +133,7 @@ fn agree(first: &Built, second: &Built, scenarios: &[Scenario]) -> bool {
             .all(|scenario| agree_in(first, second, scenario))
 }
 
-/// Whether what trees build has the same measures and times as what a list built, in these scenarios.
+/// Whether what trees build has the same measures and times as `listed`, which a list built, in these scenarios.
 fn trees_agree(alloc: Global, admitted: &Admitted, scenarios: &[Scenario], listed: &Built) -> bool {
     match built_by_trees(alloc, admitted) {
         Some(built) => agree(listed, &built, scenarios),
@@ -141,7 +141,7 @@ fn trees_agree(alloc: Global, admitted: &Admitted, scenarios: &[Scenario], liste
     }
 }
 
-/// Whether both builders give the same measures and times in these scenarios.
+/// Whether both builders give the same measures and times in these scenarios. False at an error, too.
 fn builders_agree_in(alloc: Global, admitted: &Admitted, scenarios: &[Scenario]) -> bool {
     match built_by_list(alloc, admitted) {
         Some(built) => trees_agree(alloc, admitted, scenarios, &built),
@@ -149,7 +149,7 @@ fn builders_agree_in(alloc: Global, admitted: &Admitted, scenarios: &[Scenario])
     }
 }
 
-/// Whether both builders give the same measures and times for a graph in all scenarios.
+/// Whether both builders give the same measures and times for a graph in all scenarios. False at an error, too.
 pub fn builders_agree(alloc: Global, admitted: &Admitted) -> bool {
     match listed(alloc, admitted) {
         Ok(scenarios) => builders_agree_in(alloc, admitted, scenarios.as_slice()),

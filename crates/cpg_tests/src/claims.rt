@@ -13,23 +13,23 @@ use std::alloc::Global;
 /// A claim about a graph.
 #[derive(Clone, Copy)]
 pub enum Claim<'a> {
-    /// Each process has this length of the longest way to an end.
+    /// For each pair of a process and a length, the longest way from the process to an end has this length.
     Tails(&'a [(u32, u64)]),
-    /// Each item has so many views.
+    /// For each pair of an item and a number, the item has this number of views.
     Views(&'a [(u32, u64)]),
-    /// The greedy schedule of each track has these starts of the four processes.
+    /// The greedy schedule of each track, in order, has these starts of the four processes; `None` is no start.
     Starts(&'a [[Option<u64>; 4]]),
-    /// Both outcomes of the choice run as worked out by hand.
+    /// The runs of both outcomes of the choice are as worked out by hand.
     Outcomes,
-    /// A list of all scenarios gives this.
+    /// Over the list of all scenarios, the peaks, rows and frozen times are these.
     Finds(&'a Found),
-    /// A list builds what was worked out for the pair.
+    /// What is built over the list of all scenarios is what was worked out for the pair.
     Pair,
-    /// Lists and trees build the same.
+    /// What is built over a list and by trees has the same measures and times in all scenarios.
     Agreement,
 }
 
-/// Whether a claim is true of an admitted graph.
+/// Whether a claim is true of an admitted graph. False at an error, too.
 fn is_so(alloc: Global, admitted: &Admitted, claim: Claim<'_>) -> bool {
     match claim {
         Claim::Tails(wanted) => have_tails(alloc, admitted, wanted),
@@ -42,7 +42,7 @@ fn is_so(alloc: Global, admitted: &Admitted, claim: Claim<'_>) -> bool {
     }
 }
 
-/// Whether a text is an admitted graph, and the claim is true of it.
+/// Whether a text is a graph that is admitted, and the claim is true of it. False at an error, too.
 pub fn holds(alloc: Global, text: &str, claim: Claim<'_>) -> bool {
     match admitted(alloc, text) {
         Some(admitted) => is_so(alloc, &admitted, claim),

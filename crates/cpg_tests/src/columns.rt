@@ -2,7 +2,7 @@
 use cpg_cube::Column;
 use cpg_table::Row;
 
-/// A column's time, with the low and the high of its first literal. Both are 9 if it has none, which no fault count is.
+/// A column's time, with the low and the high of its first literal. Both are 9 if it has no literal; no fault count is 9.
 pub type ColumnParts = (u64, u8, u8);
 
 /// Returns the parts of a column.
@@ -13,7 +13,7 @@ fn parts_of(column: &Column) -> ColumnParts {
     }
 }
 
-/// Whether a row has just these columns, in order.
+/// Whether a row has just the columns of `want`, in order.
 fn is_row(row: &Row, want: &[ColumnParts]) -> bool {
     let columns = row.columns();
     if columns.len() != want.len() {
@@ -27,7 +27,7 @@ fn is_row(row: &Row, want: &[ColumnParts]) -> bool {
     true
 }
 
-/// Whether there are as many rows, and each has just its columns, in order.
+/// Whether there are as many rows as in `want`, and each has just its columns there, in order.
 pub fn are_rows(rows: &[Row], want: &[&[ColumnParts]]) -> bool {
     if rows.len() != want.len() {
         return false;

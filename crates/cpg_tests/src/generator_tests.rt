@@ -56,7 +56,7 @@ fn has_drawn(problem: &Problem, costs: &[DrawnCosts], edges: &[DrawnEnds]) -> bo
         && edges.iter().all(|ends| has_edge(problem, *ends))
 }
 
-/// Whether the graph of a number has these processes and edges, and so many conditions.
+/// Whether the graph generated of a number has these processes and edges, and so many conditions. False at an error, too.
 fn is_generated(
     alloc: Global,
     number: u64,

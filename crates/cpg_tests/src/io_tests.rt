@@ -7,7 +7,7 @@ use std::alloc::Global;
 use std::io::{ErrorKind, Write};
 use std::{fs, io};
 
-/// Whether a file under a name is read whole, within the limit, and has these bytes.
+/// Whether the file under a name is read whole, with at most `limit` bytes, and has the bytes `want`.
 fn reads<S: Shelf>(alloc: Global, shelf: &mut S, name: &str, limit: usize, want: &[u8]) -> bool
     requires { S.may_fetch shelf.old name.now }
     ensures { SameAccess (S.may_fetch shelf.old) (S.may_fetch shelf.new) }
@@ -18,7 +18,7 @@ fn reads<S: Shelf>(alloc: Global, shelf: &mut S, name: &str, limit: usize, want:
     }
 }
 
-/// Whether the file under a name isn't read, for this reason.
+/// Whether the file under a name isn't read with at most `limit` bytes, for the reason `want`.
 fn is_fault<S: Shelf>(alloc: Global, shelf: &mut S, name: &str, limit: usize, want: ReadAll) -> bool
     requires { S.may_fetch shelf.old name.now }
     ensures { SameAccess (S.may_fetch shelf.old) (S.may_fetch shelf.new) }
@@ -70,7 +70,8 @@ impl Write for Stream {
     }
 }
 
-/// Returns an empty stream that takes four bytes a write.
+/// Returns an empty stream that takes at most four bytes a write, and none once it has `end`. `can_flush` is whether a flush
+/// succeeds.
 fn empty_stream(alloc: Global, end: usize, can_flush: bool) -> Stream {
     Stream {
         bytes: Vec::new(alloc),

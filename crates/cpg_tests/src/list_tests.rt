@@ -34,7 +34,7 @@ pub fn listed(alloc: Global, admitted: &Admitted) -> Result<Vec<Scenario>, OutOf
     }
 }
 
-/// A peak: its time, its process, and in its scenario the faults of B and those of all processes together.
+/// A peak: its time, its process, and in its scenario the fault count of B and the faults of all processes together.
 pub type Told = (u64, Option<u32>, u8, u32);
 
 /// What is computed of a graph over a list of all its scenarios.
@@ -79,7 +79,7 @@ fn told(peak: &Peak) -> Told {
     )
 }
 
-/// Whether the greatest finish of runs is this.
+/// Whether the greatest finish of runs is `want`. False at an error, too.
 fn is_worst(
     alloc: Global,
     admitted: &Admitted,
@@ -137,7 +137,8 @@ fn has_rows(
     }
 }
 
-/// Whether the runs under these frozen times have these peaks and rows.
+/// Whether the runs under these frozen times have the peaks and rows of `want`. `firsts` has for each scenario the place of the
+/// first one with the same active numbers. False at an error, too.
 #[tactic(auto, using(crate::proofs::Unfrozen::urgent_topological))]
 fn has_runs(
     alloc: Global,
@@ -181,7 +182,8 @@ fn are_times(frozen: &FrozenTimes, message: Option<u64>) -> bool
     frozen.time_of(0).is_none() && frozen.time_of(2) == message
 }
 
-/// Whether the frozen times under the urgency order, and the peaks and rows of the runs, are these.
+/// Whether the frozen times under the urgency order, and the peaks and rows of the runs, are those of `want`. False at an
+/// error, too.
 #[tactic(auto, using(crate::proofs::Unfrozen::urgent_topological))]
 fn is_found_by_plan(
     alloc: Global,
@@ -206,8 +208,8 @@ fn is_found_by_plan(
     }
 }
 
-/// Whether all that is computed over these scenarios is this, and no two of them are alike, so that each has its own
-/// run.
+/// Whether all that is computed over these scenarios is `want`, and there are three of them with different active numbers, so
+/// that each has its own run. False at an error, too.
 fn is_found_over(
     alloc: Global,
     admitted: &Admitted,
@@ -228,7 +230,7 @@ fn is_found_over(
     }
 }
 
-/// Whether all that is computed over these scenarios is this.
+/// Whether all that is computed over these scenarios is `want`. False at an error, too.
 fn is_found_in(alloc: Global, admitted: &Admitted, scenarios: &[Scenario], want: &Found) -> bool
     requires items { item_count admitted.now.graph ≡ 3 }
     requires scenarios { AreScenarios admitted.now.graph scenarios.now }

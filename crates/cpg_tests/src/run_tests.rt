@@ -35,7 +35,8 @@ fn valued(alloc: Global, admitted: &Admitted, value: bool) -> Result<Scenario, O
     Ok(scenario)
 }
 
-/// Returns the run of a graph in which its condition has this value.
+/// Returns the run of a graph without faults in which its first condition has this value. An error is that there is no
+/// condition, or that memory runs out.
 #[tactic(auto, using(crate::proofs::Unfrozen::urgent_topological))]
 fn run_where(alloc: Global, admitted: &Admitted, value: bool) -> Result<RunTimes, OutOfMemory> {
     let frozen = unfrozen(alloc, admitted)?;
@@ -50,7 +51,7 @@ fn is_run(run: &RunTimes, times: [Option<u64>; 7], finish: u64) -> bool {
     [of(0), of(1), of(2), of(3), of(4), of(7), of(8)] == times && run.finish() == finish
 }
 
-/// Whether the run with this value of the condition has these times and this finish.
+/// Whether the run with this value of the condition has these times and this finish. False at an error, too.
 fn runs_so(
     alloc: Global,
     admitted: &Admitted,
@@ -64,7 +65,7 @@ fn runs_so(
     }
 }
 
-/// Whether the runs of both outcomes of the choice are as worked out by hand.
+/// Whether the runs of both outcomes of the choice are as worked out by hand. False at an error, too.
 pub fn outcomes_are_so(alloc: Global, admitted: &Admitted) -> bool {
     let of_c = [Some(0), None, Some(35), Some(70), None, Some(60), Some(40)];
     let of_b = [Some(0), Some(70), None, Some(85), Some(60), None, Some(40)];

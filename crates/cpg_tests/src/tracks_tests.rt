@@ -19,13 +19,13 @@ fn schedules(alloc: Global, admitted: &Admitted) -> Result<Vec<Starts>, OutOfMem
     Ok(schedules)
 }
 
-/// Returns the starts of the four processes in a schedule.
+/// Returns the starts of the processes 0 to 3 in a schedule; `None` for one that doesn't start.
 fn starts(schedule: &Starts) -> [Option<u64>; 4] {
     let of = |process| schedule.start_of(process);
     [of(0), of(1), of(2), of(3)]
 }
 
-/// Whether there are as many schedules, and they have these starts.
+/// Whether there are as many schedules as in `wanted`, and each has its starts there, in order.
 fn are_starts(schedules: &[Starts], wanted: &[[Option<u64>; 4]]) -> bool {
     if schedules.len() != wanted.len() {
         return false;
@@ -38,7 +38,7 @@ fn are_starts(schedules: &[Starts], wanted: &[[Option<u64>; 4]]) -> bool {
     true
 }
 
-/// Whether the starts of a graph's schedules are these.
+/// Whether the starts of the greedy schedules of a graph's tracks are those of `wanted`, in order. False at an error, too.
 pub fn have_starts(alloc: Global, admitted: &Admitted, wanted: &[[Option<u64>; 4]]) -> bool {
     match schedules(alloc, admitted) {
         Ok(schedules) => are_starts(schedules.as_slice(), wanted),

@@ -13,7 +13,7 @@ fn end(start: u64, faults: u8) -> u64 {
         .saturating_add(17 * u64::from(faults))
 }
 
-/// Returns the ends of a process, given its starts. The one error is that memory runs out.
+/// Returns the tree of the ends of a process, given that of its starts. The one error is that memory runs out.
 fn ended(alloc: Global, process: u32, start: &Tree<u64>) -> Result<Tree<u64>, OutOfMemory>
     requires process { process < 128 }
     requires faults { start.now.faults ≡ 2 }
@@ -59,7 +59,7 @@ fn picked(alloc: Global, on: &Tree<u64>, off: &Tree<u64>) -> Result<u64, OutOfMe
     Ok(picked.leaves())
 }
 
-/// Returns how many leaves the tree of the greater number of two trees has, with each number in a `Some`.
+/// Returns how many leaves the tree of the greater number of `on` and `off` has, with each number in a `Some`.
 fn greater(on: &Tree<u64>, off: &Tree<u64>) -> Result<u64, OutOfMemory>
     requires on { on.now.faults ≡ 2 }
     requires off { off.now.faults ≡ 2 }

@@ -30,7 +30,7 @@ pub processes_push : (fed : List FedProcess) (f : FedProcess) →
     processes_of (fed ++ f ∷ []) ≡ processes_of fed ++ f.process ∷ []
 processes_push fed f = map-append (λ (x : FedProcess). x.process) fed (f ∷ [])
 
--- given an outcome, and the starts of the processes placed so far
+-- given: an outcome, and the starts of the processes placed so far
 module _ (g : Graph) (o : List Bool) (starts : List (Option ℕ)) where
   -- ---- one process is asked
 
@@ -167,7 +167,7 @@ marks_done g t track marks count marked only =
 
 -- ---- a process is placed
 
--- given that p is the process to place next
+-- given: p is the process to place next
 module _ (g : Graph) (w : WellFormed g) (o : List Bool) (s : List (Option ℕ)) (h : IsPlacing g o s) (p : ℕ)
     (n : IsNext g o s p) where
   -- whether a process isn't the placed one

@@ -40,6 +40,7 @@ use Rattle.cpg_tracks.proofs.GreedyExists.{place_none, sooner_chain, greedy_from
 
 -- ---- the tables that are found once
 
+-- given: the look-up tables t of a track of the graph
 module _ (g : Graph) (t : Timing) (is : IsTiming g t) where
   -- the table has the duration of each process with all the faults
   pub duration_at : (p d : ℕ) → p < process_count g → get_or t.durations.items p d ≡ duration g p g.faults
@@ -69,26 +70,26 @@ module _ (g : Graph) (t : Timing) (is : IsTiming g t) where
 
 -- ---- cases of options
 
--- `IfSome` says it of the value that an option has
+-- if `IfSome o P` and o has the value x, P holds of x
 pub some_at : {X : Type 0} (P : X → Type 0) (o : Option X) → IfSome o P → (x : X) → o ≡ Some x → P x
 some_at P o h x e = subst (λ z. IfSome z P) e h
 
--- `IfNone` says it if an option has no value
+-- if `IfNone o P` and o has no value, P holds
 pub none_at : {X : Type 0} (P : Type 0) (o : Option X) → IfNone o P → o ≡ None → P
 none_at P o h e = subst (λ z. IfNone z P) e h
 
 -- ---- when an input is there
 
--- a start that was read is the start in the schedule
+-- if p has the start s in a schedule, read with any default, it has it with the default None
 pub start_there : (starts : List (Option ℕ)) (p s : ℕ) (d : Option ℕ) → p < length starts → get_or starts p d ≡ Some s →
     get_or starts p None ≡ Some s
 start_there starts p s d l e = get_or_default starts p None d l ∙ e
 
--- a start is no later than the bound of its schedule
+-- the start s of p is no later than b, if no start of the schedule is
 pub start_early : (starts : List (Option ℕ)) (p s b : ℕ) → AreBy b starts → get_or starts p None ≡ Some s → s ≤ b
 start_early starts p s b h e = omega (arith, h p, ap (λ o. unwrap_or o 0) e)
 
--- an input is there when its source has ended, and one round later if it is a message
+-- input e, whose source starts at s, is there when the source has ended, and one round later if it is a message (b)
 pub input_there : (g : Graph) (starts : List (Option ℕ)) (e s : ℕ) (b : Bool) →
     get_or starts (source g e) None ≡ Some s →
     is_message g e ≡ b →
@@ -99,12 +100,13 @@ input_there g starts e s b there is =
     ∙ ap (λ o. unwrap_or o 0 + duration g (source g e) g.faults + cond (is_message g e) (round g) 0) (sym there))
     ∙ ap (option_map (λ _. input_ready g starts e)) (sym there)
 
--- an input that isn't there has a source that isn't placed
+-- if a function gives no value for the option o, o has none: an input without a time has a source that isn't placed
 pub input_missing : {X Y : Type 0} (f : X → Y) (o : Option X) → option_map f o ≡ None → is_some o ≡ false
 input_missing f None h = refl
 input_missing f (Some x) h = absurd (true≢false (ap is_some h))
 
--- an input that is there has a source that is placed
+-- if the option o gives the value r, where it would give y, o has a value and r is y: an input with a time has a source that
+-- is placed
 pub input_given : {X Y : Type 0} (y : Y) (o : Option X) (r : Y) → option_map (λ _. y) o ≡ Some r →
     (is_some o ≡ true) × (r ≡ y)
 input_given y None r h = absurd (true≢false (sym (ap is_some h)))
@@ -112,6 +114,7 @@ input_given y (Some x) r h = (refl, sym (ap (λ o. unwrap_or o y) h))
 
 -- ---- when a process is ready
 
+-- given: an outcome o, the starts so far, and a process p
 module _ (g : Graph) (o : List Bool) (starts : List (Option ℕ)) (p : ℕ) where
   -- the live ones of the first inputs
   abbrev live_of : ℕ → List ℕ
@@ -131,6 +134,7 @@ module _ (g : Graph) (o : List Bool) (starts : List (Option ℕ)) (p : ℕ) wher
   abbrev FedBy : ℕ → Type 0
   FedBy i = (e : ℕ) → Contains (live_of i) e → has_start starts (source g e) ≡ true
 
+  -- given: the i-th input of p, edge e
   module _ (i e d : ℕ) (l : i < length (inputs g p)) (at : get_or (inputs g p) i d ≡ e) where
     -- the live inputs up to the next one, by whether it is live
     more_by : (b : Bool) → live g o e ≡ b → live_of (i + 1) ≡ live_of i ++ cond b (e ∷ []) []
@@ -190,7 +194,7 @@ module _ (g : Graph) (o : List Bool) (starts : List (Option ℕ)) (p : ℕ) wher
 -- An execution within the limits takes at most 600,000,000,000, a round at most 16,000,000,000, so each process that is
 -- placed starts at most 616,000,000,000 after what is there.
 
--- given starts that are no later than a bound
+-- given: starts that are no later than the bound b (`early`), which is at least 10^9, the latest release (`some`)
 module _ (g : Graph) (within : IsWithinLimits g) (w : WellFormed g) (o : List Bool) (starts : List (Option ℕ)) (b : ℕ)
     (early : AreBy b starts) (some : 1000000000 ≤ b) where
   -- no end is later than the bound by more than the longest execution
@@ -228,6 +232,7 @@ module _ (g : Graph) (within : IsWithinLimits g) (w : WellFormed g) (o : List Bo
 
 -- ---- the best candidate
 
+-- given: an outcome o, the starts so far, and the urgency order
 module _ (g : Graph) (o : List Bool) (starts : List (Option ℕ)) (order : List ℕ)
     (urgency : IsUrgencyOrder g order) where
   -- a candidate that comes first would start sooner, or with the other and is more urgent
@@ -351,7 +356,8 @@ chosen g o starts fed are None h = λ q f. h q (are.all q f) f
 chosen g o starts fed are (Some c) h =
     (record { fed = h.candidate.fed; best = λ q f ne. h.best q (are.all q f) f ne }, h.candidate.start)
 
--- the chosen process, if the lists are these
+-- if `result` is the process to place next by the lists `frees` and `feds`, whatever they are lists of, `answer` is so by
+-- `free` and `fed`, which are equal to these
 pub chosen_of : (g : Graph) (o : List Bool) (starts : List (Option ℕ)) (free frees : List ℕ)
     (fed feds : List FedProcess) (result answer : Option Candidate) → frees ≡ free → feds ≡ fed →
     AreFree g starts free → AreFed g o starts fed → ((o : List Bool) (starts : List (Option ℕ)) →
@@ -369,6 +375,7 @@ fed_within g o starts fed are i d l = (are.each (get_or fed i d) (Contains-get_o
 
 -- ---- one process is placed
 
+-- given: a schedule s on the way (`h`), and the process p to place next (`n`)
 module _ (g : Graph) (within : IsWithinLimits g) (w : WellFormed g) (o : List Bool) (s : List (Option ℕ))
     (h : IsPlacing g o s) (p : ℕ) (n : IsNext g o s p) where
   -- after the next process its node is free from its end on
@@ -475,6 +482,7 @@ placed_first g o = record {
   early = early_first g o (1000000000 + 0 * 616000000000);
 }
 
+-- given: n processes are placed, with these starts, and `free` is when each node is free
 module _ (g : Graph) (within : IsWithinLimits g) (w : WellFormed g) (o : List Bool) (starts : List (Option ℕ))
     (free : List ℕ) (n : ℕ) (h : HavePlaced g o starts free n) where
   -- the schedule stays within 2^60 for as many processes as there are

@@ -25,7 +25,7 @@ count_more rests rest = grind (arith, common_steps)
 pub rest_last : (rests : List ℕ) (rest : ℕ) → get_or (rests ++ rest ∷ []) (length rests) 0 ≡ rest
 rest_last rests rest = grind (arith, common_steps)
 
--- given processes ranked by how far their keys are from the greatest number
+-- given: processes ranked by how far their keys are from the greatest number
 module _ (keys rests order : List ℕ) (are : AreRests keys rests) (ranked : AreRanked rests order) where
   -- processes ranked by their rests are all processes
   pub all_ranked : IsPermutation (numbers_below (length keys)) order

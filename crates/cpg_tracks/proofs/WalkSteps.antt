@@ -13,25 +13,26 @@ use Rattle.cpg_tracks.specs.Track.{Track, outcomes_of}
 use Rattle.cpg_tracks.proofs.TracksFound.{walk_finds_tracks, never_fewer}
 use Rattle.cpg_tracks.proofs.TrackSteps.{over_append}
 
--- the first elements of a list give what those before the last one give, and what this one gives
+-- f of the first i + 1 elements of `xs` gives what it gives of the first i, and then what it gives of the i-th
 flat_map_next : {X Y : Type 0} (f : X → List Y) (xs : List X) (i : ℕ) (d : X) → i < length xs →
     flat_map f (take (i + 1) xs) ≡ flat_map f (take i xs) ++ f (get_or xs i d)
 flat_map_next f xs i d l = ap (flat_map f) (take_more xs i d l) ∙ flat_map-append f (take i xs) (get_or xs i d ∷ [])
     ∙ ap (λ ys. flat_map f (take i xs) ++ ys) (append-nil (f (get_or xs i d)))
 
--- the mapped front of a list, with one element more
+-- the first i + 1 elements of `xs`, mapped, are the first i, mapped, and then f of the i-th
 map_next : {X Y : Type 0} (f : X → Y) (xs : List X) (i : ℕ) (d : X) → i < length xs →
     map f (take (i + 1) xs) ≡ map f (take i xs) ++ f (get_or xs i d) ∷ []
 map_next f xs i d l = ap (map f) (take_more xs i d l) ∙ map-append f (take i xs) (get_or xs i d ∷ [])
 
 -- ---- the ways of one more outcome
 
--- the outcomes that one more scenario makes at a condition come at the end
-pub ways_more : (g : Graph) (c : ℕ) (xs before after : List Scenario) (i : ℕ) (d : Scenario) → i < length xs →
-    outcomes_of before ≡ flat_map (both_ways_at g c) (outcomes_of (take i xs)) →
-    outcomes_of after ≡ outcomes_of before ++ both_ways_at g c (get_or xs i d).values →
-    outcomes_of after ≡ flat_map (both_ways_at g c) (outcomes_of (take (i + 1) xs))
-ways_more g c xs before after i d l h e = e ∙ ap (λ ys. ys ++ both_ways_at g c (get_or xs i d).values) h
+-- if the outcomes found are those that the first i scenarios of `xs` make at condition c, and those of the i-th come at the
+-- end, they are those that the first i + 1 make
+pub ways_more : (g : Graph) (c : ℕ) (xs found more : List Scenario) (i : ℕ) (d : Scenario) → i < length xs →
+    outcomes_of found ≡ flat_map (both_ways_at g c) (outcomes_of (take i xs)) →
+    outcomes_of more ≡ outcomes_of found ++ both_ways_at g c (get_or xs i d).values →
+    outcomes_of more ≡ flat_map (both_ways_at g c) (outcomes_of (take (i + 1) xs))
+ways_more g c xs found more i d l h e = e ∙ ap (λ ys. ys ++ both_ways_at g c (get_or xs i d).values) h
     ∙ sym (ap (flat_map (both_ways_at g c)) (map_next (λ (s : Scenario). s.values) xs i d l)
     ∙ flat_map-append (both_ways_at g c) (outcomes_of (take i xs)) ((get_or xs i d).values ∷ [])
     ∙ ap (λ ys. flat_map (both_ways_at g c) (outcomes_of (take i xs)) ++ ys)
@@ -49,13 +50,14 @@ over_next g order i o l e = ap (λ cs. tracks_over g cs (all_false g ∷ []))
     ∙ ap (λ r. conditions_along g (take i order) ++ option_to_list r) e)
     ∙ over_append g (conditions_along g (take i order)) (option_to_list o) (all_false g ∷ [])
 
--- a process with a condition takes the walk over the condition
-pub walk_takes : (g : Graph) (order : List ℕ) (i c : ℕ) (before after : List Scenario) → i < length order →
+-- if the i-th process of the order has condition c, and the outcomes found so far go both ways at c, they are those of the
+-- first i + 1 processes
+pub walk_takes : (g : Graph) (order : List ℕ) (i c : ℕ) (found more : List Scenario) → i < length order →
     condition_of g (get_or order i 0) ≡ Some c →
-    outcomes_of before ≡ tracks_over g (conditions_along g (take i order)) (all_false g ∷ []) →
-    outcomes_of after ≡ flat_map (both_ways_at g c) (outcomes_of before) →
-    outcomes_of after ≡ tracks_over g (conditions_along g (take (i + 1) order)) (all_false g ∷ [])
-walk_takes g order i c before after l e h k =
+    outcomes_of found ≡ tracks_over g (conditions_along g (take i order)) (all_false g ∷ []) →
+    outcomes_of more ≡ flat_map (both_ways_at g c) (outcomes_of found) →
+    outcomes_of more ≡ tracks_over g (conditions_along g (take (i + 1) order)) (all_false g ∷ [])
+walk_takes g order i c found more l e h k =
     k ∙ ap (flat_map (both_ways_at g c)) h ∙ sym (over_next g order i (Some c) l e)
 
 -- a process without a condition leaves the outcomes as they are
@@ -86,14 +88,15 @@ stopped_at g order urgency top i l =
 
 -- ---- the track of one more outcome
 
--- one more track has the outcome of the next scenario
-pub outcomes_more : (xs : List Scenario) (before after : List Track) (t : Track) (i : ℕ) (d : Scenario) →
+-- if the tracks found have the outcomes of the first i scenarios of `xs`, and t has that of the next, then with t they have
+-- those of the first i + 1
+pub outcomes_more : (xs : List Scenario) (found more : List Track) (t : Track) (i : ℕ) (d : Scenario) →
     i < length xs →
-    map (λ (t : Track). t.outcome) before ≡ outcomes_of (take i xs) →
-    t.outcome ≡ (get_or xs i d).values → after ≡ before ++ t ∷ [] →
-    map (λ (t : Track). t.outcome) after ≡ outcomes_of (take (i + 1) xs)
-outcomes_more xs before after t i d l h e k =
-    ap (map (λ (t : Track). t.outcome)) k ∙ map-append (λ (t : Track). t.outcome) before (t ∷ [])
+    map (λ (t : Track). t.outcome) found ≡ outcomes_of (take i xs) →
+    t.outcome ≡ (get_or xs i d).values → more ≡ found ++ t ∷ [] →
+    map (λ (t : Track). t.outcome) more ≡ outcomes_of (take (i + 1) xs)
+outcomes_more xs found more t i d l h e k =
+    ap (map (λ (t : Track). t.outcome)) k ∙ map-append (λ (t : Track). t.outcome) found (t ∷ [])
     ∙ ap (λ ys. ys ++ t.outcome ∷ []) h ∙ ap (λ o. outcomes_of (take i xs) ++ o ∷ []) e
     ∙ sym (map_next (λ (s : Scenario). s.values) xs i d l)
 

@@ -75,15 +75,15 @@ pub record AreFedBut (g : Graph) (o : List Bool) (starts : List (Option ℕ)) (p
       Contains (map (λ f. f.process) fed) q ⊎
       ((e : ℕ) × Contains (outputs g p) e × (live g o e ≡ true) × (target g e ≡ q))
 
--- The new list has all that the old one has, and p too if it can be placed. If the old one is right, so is the new one.
+-- The list `fed_new` has all that `fed_old` has, and p too if it can be placed. If `fed_old` is right, so is `fed_new`.
 pub record Feeds (g : Graph) (o : List Bool) (starts : List (Option ℕ)) (p : ℕ)
-    (old new : List FedProcess) : Type 0 where
-  -- if each entry of the old list was right, each of the new one is
-  pub each : ((f : FedProcess) → Contains old f → IsFedAt g o starts f) → (f : FedProcess) → Contains new f →
+    (fed_old fed_new : List FedProcess) : Type 0 where
+  -- if each entry of the old list is right, each of the new one is
+  pub each : ((f : FedProcess) → Contains fed_old f → IsFedAt g o starts f) → (f : FedProcess) → Contains fed_new f →
       IsFedAt g o starts f
   -- each process of the old list is in the new one, and p is if it can be placed
-  pub kept : (q : ℕ) → Contains (map (λ f. f.process) old) q → Contains (map (λ f. f.process) new) q
-  pub added : IsFed g o starts p → Contains (map (λ f. f.process) new) p
+  pub kept : (q : ℕ) → Contains (map (λ f. f.process) fed_old) q → Contains (map (λ f. f.process) fed_new) q
+  pub added : IsFed g o starts p → Contains (map (λ f. f.process) fed_new) p
 
 -- the process can be placed next, and `start` is when it would start
 pub record IsCandidate (g : Graph) (o : List Bool) (starts : List (Option ℕ)) (c : Candidate) : Type 0 where

@@ -21,6 +21,7 @@ module _ {A : Type 0} (P : A → Type 0) (front back : List A) (all : All P (fro
   all_back : All P back
   all_back = subst (All P) (drop-append_seam front back) (All-drop P (length front) (front ++ back) all)
 
+-- given: a least time
 module _ (least : ℕ) where
   -- the path has a time, and it is no earlier than `least`
   abbrev pub IsFrom : Path (Option ℕ) → Type 0

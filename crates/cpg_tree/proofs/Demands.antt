@@ -19,7 +19,7 @@ use Rattle.cpg_tree.specs.Space.{Space, IsInSpace, beyond, faults_of, asked_beyo
 abbrev pub without : ℕ → (ℕ → ℕ) → ℕ → ℕ
 without v f u = cond (u == v) 0 (f u)
 
--- `without` gives 0 for the variable itself, and the function's number for each other one
+-- `without` gives 0 for the variable itself
 pub without_here : (v : ℕ) (f : ℕ → ℕ) → without v f v ≡ 0
 without_here v f = cond-true (v == v) 0 (f v) (eq-eqb v v refl)
 
@@ -46,6 +46,7 @@ weights_le g n f (l ∷ ls) rising each none = elim (cases_lt l.variable n) [
       omega (arith, rest, none l many, sum_by-cons g l ls)
 ]
 
+-- given: a space
 module _ (space : Space) where
   -- given: a scenario of the space that matches literals on rising variables
   module _ (s : Scenario) (lies : IsInSpace space s) (ls : List Literal) (rising : IsRising ls)

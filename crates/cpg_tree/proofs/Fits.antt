@@ -172,7 +172,7 @@ no_faults v n l = cond-false (nat_lt v 128) n 0 (le-ltb v 128 l)
 all_faults : (v n : ℕ) → v < 128 → faults_of v n ≡ n
 all_faults v n l = cond-true (nat_lt v 128) n 0 (lt-ltb v 128 l)
 
--- given: a space, two cuts of one variable, and a number of the space that is not above the lower cut
+-- given: a space, and two cuts of one variable, of which the lower one is open below
 module _ (space : Space) (v cut far : ℕ) (less : cut < far) (below : is_open_below space v cut ≡ true) where
   -- the low isn't above the cut
   low_under : get_or space.low v 0 ≤ cut
@@ -266,7 +266,7 @@ module _ (k : ℕ) (space other : Space) (one : IsWhole k space) (two : IsWhole 
       | inl count ↦ omega (arith, one.counts v count, two.counts v count)
       | inr value ↦ omega (arith, one.values v value there, two.values v value there)
     ]
-    | inr past ↦ omega (arith, get_or_past space.high v 0 (omega (arith, past, one.longer)))
+    | inr past ↦ omega (arith, get_or_past space.high v 0 (omega (arith, past, one.high_long)))
   ]
 
   -- two whole spaces have the same lows
@@ -276,4 +276,9 @@ module _ (k : ℕ) (space other : Space) (one : IsWhole k space) (two : IsWhole 
   -- between two such spaces no number differs, so a tree that fits one fits the other
   pub fits_whole : {T : Type 0} (node : TreeNode T) → IsFit space node → IsFit other node
   fits_whole node = fits_higher node space other
-      (record { low = same_number_lists space.low other.low (one.long ∙ sym two.long) whole_low; left = omega (arith, one.left, two.left); long = one.longer ∙ sym two.longer; high = whole_high })
+      (record {
+        low = same_number_lists space.low other.low (one.long ∙ sym two.long) whole_low;
+        left = omega (arith, one.left, two.left);
+        long = one.high_long ∙ sym two.high_long;
+        high = whole_high;
+      })

@@ -54,6 +54,7 @@ all_added {T} old new n none added = added ∙ ap (λ (xs : List (TreeItem T)). 
 
 -- ---- the last item shows what the tree is
 
+-- given: a kind of elements
 module _ {A : Type 0} where
   -- the last of a list, or a default
   last_or : A → List A → A
@@ -93,9 +94,9 @@ pub flat-last : {T : Type 0} (n : TreeNode T) → flat n ≡ sides_of n ++ (item
 flat-last (Leaf x) = refl
 flat-last (Fork v cut below above) = refl
 
--- the parts of a list that is cut at the first part's length
+-- given: the parts of a list that is cut at the first part's length
 module _ {A : Type 0} (front back : List A) (n : ℕ) (long : n ≡ length front) where
-  -- up to the first part's length it is the first part, and from there on the second
+  -- up to the first part's length it is the first part
   pub take_front : take n (front ++ back) ≡ front
   take_front = ap (λ m. take m (front ++ back)) long ∙ take-append_seam front back
 

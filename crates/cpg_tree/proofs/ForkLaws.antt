@@ -14,6 +14,7 @@ use Rattle.cpg_tree.proofs.Flats.{flat-same, last_same, rest_same, take_front, d
 
 -- ---- of trees
 
+-- given: a variable v, a cut, and the trees below it and above it
 module _ {T : Type 0} (v cut : ℕ) (below above : TreeNode T) where
   -- if both sides are the same tree, that tree is a fork of them
   pub forked_same : IsForked v cut below below below
@@ -51,6 +52,7 @@ module _ {T : Type 0} (v cut : ℕ) (below above : TreeNode T) where
     pass = λ test is p q. (is, p, q);
   }
 
+  -- given: a second cut, `far`, which is greater
   module _ (far : ℕ) (less : cut < far) where
     -- a number up to the cut is up to the farther one
     farther : (s : Scenario) → number_of s v ≤ cut → number_of s v ≤ far
@@ -99,28 +101,28 @@ met_is {T} (Fork u cut x y) b rest v far e =
 -- ---- of lists
 
 -- given: a list that ends in the lists of two trees, split at `start` and `middle`
-module _ {T : Type 0} (start middle : ℕ) (old before : List (TreeItem T)) (below above : TreeNode T)
-    (split : IsSplit start middle old before below above) where
-  -- the tree above stands behind what was before and the tree below
-  behind : middle ≡ length (before ++ flat below)
-  behind = omega (arith, split.second, length-append before (flat below))
+module _ {T : Type 0} (start middle : ℕ) (old front : List (TreeItem T)) (below above : TreeNode T)
+    (split : IsSplit start middle old front below above) where
+  -- the tree above stands behind the front and the tree below
+  behind : middle ≡ length (front ++ flat below)
+  behind = omega (arith, split.second, length-append front (flat below))
 
-  -- up to the middle stand what was before and the tree below
-  front_is : take middle old ≡ before ++ flat below
-  front_is = ap (take middle) split.is ∙ take_front (before ++ flat below) (flat above) middle behind
+  -- up to the middle stand the front and the tree below
+  up_to_middle : take middle old ≡ front ++ flat below
+  up_to_middle = ap (take middle) split.is ∙ take_front (front ++ flat below) (flat above) middle behind
 
   -- behind it stands the tree above
   above_is : drop middle old ≡ flat above
-  above_is = ap (drop middle) split.is ∙ drop_front (before ++ flat below) (flat above) middle behind
+  above_is = ap (drop middle) split.is ∙ drop_front (front ++ flat below) (flat above) middle behind
 
   -- between them stands the tree below
   below_is : drop start (take middle old) ≡ flat below
-  below_is = ap (drop start) front_is ∙ drop_front before (flat below) start split.first
+  below_is = ap (drop start) up_to_middle ∙ drop_front front (flat below) start split.first
 
-  -- in front of both trees stands what was before
-  before_is : take start old ≡ before
-  before_is = ap (take start) (split.is ∙ append_assoc before (flat below) (flat above))
-      ∙ take_front before (flat below ++ flat above) start split.first
+  -- up to the start stands the front
+  up_to_start : take start old ≡ front
+  up_to_start = ap (take start) (split.is ∙ append_assoc front (flat below) (flat above))
+      ∙ take_front front (flat below ++ flat above) start split.first
 
   -- the tree below is as long as what lies between
   between : middle - start ≡ length (flat below)
@@ -130,40 +132,41 @@ module _ {T : Type 0} (start middle : ℕ) (old before : List (TreeItem T)) (bel
   again : start + (middle - start) ≡ middle
   again = omega (arith, split.first, split.second)
 
+  -- given: a variable v, a cut, and the list that results
   module _ (v cut : ℕ) (new : List (TreeItem T)) where
     -- both sides are equal: one of them is the fork
     pub forks_same : drop start (take middle old) ≡ drop middle old → new ≡ take middle old →
-        AddsTree (IsForked v cut below above) before new
+        AddsTree (IsForked v cut below above) front new
     forks_same same cutoff =
         let one : below ≡ above = flat-same below above (sym below_is ∙ same ∙ above_is) in (
           below,
-          cutoff ∙ front_is,
+          cutoff ∙ up_to_middle,
           subst (λ (n : TreeNode T). IsForked v cut below n below) one (forked_same v cut below above),
         )
 
     -- the side below is repeated on the side above: the side above is the fork
     pub forks_repeated : RepeatsBelow (drop start (take middle old)) (drop middle old) v cut →
         new ≡ take start old ++ drop (start + (middle - start)) old
-        → AddsTree (IsForked v cut below above) before new
+        → AddsTree (IsForked v cut below above) front new
     -- the tree above is a fork at `far` with the tree below as its own side below (`met_is`), so it is a fork of both
     forks_repeated (far, rest, less, ends) taken =
         let whole : flat above ≡ flat below ++ rest ++ (Cut v far (length (flat below)) ∷ []) =
         sym above_is ∙ ends ∙ ap (λ (xs : List (TreeItem T)). xs ++ rest ++ (Cut v far (length xs) ∷ [])) below_is in
         let is = met_is above below rest v far whole in (
           above,
-          taken ∙ ap (λ (xs : List (TreeItem T)). xs ++ drop (start + (middle - start)) old) before_is
-              ∙ ap (λ n. before ++ drop n old) again ∙ ap (λ (xs : List (TreeItem T)). before ++ xs) above_is,
+          taken ∙ ap (λ (xs : List (TreeItem T)). xs ++ drop (start + (middle - start)) old) up_to_start
+              ∙ ap (λ n. front ++ drop n old) again ∙ ap (λ (xs : List (TreeItem T)). front ++ xs) above_is,
           subst (λ (n : TreeNode T). IsForked v cut below n n) (sym is.1) (forked_met v cut below is.0 far less),
         )
 
     -- otherwise the fork itself is added
     pub forks_plain : v < 256 → new ≡ old ++ (Cut v cut (middle - start) ∷ []) →
-        AddsTree (IsForked v cut below above) before new
+        AddsTree (IsForked v cut below above) front new
     forks_plain small added = (
       Fork v cut below above,
       added ∙ ap (λ (xs : List (TreeItem T)). xs ++ (Cut v cut (middle - start) ∷ []))
-          (split.is ∙ append_assoc before (flat below) (flat above))
-          ∙ append_assoc before (flat below ++ flat above) (Cut v cut (middle - start) ∷ [])
-          ∙ ap (λ n. before ++ (flat below ++ flat above ++ (Cut v cut n ∷ []))) between,
+          (split.is ∙ append_assoc front (flat below) (flat above))
+          ∙ append_assoc front (flat below ++ flat above) (Cut v cut (middle - start) ∷ [])
+          ∙ ap (λ n. front ++ (flat below ++ flat above ++ (Cut v cut n ∷ []))) between,
       forked_plain v cut below above small,
     )

@@ -1,4 +1,5 @@
--- What a scenario finds at a fork, and what is made of its two sides.
+-- What a scenario finds at a fork, and what is made of its two sides. In the lemmas s is a scenario, v the variable of
+-- a fork, u any variable, and k the most faults.
 use Rattle.std.proofs.Common.{ℕ, ◌+◌, ◌<◌, ◌≤◌, ◌≡◌, ◌≢◌, max, min, ◌==◌, Bool, true, false, arith, refl, sym, ap, ◌∙◌}
 use Rattle.std.proofs.Common.{subst, inl, inr, ◌⊎◌, eq-eqb, ne_eqb, Result, Ok, Err}
 use Rattle.std.specs.Prelude.{nat_le, IfOk}
@@ -203,6 +204,7 @@ pick_whole {T} space chooser on off on_part off_part r same_on same_off made =
 
 -- ---- of one tree
 
+-- given: a fact of a scenario, the value of the one tree there, and that of the tree made
 module _ {T U : Type 0} (fact : Scenario → T → U → Type 0) where
   -- a tree is made of one tree, in the scenarios of a domain
   abbrev pub IsOne : (Scenario → Type 0) → TreeNode T → TreeNode U → Type 0
@@ -268,6 +270,8 @@ module _ {T U : Type 0} (fact : Scenario → T → U → Type 0) where
 
 -- ---- of a tree and more
 
+-- given: such a fact, and how far the value of the one tree narrows the ranges further: from below (`more_low`) and
+-- from above (`more_high`)
 module _ {T U : Type 0} (fact : Scenario → T → U → Type 0) (more_low : Scenario → T → ℕ → ℕ)
     (more_high : ℕ → Scenario → T → ℕ → ℕ) where
   -- a tree is made of one tree, with more ranges narrowed, in the scenarios of a domain

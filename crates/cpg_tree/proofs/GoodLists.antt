@@ -16,6 +16,7 @@ use Rattle.cpg_tree.proofs.TidyPaths.{tidy_all}
 abbrev pub state_in : {T : Type 0} → ℕ → List (TreeItem T) → TreeState T
 state_in k items = record { faults = k; paths = paths_in k items }
 
+-- given: a number of faults k, and a list of items
 module _ {T : Type 0} (k : ℕ) (items : List (TreeItem T)) where
   -- the state that a list gives back is that of its tree
   pub state_is : (n : TreeNode T) → items ≡ flat n → state_in k items ≡ state k n

@@ -8,8 +8,9 @@ use Rattle.cpg_base.specs.Scenario.{Scenario, number_of}
 use Rattle.cpg_cube.specs.declared.literal.Literal.{Literal}
 use Rattle.cpg_cube.specs.Cube.{holds, matches}
 
+-- given: a scenario s, and a literal l
 module _ (s : Scenario) (l : Literal) where
-  -- a literal does not hold if the number of its variable is under its low or over its high
+  -- a literal doesn't hold if the number of its variable is below its low
   pub below_low : number_of s l.variable < l.low → holds s l ≡ false
   below_low h = ap (λ b. b && nat_le (number_of s l.variable) l.high) (lt-leb l.low (number_of s l.variable) h)
 
@@ -18,7 +19,7 @@ module _ (s : Scenario) (l : Literal) where
   above_high h = ap (λ b. nat_le l.low (number_of s l.variable) && b) (lt-leb (number_of s l.variable) l.high h)
       ∙ and-false (nat_le l.low (number_of s l.variable))
 
--- a number up to the cut just under a low is under the low, and one above that cut is not
+-- a number up to the cut just under a low is under the low
 pub under : (low n : ℕ) → (low ≡ 0 → ⊥) → n ≤ low - 1 → n < low
 under low n some h = elim (cases_lt 0 low) [ inl l ↦ omega (arith, l, h) | inr l ↦ absurd (some (omega (arith, l))) ]
 

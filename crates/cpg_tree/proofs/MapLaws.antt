@@ -14,6 +14,7 @@ use Rattle.cpg_tree.specs.Added.{AddsTree, ForksEnd, IsForked, IsMapped}
 use Rattle.cpg_tree.proofs.Forks.{one_fork_of, passes_parts, fit_parts}
 use Rattle.cpg_tree.proofs.Flats.{flat-same}
 
+-- given: what answers a value
 module _ {T U : Type 0} (answers : T → U → Type 0) where
   -- a leaf is mapped to the leaf of its answer
   mapped_leaf : (x : T) (y : U) → answers x y → IsMapped answers (Leaf x) (Leaf y)

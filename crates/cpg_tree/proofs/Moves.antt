@@ -6,11 +6,13 @@ use Rattle.std.proofs.lemmas.List.{get_or-drop, length-drop, take_all}
 use Rattle.std.proofs.Math.Seq.{paste, paste-zero}
 use Rattle.std.proofs.lemmas.List.Edits.{drop-paste, take-paste, paste_more}
 
+-- given: a list, from which `count` elements are taken out at the place `from`
 module _ {A : Type 0} (old : List A) (from count : ℕ) where
   -- the list after the items up to a place have been moved
   abbrev pub moved : ℕ → List A
   moved i = paste old from (drop (from + count) old) (i - from)
 
+  -- given: a place j behind `from`, with an element `count` places further on; `x` stands for that element
   module _ (j : ℕ) (x : A) (there : from + j + count < length old) where
     -- the place is within what stands behind the items taken out
     rest_long : j < length (drop (from + count) old)
@@ -39,10 +41,10 @@ module _ {A : Type 0} (old : List A) (from count : ℕ) where
         ∙ paste_more old from (drop (from + count) old) j x (omega (arith, there)) rest_long
 
   -- one more item is moved
-  pub moved_on : (now : List A) (i : ℕ) (x : A) → from ≤ i → i + count < length old → now ≡ moved i →
-      x ≡ slice_index_or now (i + count) x →
-      slice_set now i x ≡ moved (i + 1)
-  moved_on now i x after there is value =
+  pub moved_on : (so_far : List A) (i : ℕ) (x : A) → from ≤ i → i + count < length old → so_far ≡ moved i →
+      x ≡ slice_index_or so_far (i + count) x →
+      slice_set so_far i x ≡ moved (i + 1)
+  moved_on so_far i x after there is value =
       let at : from + (i - from) ≡ i = omega (arith, after) in
       let more : i - from + 1 ≡ i + 1 - from = omega (arith, after) in
       ap (λ (xs : List A). slice_set xs i x) is ∙ ap (λ n. slice_set (moved i) n x) (sym at)

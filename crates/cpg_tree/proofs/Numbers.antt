@@ -57,11 +57,11 @@ more_counts p first k above r rest fork = record {
 -- given: a space that leaves the count p the numbers from `first` to k, of which there are several
 module _ (space : Space) (p first k : ℕ) (count : p < 128) (leaves : LeavesCounts space p first k)
     (less : first < k) where
-  -- the count is left on both sides of the cut, and only higher counts are left above it
+  -- the cut of the count at `first` is open below
   pub counts_open_below : is_open_below space p first ≡ true
   counts_open_below = le-leb (get_or space.low p 0) first (omega (arith, leaves.low))
 
-  -- the cut of a count is open above
+  -- the cut of the count at `first` is open above
   pub counts_open_above : is_open_above space p first ≡ true
   counts_open_above = and_from _ _ (lt-ltb first (get_or space.high p 0) (omega (arith, leaves.high, less)))
       (or_right (nat_le 128 p) _
@@ -107,11 +107,11 @@ value_is v r fork = record {
 
 -- given: the variable of a condition's value, in the space of all scenarios
 module _ (k : ℕ) (space : Space) (whole : IsWhole k space) (v : ℕ) (value : 128 ≤ v) (there : v < 256) where
-  -- in the space of all scenarios a condition is both false and true
+  -- the cut 0 of a value is open below
   pub value_open_below : is_open_below space v 0 ≡ true
   value_open_below = le-leb (get_or space.low v 0) 0 (omega (arith, whole.lows v there))
 
-  -- the cut of a value is open above
+  -- the cut 0 of a value is open above
   pub value_open_above : is_open_above space v 0 ≡ true
   value_open_above = and_from _ _ (lt-ltb 0 (get_or space.high v 0) (omega (arith, whole.values v value there)))
       (or_left (nat_le 128 v) _ (le-leb 128 v value))
@@ -139,7 +139,7 @@ some_whole k = (
   record { low = replicate 256 0; high = map tops (numbers_below 256); left = k },
   record {
     long = search rules;
-    longer = length-map-range_with_len tops 0 256;
+    high_long = length-map-range_with_len tops 0 256;
     lows = λ v l. get_or-replicate 256 v 0 0 l;
     counts = λ v l. get_or-map-below tops 256 v 0 (omega (arith, l)) ∙ cond-true (nat_lt v 128) k 1 (lt-ltb v 128 l);
     values = λ v h l. get_or-map-below tops 256 v 0 l ∙ cond-false (nat_lt v 128) k 1 (le-ltb v 128 h);
@@ -153,7 +153,7 @@ some_whole k = (
 
 -- given: a scenario of at most k faults, and a variable
 module _ (k : ℕ) (s : Scenario) (few : HasAtMostFaults k s) (v : ℕ) where
-  -- a scenario of at most k faults has counts of at most k, and values of at most 1
+  -- a count of the scenario is at most k
   pub count_at_most : v < 128 → number_of s v ≤ k
   count_at_most l = omega (arith, number_le_top k s few v, cond-true (nat_lt v 128) k 1 (lt-ltb v 128 l))
 

@@ -1,4 +1,5 @@
--- Spaces that some scenario lies in, and cubes that say no more than a space.
+-- Spaces that some scenario lies in, and cubes that say no more than a space. In the lemmas k is the most faults, and v
+-- a variable.
 use Rattle.std.proofs.Common.{ℕ, ◌+◌, ◌-◌, ◌<◌, ◌≤◌, ◌≡◌, ◌≢◌, true, nat_lt, List, [], get_or, sum_by, length, arith}
 use Rattle.std.proofs.Common.{sym, ap, ◌∙◌, subst, inl, inr, ◌⊎◌, lt-ltb, le-ltb}
 use Rattle.std.specs.Prelude.{nat_le, slice_set}
@@ -43,7 +44,7 @@ more_asked new old low cut left k changed most below allows = omega arith
 -- given: an open space, and a cut with numbers on both sides
 module _ (k : ℕ) (space : Space) (is : IsOpenSpace k space) (v cut : ℕ) (there : v < 256)
     (below : is_open_below space v cut ≡ true) (upper : is_open_above space v cut ≡ true) where
-  -- the cut is at least the low of its variable, under the high, and under the whole range's top
+  -- the low of the variable is at most the cut
   pub low_at_most : get_or space.low v 0 ≤ cut
   low_at_most = leb-true (get_or space.low v 0) cut below
 
@@ -139,6 +140,7 @@ module _ (k : ℕ) (space : Space) (is : IsOpenSpace k space) (v cut : ℕ) (the
       as_before : (new old left k : ℕ) → new ≡ old → old + left ≤ k → new + (left - 0) ≤ k
       as_before new old left k e h = omega arith
 
+  -- given: a cube that covers the space
   module _ (cube : List Literal) (covers : CoversSpace k space cube) where
     -- a cube that covers the space, narrowed to the numbers up to the cut, covers the part of the space below the cut
     pub covers_below : CoversSpace k (below_cut space v cut) (narrowed_by (up_to v cut) cube)
@@ -226,7 +228,7 @@ pub whole_opens : (k : ℕ) (space : Space) → IsWhole k space → IsOpenSpace 
 -- all lows are 0, so no fault is asked for; the high of a count is k, and that of a value 1, which are their tops
 whole_opens k space whole = record {
   lows = whole.long;
-  highs = whole.longer;
+  highs = whole.high_long;
   opens = λ v l. omega (arith, whole.lows v l);
   tops = λ v l. elim (cases_lt v 128) [
     | inl m ↦ omega (arith, whole.counts v m, cond-true (nat_lt v 128) k 1 (lt-ltb v 128 m))

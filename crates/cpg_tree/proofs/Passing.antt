@@ -88,6 +88,7 @@ some_path k (Fork u cut below upper) cube v speaks =
       r.2,
     )
 
+-- given: a test of variables
 module _ (test : ℕ → Bool) where
   -- the variables of all literals of a cube pass the test
   abbrev Passes : List Literal → Type 0
@@ -138,7 +139,7 @@ module _ (test : ℕ → Bool) where
 
   -- ---- of a whole tree
 
-  -- if the variables of all paths pass a test, so do those of all forks, and the other way round
+  -- if the variables of all paths pass, so do those of all forks
   pub forks_of_paths : {T : Type 0} (k : ℕ) (node : TreeNode T) → DoPathsPass test (paths_of k node) →
       DoForksPass test node
   forks_of_paths {T} k node h = forks_from k node []

@@ -1,4 +1,5 @@
--- The paths of a tree: each scenario is on one, which has the value and the ranges that it finds on its way down.
+-- The paths of a tree: each scenario is on one, which has the value and the ranges that it finds on its way down. In
+-- the lemmas k is the most faults, v a variable, and x a path.
 use Rattle.std.proofs.Common.{ℕ, ◌+◌, ◌<◌, ◌≤◌, ◌≡◌, ◌≢◌, max, min, true, false, List, [], ◌∷◌, length, filter, get_or}
 use Rattle.std.proofs.Common.{Contains, arith, refl, sym, ap, ap₂, ◌∙◌, subst, inl, inr, ◌⊎◌, length-append}
 use Rattle.std.proofs.Common.{lt-ltb, le-ltb, rules}
@@ -117,6 +118,7 @@ module _ (k : ℕ) (cube : List Literal) (tidy : IsTidy k cube) (v cut : ℕ) (l
     ];
   }
 
+-- given: the number of faults k, and a scenario s
 module _ {T : Type 0} (k : ℕ) (s : Scenario) where
   -- a path on from a cube has the value and the ranges that the scenario finds
   pub record IsPathOf (cube : List Literal) (node : TreeNode T) (x : Path T) : Type 0 where

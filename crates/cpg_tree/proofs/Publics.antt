@@ -1,4 +1,5 @@
--- What the operations make of decision trees, said of their paths.
+-- What the operations make of decision trees, said of their paths. In the lemmas k is the most faults, and s a
+-- scenario.
 use Rattle.std.proofs.Common.{ℕ, ◌≡◌, min, Bool, true, false, List, if◌then◌else◌, arith, refl, sym, ap, ◌∙◌, subst}
 use Rattle.cpg_base.specs.Scenario.{Scenario}
 use Rattle.cpg_cube.specs.Cube.{low_in, high_in}
@@ -31,8 +32,9 @@ module _ {T : Type 0} (k : ℕ) (items shown : List (TreeItem T)) (same : shown 
   pub flat_shown : IsFlat shown
   flat_shown = (good.0, same ∙ good.1)
 
+  -- given: a tree n whose list callers see
   module _ (n : TreeNode T) (are : shown ≡ flat n) where
-    -- the tree is good, and its paths are those that callers see
+    -- the tree is good
     pub good_shown : IsGood t.faults n
     good_shown = subst (λ (u : TreeState T). IsGood u.faults n) seen
         (subst (IsGood k) (flat-same good.0 n (sym good.1 ∙ sym same ∙ are)) good.2)
@@ -200,6 +202,7 @@ module _ {T U : Type 0} (answers : T → U → Type 0) (t : TreeState T) (n : Tr
   pub good_mapped : IsGood k r
   good_mapped = subst (λ (m : ℕ). IsGood m r) (sym same) (good.0, good.1, mapped.fit good.0 good.2)
 
+  -- given: what callers see of the tree made, r
   module _ (made : TreeState U) (is : made ≡ state k r) where
     -- callers see in it the answers to the values of the first
     pub map_shown : IsMap answers t made

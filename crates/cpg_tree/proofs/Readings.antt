@@ -28,6 +28,7 @@ either : {T : Type 0} (number : T → ℕ) (b : Bool) (x y : T) (m n : ℕ) → 
 either number true x y m n e f = e
 either number false x y m n e f = f
 
+-- given: how the values of a tree are read as numbers
 module _ {T : Type 0} (number : T → ℕ) where
   -- the value that a scenario finds is the number of the one in the tree that is read
   pub value_read : (a : TreeNode T) (s : Scenario) → value_at (read_by number a) s ≡ number (value_at a s)
@@ -142,12 +143,14 @@ later_paths delay t a paths = ap (λ (ps : List (Path (Option ℕ))). map (later
 
 -- ---- the tree of later times
 
+-- given: a delay, and a tree of times t
 module _ (delay : ℕ) (t : TreeState (Option ℕ)) where
   -- the later tree has the forks of the first, so its variables pass the same tests
   pub later_pass : (test : ℕ → Bool) → DoPathsPass test t.paths → DoPathsPass test (later_by delay t).paths
   later_pass test pass =
       All-map (λ (p : Path ℕ). All (λ (l : Literal). test l.variable ≡ true) p.0) (later_path delay) t.paths pass
 
+  -- given: each scenario is on one path of t
   module _ (each : HasOnePathEach t.faults t.paths) where
     -- each scenario is on one path of the later tree
     pub later_each : HasOnePathEach (later_by delay t).faults (later_by delay t).paths

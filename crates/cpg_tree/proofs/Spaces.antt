@@ -1,4 +1,4 @@
--- Which scenarios lie in a space, and on which side of a cut.
+-- Which scenarios lie in a space, and on which side of a cut. In the lemmas v is a variable, and s a scenario.
 use Rattle.std.proofs.Common.{rules, ℕ, ◌+◌, ◌-◌, ◌<◌, ◌≤◌, ◌≡◌, ◌≢◌, Bool, true, false, ◌||◌, nat_lt, List, get_or}
 use Rattle.std.proofs.Common.{sum_by, length, arith, refl, sym, ap, ◌∙◌, subst, inl, inr, lt-ltb, le-ltb}
 use Rattle.std.specs.Prelude.{nat_le, slice_set}
@@ -54,6 +54,7 @@ fewer_left : (new old low cut faults left : ℕ) → new + (faults - low) ≡ ol
     new ≤ left - (cut + 1 - low)
 fewer_left new old low cut faults left changed most below above = omega arith
 
+-- given: a list in which place v is set to y, and a place u
 module _ (xs : List ℕ) (v y u : ℕ) where
   -- if one number of a list is set, the others stay as they are
   pub set_other : u ≢ v → get_or (slice_set xs v y) u 0 ≡ get_or xs u 0
@@ -131,6 +132,7 @@ above_reopened space shut inner opened upper v high cut back same reopened close
 
 -- ---- all scenarios of at most k faults
 
+-- given: a scenario s of at most k faults
 module _ (k : ℕ) (s : Scenario) (few : HasAtMostFaults k s) where
   -- no process has more faults than there are
   count_few : (p : ℕ) → p < 128 → fault_of s p ≤ k

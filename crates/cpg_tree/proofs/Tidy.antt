@@ -99,12 +99,13 @@ tidy_of k node good = tidy_paths k node good.0 [] (whole_opens k good.0 good.1) 
 
 -- given: the cube of a path, with the space around it
 module _ (k : ℕ) (cube : List Literal) (tidy : IsPathAround k cube) where
+  -- given: a literal l of the cube
   module _ (l : Literal) (c : Contains cube l) where
     -- a cube's range of a literal's variable is that of the literal
     pub range : (low_in cube l.variable ≡ l.low) × (high_in k cube l.variable ≡ l.high)
     range = range_of_literal k cube l tidy.covers.rising c
 
-    -- no literal of the cube has a whole range, and none goes past it
+    -- the literal hasn't the whole range of its variable
     pub not_whole : is_whole k l ≡ false
     not_whole = false_from_ne_true (is_whole k l) (λ w.
         let parts = and_parts (l.low == 0) (l.high == top k l.variable) w in

@@ -55,6 +55,7 @@ lowest_values space v m l h =
     ∙ ap (λ u. number_of_value (nat_lt 0 (get_or space.low u 0))) (back v m)
     ∙ bit (get_or space.low v 0) h
 
+-- given: a space that is open for k faults
 module _ (k : ℕ) (space : Space) (is : IsOpenSpace k space) where
   -- the number of the lowest scenario at each variable is the low
   lowest_is : (v : ℕ) → v < 256 → number_of (lowest space) v ≡ get_or space.low v 0
@@ -77,6 +78,7 @@ module _ (k : ℕ) (space : Space) (is : IsOpenSpace k space) where
       fewer : (new old left : ℕ) → new ≡ old → old + left ≤ k → new ≤ k
       fewer new old left e h = omega (arith, e, h)
 
+-- given: the cube of a path around a space (`tidy`)
 module _ (k : ℕ) (cube : List Literal) (tidy : IsPathAround k cube) where
   -- each literal of the path's cube holds in the lowest scenario
   held : (l : Literal) → Contains cube l → holds (lowest tidy.space) l ≡ true
@@ -93,6 +95,7 @@ module _ (k : ℕ) (cube : List Literal) (tidy : IsPathAround k cube) where
 
 -- ---- of a whole tree
 
+-- given: a good tree
 module _ {T : Type 0} (k : ℕ) (node : TreeNode T) (good : IsGood k node) where
   -- each path of a good tree is tidy
   tidy_path : (x : Path T) → Contains (paths_of k node) x → IsTidyPath k x

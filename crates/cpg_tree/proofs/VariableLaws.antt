@@ -21,6 +21,7 @@ adds_last p first k old new last added = (
       (record { counts = last_count p k; fit = λ space leaves. tt; pass = λ test on. tt }),
 )
 
+-- given: where the two sides begin in the list, and the variable v
 module _ (start middle v : ℕ) where
   -- a count is added as a fork whose side above has the higher counts
   pub adds_counts : (first k : ℕ) (old low high new : List (TreeItem ℕ)) → v < 128 → first < k →

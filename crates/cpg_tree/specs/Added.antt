@@ -22,20 +22,20 @@ pub record IsForked {T : Type 0} (v cut : ℕ) (below above r : TreeNode T) : Ty
   -- if v and the variables of all forks of the sides pass a test, those of r's forks do
   pub pass : (test : ℕ → Bool) → test v ≡ true → DoForksPass test below → DoForksPass test above → DoForksPass test r
 
--- the list ends in the lists of two trees; `before` is what comes before them
-pub record IsSplit {T : Type 0} (start middle : ℕ) (items before : List (TreeItem T))
+-- the list ends in the lists of two trees; `front` is what comes before them
+pub record IsSplit {T : Type 0} (start middle : ℕ) (items front : List (TreeItem T))
     (below above : TreeNode T) : Type 0 where
-  pub is : items ≡ before ++ flat below ++ flat above
+  pub is : items ≡ front ++ flat below ++ flat above
   -- `start` is where the first tree begins, and `middle` where the second does
-  pub first : start ≡ length before
-  pub second : middle ≡ length before + length (flat below)
+  pub first : start ≡ length front
+  pub second : middle ≡ length front + length (flat below)
 
 -- If the old list ends in the lists of two trees, of which the first begins at `start` and the second at `middle`, then
 -- the new list has the list of their fork in place of them.
 abbrev pub ForksEnd : {T : Type 0} → ℕ → ℕ → ℕ → ℕ → List (TreeItem T) → List (TreeItem T) → Type 0
 ForksEnd {T} start middle v cut old new =
-    (before : List (TreeItem T)) (below above : TreeNode T) → IsSplit start middle old before below above →
-    AddsTree (IsForked v cut below above) before new
+    (front : List (TreeItem T)) (below above : TreeNode T) → IsSplit start middle old front below above →
+    AddsTree (IsForked v cut below above) front new
 
 -- The list `above` is that of a fork on v at a greater cut whose side below has the same list as `below`. So the fork
 -- at `cut` makes no difference.

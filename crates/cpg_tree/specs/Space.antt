@@ -60,7 +60,7 @@ reopened_below space v was = record { low = slice_set space.low v was.low; high 
 pub record IsWhole (k : ℕ) (space : Space) : Type 0 where
   -- each of the 256 variables has a low and a high
   pub long : length space.low ≡ 256
-  pub longer : length space.high ≡ 256
+  pub high_long : length space.high ≡ 256
   pub lows : (v : ℕ) → v < 256 → get_or space.low v 0 ≡ 0
   -- a count is at most k, and a value at most 1
   pub counts : (v : ℕ) → v < 128 → get_or space.high v 0 ≡ k

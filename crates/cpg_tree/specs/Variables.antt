@@ -7,7 +7,7 @@ use Rattle.cpg_tree.specs.TreeNode.{TreeNode}
 use Rattle.cpg_tree.specs.Space.{Space, IsWhole}
 use Rattle.cpg_tree.specs.Decision.{value_at, low_at, high_at, DoForksPass, IsFit}
 
--- forks narrow no other variable than v: each other one has its whole range on every scenario's way
+-- the forks narrow no variable but v: every other one has its whole range on each scenario's way
 pub record ForksOnly {T : Type 0} (v : ℕ) (node : TreeNode T) : Type 0 where
   pub low : (s : Scenario) (u : ℕ) → u ≢ v → low_at node s u ≤ 0
   pub high : (k : ℕ) (s : Scenario) (u : ℕ) → u ≢ v → top k u ≤ high_at k node s u

@@ -116,7 +116,7 @@ fn push_cut<T: Copy>(
 
 /// Makes a fork of the two trees that a list ends in, with its cut behind both lists. The one error is `OutOfMemory`.
 #[inline(always)]
-pub fn fork_of<T: Copy>(
+pub fn plain_fork<T: Copy>(
     out: &mut Vec<TreeItem<T>>,
     start: usize,
     middle: usize,
@@ -184,7 +184,7 @@ pub fn fork<T: Copy + Eq>(
 {
     // the last items show that nothing can be left out, so the lists needn't be compared
     if sides_are_apart(out.as_slice(), middle, variable) {
-        return fork_of(out, start, middle, variable, cut);
+        return plain_fork(out, start, middle, variable, cut);
     }
     fork_by_sides(out, start, middle, variable, cut)
 }
@@ -214,5 +214,5 @@ fn fork_by_sides<T: Copy + Eq>(
         take_out(out, start, middle - start);
         return Ok(());
     }
-    fork_of(out, start, middle, variable, cut)
+    plain_fork(out, start, middle, variable, cut)
 }

@@ -46,6 +46,7 @@ pub(crate) fn are_same_items<T: Copy + Eq>(one: &[TreeItem<T>], other: &[TreeIte
     requires { (x y : T) → T.eq x y ≡ true → x ≡ y }
     ensures { OnTrue result (one.now ≡ other.now) }
 {
+    // lists of different lengths differ
     if one.len() != other.len() {
         return false;
     }

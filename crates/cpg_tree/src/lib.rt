@@ -15,7 +15,7 @@ mod top;
 mod tree;
 mod variables;
 
-pub use fork::fork_of;
+pub use fork::plain_fork;
 pub use item::{TreeItem, put};
 pub use join::fill_items;
 pub use map::map_items;

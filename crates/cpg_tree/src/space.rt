@@ -40,8 +40,8 @@ impl Space {
     pub fn whole(k: u8) -> Space
         ensures is { IsWhole k result }
         ensures lies { (s : Scenario) → HasAtMostFaults k s → IsInSpace result s }
-    // a value is at most 1, and a fault count at most `k`
     {
+        // a value is at most 1, and a fault count at most `k`
         let mut high = [1; VARIABLES];
         for variable in 0..FIRST_VALUE {
             high[variable as usize] = k;

@@ -116,12 +116,12 @@ impl Tally {
     }
 
     /// Whether the tally has its tables.
-    pub fn is_kept(&self) -> bool {
+    pub fn has_tables(&self) -> bool {
         !self.lows.is_empty()
     }
 
     /// Makes the tables, if the tally has none yet. The one error is `OutOfMemory`.
-    pub fn keep(&mut self, alloc: Global) -> Result<(), OutOfMemory> {
+    pub fn make_tables(&mut self, alloc: Global) -> Result<(), OutOfMemory> {
         if self.lows.is_empty() {
             self.lows = table(alloc)?;
             self.highs = table(alloc)?;
@@ -188,6 +188,7 @@ impl Tally {
     /// Returns the best fork of `count` columns on any variable, or `None` if none parts the columns.
     pub fn best(&self, count: u32) -> Option<Parting> {
         let mut best: Option<Parting> = None;
+        // variables are bytes: there are 256
         for variable in 0..VARIABLES {
             best = self.best_on(variable as u8, count, best);
         }

@@ -6,7 +6,7 @@ ghost use Rattle.cpg_tree.specs.Tree.{HasOnePathEach, IsTidyPath, DoPathsPass, I
 ghost use Rattle.cpg_tree.specs.Variables.{IsCounted, IsValued};
 
 use crate::Tree;
-use crate::fork::fork_of;
+use crate::fork::plain_fork;
 use crate::item::TreeItem;
 use cpg_base::{FIRST_VALUE, OutOfMemory};
 use std::alloc::Global;
@@ -33,7 +33,7 @@ fn push_counts(
     out.push(TreeItem::Value(first))?;
     let middle = out.len();
     push_counts(process, first + 1, k, out)?;
-    fork_of(out, start, middle, process, first)
+    plain_fork(out, start, middle, process, first)
 }
 
 /// Adds the tree of the value of a condition: false below a fork at 0, and true above.
@@ -45,7 +45,7 @@ fn push_value(condition: u8, out: &mut Vec<TreeItem<bool>>) -> Result<(), OutOfM
     out.push(TreeItem::Value(false))?;
     let middle = out.len();
     out.push(TreeItem::Value(true))?;
-    fork_of(out, start, middle, FIRST_VALUE + condition, 0)
+    plain_fork(out, start, middle, FIRST_VALUE + condition, 0)
 }
 
 /// Returns the tree that has in each scenario of at most `k` faults the fault count of a process. The one error is

@@ -1,4 +1,5 @@
--- If the forks of a tree stand along an order, its columns stand by their least scenarios, from left to right.
+-- If the forks of a tree stand along an order, its columns stand by their least scenarios, from left to right. In the
+-- lemmas x is a path, and c and d are columns.
 use Rattle.std.proofs.Common.{ℕ, ◌<◌, ◌≤◌, ◌≡◌, ◌≢◌, false, Option, None, Some, List, [], ◌∷◌, get_or, Contains, arith}
 use Rattle.std.proofs.Common.{sym, ap, ap₂, ◌∙◌, subst, inl, inr}
 use Rattle.std.specs.List.{AllPairs}
@@ -96,7 +97,7 @@ falls k (Fork v cut below upper) cube rising cuts x c u =
 
 -- ---- the lows of variables that stand before all forks stay
 
--- `places` has how many places of the order are left at each variable, more at earlier ones
+-- given: how many places of the order are left at each variable, more at earlier ones
 module _ (places : List ℕ) where
   -- A variable that stands before all forks of a tree, so has more places left than `left`, keeps the low that it has
   -- where the tree is entered.

@@ -1,5 +1,5 @@
 -- The columns that a walk down a good tree finds are those of its paths. The walk looks whether a side has a range
--- left; in a good tree each side has.
+-- left; in a good tree each side has. In the lemmas k is the most faults, v a variable, and l a literal.
 use Rattle.std.proofs.Common.{ℕ, ◌+◌, ◌<◌, ◌≤◌, ◌≡◌, max, min, ◌==◌, nat_lt, true, List, [], ◌∷◌, ◌++◌, Some, Option}
 use Rattle.std.proofs.Common.{arith, sym, ap, ap₂, ◌∙◌, subst, inl, inr, eq-eqb, ne_eqb}
 use Rattle.std.proofs.Common.{lt-ltb, le-ltb, append_assoc}

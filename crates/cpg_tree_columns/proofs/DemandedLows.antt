@@ -21,7 +21,7 @@ use Rattle.cpg_tree.specs.TreeNode.{TreeNode, Leaf, Fork}
 use Rattle.cpg_tree_columns.specs.declared.demanding.ForkSide.{ForkSide}
 use Rattle.cpg_tree_columns.specs.Along.{AreForksAlong}
 use Rattle.cpg_tree_columns.specs.Columns.{columns_of_paths}
-use Rattle.cpg_tree_columns.specs.Demanded.{demands_by, first_side, low_above, low_at, side_above, side_below}
+use Rattle.cpg_tree_columns.specs.Demanded.{demands_by, first_side, low_above, low_so_far, side_above, side_below}
 use Rattle.cpg_tree_columns.proofs.CountedTimes.{both_columns}
 
 -- no literal of a cube is on a variable before its first
@@ -138,7 +138,7 @@ module _ (variables places : List ℕ) (are : ArePlaces variables places) (k : �
       (less : get_or places v 0 ≤ side.left) (some : get_or places v 0 ≢ 0) where
     -- the low that is known of the fork's variable is that of the cube: it is the last fork's variable, or one behind
     -- it
-    low_known : low_at side (get_or places v 0) ≡ low_in cube v
+    low_known : low_so_far side (get_or places v 0) ≡ low_in cube v
     low_known = elim (cases_eq (get_or places v 0) side.left) [
       | inl e ↦ cond-true (get_or places v 0 == side.left) side.low 0 (eq-eqb (get_or places v 0) side.left e)
           ∙ sym (known.here v e)
@@ -157,7 +157,7 @@ module _ (variables places : List ℕ) (are : ArePlaces variables places) (k : �
     known_below : IsKnownOf places (side_below side (get_or places v 0)) (narrowed_by (up_to v cut) cube)
     known_below = record {
       behind = behind_fork (up_to v cut) refl;
-      here = λ u e. subst (λ w. low_in (narrowed_by (up_to v cut) cube) w ≡ low_at side (get_or places v 0))
+      here = λ u e. subst (λ w. low_in (narrowed_by (up_to v cut) cube) w ≡ low_so_far side (get_or places v 0))
           (sym (same_place u v e some)) (omega (arith, low_known, low-same k (up_to v cut) cube rising));
       all = known.all ∙ ap (λ s. s % 256) (omega (arith, sum_narrowed (up_to v cut) cube rising));
     }

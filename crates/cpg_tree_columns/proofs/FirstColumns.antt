@@ -47,7 +47,7 @@ pub on_false : {P : Type 0} (b : Bool) → (b ≡ false → P) → OnFalse b P
 on_false true h = tt
 on_false false h = h refl
 
--- `wanted` is the time that is searched for
+-- given: the time that is searched for
 module _ (wanted : ℕ) where
   -- the column with the time and a cube
   abbrev With : List Literal → Column
@@ -63,7 +63,7 @@ module _ (wanted : ℕ) where
 
   -- ---- of two lists, one after the other
 
-  -- if the first list has a column with the number, that is the first of both lists
+  -- if the first list has a column with the time, that is the first of both lists
   pub first_left : (xs ys : List Column) (cube : List Literal) → first_with wanted xs ≡ Some cube →
       first_with wanted (xs ++ ys) ≡ Some cube
   -- by induction on the list
@@ -93,7 +93,7 @@ module _ (wanted : ℕ) where
         option_map_or (λ c. columns_from k c below) (with_literal (up_to v cut) cube) [] ≡ columns_from k low below
     of_below low e = ap (λ (o : Option (List Literal)). option_map_or (λ c. columns_from k c below) o []) e
 
-    -- if the side below has a column with the number, its first one is that of the fork
+    -- if the side below has a column with the time, its first one is that of the fork
     pub fork_below : (low found : List Literal) → with_literal (up_to v cut) cube ≡ Some low →
         first_with wanted (columns_from k low below) ≡ Some found →
         first_with wanted (columns_from k cube node) ≡ Some found
@@ -103,7 +103,7 @@ module _ (wanted : ℕ) where
         (option_map_or (λ c. columns_from k c upper) (with_literal (above k v cut) cube) []) found
         (ap (first_with wanted) (of_below low e) ∙ first)
 
-    -- If no column of the side below has the number, the first one of the fork is that of the side above. The cube is
+    -- If no column of the side below has the time, the first one of the fork is that of the side above. The cube is
     -- narrowed to the numbers above the cut by exchanging the literal.
     pub fork_above : (n : Narrowing) (most : ℕ) (low after : List Literal) (high found : Option (List Literal)) →
         most ≡ top k v → with_literal (up_to v cut) cube ≡ Some low →
@@ -112,7 +112,7 @@ module _ (wanted : ℕ) where
         after ≡ low → with_literal (record { variable = v; low = cut + 1; high = most }) (restored n after) ≡ high →
         first_with wanted (option_map_or (λ c. columns_from k c upper) high []) ≡ found →
         first_with wanted (columns_from k cube node) ≡ found
-    -- the fork's columns are those of the side below, which have no such number, and then those of the side above
+    -- the fork's columns are those of the side below, which have no such time, and then those of the side above
     fork_above n most low after high found whole e undo none same exchanged first =
         let i = above_again k v cut most n cube low after high whole undo same exchanged in
         ap (λ (n : TreeNode (Option ℕ)). first_with wanted (columns_from k cube n)) is
@@ -140,11 +140,11 @@ module _ (wanted : ℕ) where
     leaf_is : first_with wanted (columns_from k cube node) ≡ first_with wanted (column_of cube x)
     leaf_is = ap (λ (n : TreeNode (Option ℕ)). first_with wanted (columns_from k cube n)) is
 
-    -- a leaf with the number has its cube as the first
+    -- a leaf with the time has its cube as the first
     pub leaf_first : is_some (if_wanted wanted x) ≡ true → first_with wanted (columns_from k cube node) ≡ Some cube
     leaf_first on = leaf_is ∙ by_value x on
       where
-        -- a leaf without a time has no number; a leaf with a time has the number only if the two are equal
+        -- a leaf without a time has no time; a leaf with a time has the time only if the two are equal
         by_value : (o : Option ℕ) → is_some (if_wanted wanted o) ≡ true →
             first_with wanted (column_of cube o) ≡ Some cube
         by_value None h = cc
@@ -154,7 +154,7 @@ module _ (wanted : ℕ) where
               (ap is_some (cond-false (time == wanted) (Some time) None (ne_eqb _ _ differs))) h)
         ]
 
-    -- a leaf without the number has none
+    -- a leaf without the time has none
     pub leaf_none : is_some (if_wanted wanted x) ≡ false → first_with wanted (columns_from k cube node) ≡ None
     leaf_none off = leaf_is ∙ by_value x off
       where
@@ -228,12 +228,12 @@ module _ (g : Graph) (paths : List (Path (Option ℕ))) (wanted : ℕ) where
   no_path none p c e = nowhere wanted (columns_of_paths paths) none (record { time = wanted; cube = p.0 })
       (column_there paths (columns_of_paths paths) (IsPermutation-refl (columns_of_paths paths)) p wanted c e) refl
 
-  -- if no column has the number, no path has it
+  -- if no column has the time, no path has it
   pub none_first : (o : Option Scenario) → o ≡ option_map (lows g) (first_with wanted (columns_of_paths paths)) →
       IfNone o (All (λ (p : Path (Option ℕ)). p.1 ≢ Some wanted) paths)
   none_first o e = by_value (first_with wanted (columns_of_paths paths)) refl o e
     where
-      -- where a scenario is found nothing is asked; where none is, no column has the number
+      -- where a scenario is found nothing is asked; where none is, no column has the time
       by_value : (f : Option (List Literal)) → first_with wanted (columns_of_paths paths) ≡ f → (r : Option Scenario) →
           r ≡ option_map (lows g) f →
           IfNone r (All (λ (p : Path (Option ℕ)). p.1 ≢ Some wanted) paths)
@@ -241,7 +241,7 @@ module _ (g : Graph) (paths : List (Path (Option ℕ))) (wanted : ℕ) where
       by_value None k None e = λ i d l. no_path k (get_or paths i d) (Contains-get_or paths i d l)
       by_value (Some cube) k None e = absurd (none-some (lows g cube) e)
 
-  -- if the columns stand along an order, the first with the number has the least scenario of the number
+  -- if the columns stand along an order, the first with the time has the least scenario of the time
   pub some_sorted : (order : List ℕ) → IsPermutation (numbers_below (process_count g)) order →
       AreByLows (λ (c : Column). c.cube) g order (columns_of_paths paths) →
       (o : Option Scenario) → IfSome o (IsLeastWhereSorted g paths wanted) →
@@ -249,7 +249,7 @@ module _ (g : Graph) (paths : List (Path (Option ℕ))) (wanted : ℕ) where
   some_sorted order all stand None h = tt
   some_sorted order all stand (Some s) h = h order all stand
 
--- given: a good tree whose variables are a graph's, and the cube of the first column with a number
+-- given: a good tree whose variables are a graph's, and the cube of the first column with a time
 module _ (g : Graph) (few : process_count g ≤ 128) (k : ℕ) (node : TreeNode (Option ℕ)) (good : IsGood k node)
     (paths : List (Path (Option ℕ))) (seen : paths ≡ paths_of k node) (same : k ≡ g.faults)
     (known : All (λ (p : Path (Option ℕ)). IsKnown g p.0) paths)
@@ -279,7 +279,7 @@ module _ (g : Graph) (few : process_count g ≤ 128) (k : ℕ) (node : TreeNode 
   pub first_met : is_met g.faults cube ≡ true
   first_met = (tidy_at (record { time = wanted; cube = cube }) here).met
 
-  -- if the columns stand along an order, the lows of the cube that was found are the least scenario with the number
+  -- if the columns stand along an order, the lows of the cube that was found are the least scenario with the time
   pub first_least : IsLeastWhereSorted g paths wanted (lows g cube)
   -- the lows of each column are its least scenario; that of an earlier one would be before, and the columns stand in
   -- order

@@ -1,5 +1,6 @@
 -- The greatest number that a tree has in a scenario of a space in which another tree is true: how it follows from the
--- two sides of a fork, and what it says of the paths that callers see.
+-- two sides of a fork, and what it says of the paths that callers see. In the lemmas s is a scenario, g a graph, v the
+-- variable of a fork, and o a number or none.
 use Rattle.std.proofs.Common.{ℕ, ◌+◌, ◌-◌, ◌<◌, ◌≤◌, ◌≡◌, Bool, true, false, nat_lt, Option, Some, None, List}
 use Rattle.std.proofs.Common.{unwrap_or, get_or, length, sum_by, arith, refl, sym, ap, ◌∙◌, subst, inl, inr, ◌⊎◌}
 use Rattle.std.proofs.Common.{le-ltb, lt-ltb}

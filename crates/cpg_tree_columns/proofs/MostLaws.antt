@@ -1,4 +1,5 @@
--- The greatest number of a tree, and the least scenario of a number, which is that of the tree of this number alone.
+-- The greatest number of a tree, and the least scenario of a number, which is that of the tree of this number alone. In
+-- the lemmas p is a path, m the greatest number, and k the most faults.
 use Rattle.std.proofs.Common.{ℕ, ◌≤◌, ◌≡◌, ◌≢◌, ◌⊎◌, ◌==◌, max, List, [], length, filter, get_or, Option, Some, None}
 use Rattle.std.proofs.Common.{unwrap_or, All, Contains, arith, refl, sym, ap, ◌∙◌, subst, inl, inr, eq-eqb}
 use Rattle.std.proofs.Common.{ne_eqb}

@@ -1,5 +1,5 @@
 -- The peak of the processes 0 .. n - 1 becomes that of 0 .. n once process n is taken into account, or is passed over
--- as it is under the bar.
+-- as it is under the bar. In the lemmas s is a scenario, and o a greatest time or none.
 use Rattle.std.proofs.Common.{ℕ, ◌+◌, ◌≤◌, ◌<◌, ◌≡◌, ◌==◌, ◌⊎◌, Bool, true, false, nat_lt, if◌then◌else◌, List, Option}
 use Rattle.std.proofs.Common.{Some, None, All, arith, eq-eqb, refl, sym, ap, ◌∙◌, subst, inl, inr, le-leb}
 use Rattle.std.proofs.Common.{lt-ltb}
@@ -60,7 +60,7 @@ sooner_or_not_first a b c h = elim (cases_eq a b) [
     less : (a b : ℕ) → b ≤ a → (a ≡ b → ⊥) → b < a
     less a b l n = elim (cases_lt b a) [ inl m ↦ m | inr m ↦ absurd (n (omega arith)) ]
 
--- `n` is the next process; `has q time s`: process q has the time in scenario s
+-- given: the next process n, and `has`: `has q time s` says that process q has the time in scenario s
 module _ (g : Graph) (urgency : List ℕ) (n : ℕ) (has : ℕ → ℕ → Scenario → Type 0) where
   -- a process among the first n + 1 is among the first n, or the next one
   of_next : (q time : ℕ) (s : Scenario) → q < n + 1 → has q time s → (q < n) ⊎ has n time s
@@ -124,6 +124,7 @@ module _ (g : Graph) (urgency : List ℕ) (n : ℕ) (has : ℕ → ℕ → Scena
 
     -- ---- the next process has the greatest time
 
+    -- given: the greatest time of process n, and the least scenario that has it
     module _ (time : ℕ) (scenario : Scenario) (greatest : IsGreatestOf g urgency paths time scenario) where
       -- the peak that process n would be, by its greatest time
       abbrev new : Peak
@@ -227,20 +228,20 @@ module _ (g : Graph) (urgency : List ℕ) (n : ℕ) (has : ℕ → ℕ → Scena
     next_peak old next a (inr later) =
         subst (IsPeak g urgency (n + 1) has) (sym later.is) (or_keeps later.time later.scenario later.greatest old a)
 
--- ---- above a bar
+-- ---- times from a bar on
 
 -- given: the greatest time that the next process has, and a bar
 -- `n`, `has`: the next process, and the times that it has; `bar`: a bar; `top`, `is_top`: n's greatest time
 module _ (g : Graph) (urgency : List ℕ) (n : ℕ) (has : ℕ → ℕ → Scenario → Type 0) (bar : ℕ) (top : Option ℕ)
     (is_top : IsTop g (has n) top) where
-  -- a process whose greatest time is under the bar has none from it on
+  -- a process whose greatest time is under the bar has no time from the bar on
   none_from : (o : Option ℕ) → IsTop g (has n) o → reaches bar o ≡ false → (time : ℕ) (s : Scenario) → IsScenario g s →
       HasFrom bar has n time s → ⊥
   none_from None is f time s law h = is time s law h.is
   none_from (Some t) is f time s law h =
       both_ways (nat_le bar t) f (le-leb bar t (omega (arith, h.from, is.above time s law h.is)))
 
-  -- a process whose greatest time is under the bar leaves the peak above the bar as it is
+  -- a process whose greatest time is under the bar leaves the peak of the times from the bar on as it is
   pub next_under : reaches bar top ≡ false → (peak : Peak) → IsPeak g urgency n (HasFrom bar has) peak →
       IsPeak g urgency (n + 1) (HasFrom bar has) peak
   next_under f peak a = next_none g urgency n (HasFrom bar has) peak a (none_from top is_top f)
@@ -259,7 +260,7 @@ module _ (g : Graph) (urgency : List ℕ) (n : ℕ) (has : ℕ → ℕ → Scena
         let v = into m is.scenario is.lawful is.there in
         omega (arith, leb-true bar m t, greatest.most v.0 m v.1.stands v.2)
 
-    -- a process that reaches the bar gives the next peak above the bar by its paths
+    -- the paths of a process that reaches the bar give the next peak of the times from the bar on
     pub next_from : (old next : Peak) → IsPeak g urgency n (HasFrom bar has) old →
         IsNextPeak g urgency paths n old next →
         IsPeak g urgency (n + 1) (HasFrom bar has) next
@@ -284,8 +285,9 @@ past_end (Some end) due x e = (end, refl)
 -- with n
 module _ (g : Graph) (urgency : List ℕ) (trees : List (TreeState (Option ℕ))) (n : ℕ) (end : TreeState (Option ℕ))
     (same : end ≡ tree_at g trees n) (old next : Peak) where
+  -- given: a bar that n's greatest time, `top`, reaches
   module _ (bar : ℕ) (top : Option ℕ) (reached : reaches bar top ≡ true) where
-    -- the peak of the ends above the bar grows with the ends of one process more
+    -- the peak of the ends from the bar on grows with the ends of process n
     pub next_end : IsTop g (EndsAt g trees n) top → IsPeak g urgency n (HasFrom bar (EndsAt g trees)) old →
         IsNextPeak g urgency end.paths n old next →
         IsPeak g urgency (n + 1) (HasFrom bar (EndsAt g trees)) next
@@ -294,6 +296,7 @@ module _ (g : Graph) (urgency : List ℕ) (trees : List (TreeState (Option ℕ))
         (λ time s law h. subst (λ (t : TreeState (Option ℕ)). HasValueAt t.paths (Some time) s) same h)
         old next a is
 
+  -- given: the tree of n's ends, and the next peak of the excesses (`is`)
   module _ (of_end : IsTree g end) (is : IsNextExcess g urgency end n old next) where
     -- the tree of the excesses has how far each end is past the due
     excess_value : (s : Scenario) → IsScenario g s → (x z : Path (Option ℕ)) → IsOnPath end.paths s x →
@@ -324,8 +327,9 @@ module _ (g : Graph) (urgency : List ℕ) (trees : List (TreeState (Option ℕ))
           ap (time_past (due g n)) (sym at.1) ∙ past,
         )
 
+    -- given: a bar that n's greatest excess, `top`, reaches
     module _ (bar : ℕ) (top : Option ℕ) (reached : reaches bar top ≡ true) where
-      -- the peak of what is past the dues grows with the excesses of one process more
+      -- the peak of the excesses from the bar on grows with those of process n
       pub next_past : IsTop g (EndsPast g trees n) top → IsPeak g urgency n (HasFrom bar (EndsPast g trees)) old →
           IsPeak g urgency (n + 1) (HasFrom bar (EndsPast g trees)) next
       next_past is_top a = next_from g urgency n

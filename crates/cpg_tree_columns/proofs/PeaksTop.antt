@@ -152,6 +152,7 @@ past_later due time x e = elim (cases_lt due time) [
   | inr l ↦ absurd (none-some x (sym (cond-false (nat_lt due time) (Some (time - due)) None (le-ltb due time l)) ∙ e))
 ]
 
+-- given: a graph, and the tree of the ends of each process
 module _ (g : Graph) (trees : List (TreeState (Option ℕ))) where
   -- the top of what is past the dues is the top of the ends, past the due
   past_top : (q : ℕ) (o : Option ℕ) → IsTop g (EndsAt g trees q) o →

@@ -10,7 +10,7 @@ is_time (Value (Some time)) = true
 is_time (Value None) = false
 is_time (Cut v cut below) = false
 
--- the time of the item, if it is a value that is a time
-abbrev pub time_of : TreeItem (Option ℕ) → Option ℕ
-time_of (Value time) = time
-time_of (Cut v cut below) = None
+-- the number of the item, if it is a value with one; a time is such a number
+abbrev pub leaf_number : TreeItem (Option ℕ) → Option ℕ
+leaf_number (Value number) = number
+leaf_number (Cut v cut below) = None

@@ -11,18 +11,18 @@ use Rattle.cpg_tree_columns.specs.declared.demanding.BothSides.{BothSides}
 abbrev pub first_side : ForkSide
 first_side = record { left = 256; low = 0; asked = 0 }
 
--- the low of a fork's variable before the fork: what earlier forks left of it if the last one is on the same variable,
--- so has as many places left, and 0 otherwise
-abbrev pub low_at : ForkSide → ℕ → ℕ
-low_at side left = if left == side.left then side.low else 0
+-- the low of a fork's variable on the way to the fork: that of the last fork if it is on the same variable, so has as many
+-- places left, and 0 otherwise
+abbrev pub low_so_far : ForkSide → ℕ → ℕ
+low_so_far side left = if left == side.left then side.low else 0
 
 -- what is known below a fork at which `left` places are left: the low of its variable and what is asked stay
 abbrev pub side_below : ForkSide → ℕ → ForkSide
-side_below side left = record { left = left; low = low_at side left; asked = side.asked }
+side_below side left = record { left = left; low = low_so_far side left; asked = side.asked }
 
 -- the low of a fork's variable above the fork
 abbrev pub low_above : ForkSide → ℕ → ℕ → ℕ
-low_above side left cut = max (low_at side left) (cut + 1)
+low_above side left cut = max (low_so_far side left) (cut + 1)
 
 -- What is known above a fork: the low is past the cut, and the column asks for as much more. What is asked counts
 -- modulo 256.
@@ -30,15 +30,15 @@ abbrev pub side_above : ForkSide → ℕ → ℕ → ForkSide
 side_above side left cut = record {
   left = left;
   low = low_above side left cut;
-  asked = (side.asked + (low_above side left cut - low_at side left) % 256) % 256;
+  asked = (side.asked + (low_above side left cut - low_so_far side left) % 256) % 256;
 }
 
 -- what is known on both sides of a fork
 abbrev pub both_sides : ForkSide → ℕ → ℕ → BothSides
 both_sides side left cut = record { below = side_below side left; above = side_above side left cut }
 
--- that, if the fork stands along the order: `left`, the places that are left at its variable, is neither 0 nor more
--- than at the last fork
+-- what is known on both sides of a fork that stands along the order; None if it doesn't: `left`, the places that are left
+-- at its variable, is 0 or more than at the last fork
 abbrev pub sides_of : ForkSide → ℕ → ℕ → Option BothSides
 sides_of side left cut = if left == 0 then None else
     if nat_lt side.left left then None else Some (both_sides side left cut)

@@ -1,4 +1,4 @@
--- The greatest time of a tree, and the first scenario that has it.
+-- The greatest number of a tree, and the least scenario that has it.
 use Rattle.std.specs.Prelude.{ℕ, ◌≡◌, ◌≤◌, ◌==◌, max, if◌then◌else◌, Option, Some, None, List, Contains, All}
 use Rattle.std.specs.Prelude.{IsPermutation}
 use Rattle.cpg_base.specs.Graph.{Graph, process_count}
@@ -15,13 +15,13 @@ use Rattle.cpg_tree.specs.Tree.{Path, TreeState, IsOnPath}
 abbrev pub HasValueAt : {T : Type 0} → List (Path T) → T → Scenario → Type 0
 HasValueAt {T} paths value s = (p : Path T) × IsOnPath paths s p × (p.1 ≡ value)
 
--- `time` is the greatest time of the paths, and s the first scenario along the order that has it
-pub record IsGreatestOf (g : Graph) (order : List ℕ) (paths : List (Path (Option ℕ))) (time : ℕ)
+-- `number` is the greatest number of the paths, and s the least scenario along the order that has it
+pub record IsGreatestOf (g : Graph) (order : List ℕ) (paths : List (Path (Option ℕ))) (number : ℕ)
     (s : Scenario) : Type 0 where
-  -- no path has a greater time
-  pub most : (p : Path (Option ℕ)) (other : ℕ) → Contains paths p → p.1 ≡ Some other → other ≤ time
-  -- no earlier scenario has this one
-  pub least : IsLeast g order (HasValueAt paths (Some time)) s
+  -- no path has a greater number
+  pub most : (p : Path (Option ℕ)) (other : ℕ) → Contains paths p → p.1 ≡ Some other → other ≤ number
+  -- s has this number, and no earlier scenario has it
+  pub least : IsLeast g order (HasValueAt paths (Some number)) s
 
 -- scenario s is on a path with some number
 pub record HasNumberAt (paths : List (Path (Option ℕ))) (s : Scenario) : Type 0 where
@@ -66,7 +66,7 @@ abbrev pub most_of : TreeNode (Option ℕ) → Option ℕ
 most_of (Leaf x) = x
 most_of (Fork v cut below upper) = greater (most_of below) (most_of upper)
 
--- the time if it is the wanted one, and none otherwise
+-- the number if it is the wanted one, and none otherwise
 abbrev pub if_wanted : ℕ → Option ℕ → Option ℕ
 if_wanted wanted None = None
-if_wanted wanted (Some time) = if time == wanted then Some time else None
+if_wanted wanted (Some number) = if number == wanted then Some number else None

@@ -6,9 +6,9 @@ use Rattle.cpg_tree_columns.specs.declared.made_row.MadeColumns.{MadeColumns}
 use Rattle.cpg_tree_columns.specs.declared.made_row.MadeColumns.TheVariants.{Listed, Kept}
 
 -- the columns that the row has: the listed ones, or those that the kept tree lists
-abbrev pub columns_in : MadeColumns → List Column
-columns_in (Listed columns) = columns.items
-columns_in (Kept tree count) = columns_of_paths tree.paths
+abbrev pub made_columns : MadeColumns → List Column
+made_columns (Listed columns) = columns.items
+made_columns (Kept tree count) = columns_of_paths tree.paths
 
 -- `count`, which is kept beside a tree, is the number of its columns; a list needs no count
 abbrev pub HasCount : MadeColumns → Type 0

@@ -53,7 +53,7 @@ fn are_along<T: Copy>(items: &[TreeItem<T>], places: &[u16; VARIABLES], left: u1
 
 /// Whether the columns of a tree are known to stand by their least scenarios along the order, as they are found from
 /// left to right. False says nothing. The one error is `OutOfMemory`.
-pub fn stand_along(
+pub(crate) fn stand_along(
     tree: &Tree<Option<u64>>,
     problem: &Problem,
     order: &Order,

@@ -36,7 +36,7 @@ fn time_count(items: &[TreeItem<Option<u64>>]) -> usize
 }
 
 /// Returns how many columns the tree has: one for each leaf with a time.
-pub fn column_count(tree: &Tree<Option<u64>>) -> usize
+pub(crate) fn column_count(tree: &Tree<Option<u64>>) -> usize
     ensures { result ≡ length (columns_of_paths tree.now.paths) }
 {
     time_count(tree.items())
@@ -78,6 +78,7 @@ fn sides_of(side: ForkSide, left: u16, cut: u8) -> Option<BothSides>
     // another variable than the last one is new, since forks on one variable follow each other, so its low is 0 so far
     let low = if left == side.left { side.low } else { 0 };
     let next = low.max(u16::from(cut) + 1);
+    // the sum of the lows counts modulo 256, so what is added is cut down to a byte
     let below = ForkSide {
         left,
         low,
@@ -149,7 +150,7 @@ fn push_along(
 
 /// Returns the demands of the columns from right to left, if the columns are known to stand by their least scenarios
 /// along the order. `None` guarantees nothing. The one error is `OutOfMemory`.
-pub fn demands_along(
+pub(crate) fn demands_along(
     tree: &Tree<Option<u64>>,
     problem: &Problem,
     order: &Order,

@@ -14,9 +14,7 @@ mod peaks;
 mod rows;
 mod tops;
 
-pub use along::stand_along;
-pub use demanding::{column_count, demands_along};
-pub use listing::{columns, columns_are_tidy, columns_as_found, listing_along};
+pub use listing::columns;
 pub use made_row::{MadeRow, RowSource, listed_rows};
 pub use measuring::{Peak, excess, worst};
 pub use meeting::most_where;

@@ -65,6 +65,7 @@ fn push_columns(
                         cube.restore(step);
                     }
                 }
+                // the cube has only numbers above the cut
                 None => {
                     let upper_step = cube.narrow(upper)?;
                     if let Some(upper_step) = upper_step {
@@ -96,7 +97,7 @@ pub(crate) fn listed(
 }
 
 /// Does nothing: its contract says that the columns of a tree over a graph's scenarios are tidy.
-pub fn columns_are_tidy(tree: &Tree<Option<u64>>, problem: &Problem)
+pub(crate) fn columns_are_tidy(tree: &Tree<Option<u64>>, problem: &Problem)
     requires faults { tree.now.faults ≡ problem.now.faults }
     requires known { All (λ p. IsKnown problem.now p.0) tree.now.paths }
     ensures { All (IsTidyColumn problem.now) (columns_of_paths tree.now.paths) }
@@ -106,9 +107,12 @@ pub fn columns_are_tidy(tree: &Tree<Option<u64>>, problem: &Problem)
     let _items = tree.items();
 }
 
-/// Returns the columns of a tree from left to right. `room` is for how many of them memory is taken at first. The one
-/// error is `OutOfMemory`.
-pub fn columns_as_found(tree: &Tree<Option<u64>>, room: usize) -> Result<Vec<Column>, OutOfMemory>
+/// Returns the columns of a tree from left to right. Memory for `room` of them is taken before the walk. The one error is
+/// `OutOfMemory`.
+pub(crate) fn columns_as_found(
+    tree: &Tree<Option<u64>>,
+    room: usize,
+) -> Result<Vec<Column>, OutOfMemory>
     ensures { IfOk result (λ r. r.items ≡ columns_of_paths tree.now.paths) }
 {
     let mut whole = Cube::whole(tree.alloc());
@@ -120,7 +124,7 @@ pub fn columns_as_found(tree: &Tree<Option<u64>>, room: usize) -> Result<Vec<Col
 
 /// Returns the columns of a tree from left to right, and whether they are known to stand by their least scenarios
 /// along the order. The one error is `OutOfMemory`.
-pub fn listing_along(
+pub(crate) fn listing_along(
     tree: &Tree<Option<u64>>,
     problem: &Problem,
     order: &Order,

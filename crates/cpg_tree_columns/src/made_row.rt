@@ -38,11 +38,11 @@ pub struct MadeRow {
 
 impl Model for MadeRow {
     ghost use Rattle.cpg_table.specs.Table.{Row};
-    ghost use Rattle.cpg_tree_columns.specs.MadeColumns.{columns_in, HasCount};
+    ghost use Rattle.cpg_tree_columns.specs.MadeColumns.{made_columns, HasCount};
 
     ghost Value = { Row };
 
-    ghost view = { λ r. record { item = r.item; columns = columns_in r.columns } };
+    ghost view = { λ r. record { item = r.item; columns = made_columns r.columns } };
 
     // the count of a kept tree is that of the columns it lists
     ghost invariant = { λ r. HasCount r.columns };

@@ -141,6 +141,7 @@ pub fn worst(
 {
     let bar = bar_of(tops);
     let mut peak = Peak::none(alloc, problem)?;
+    // a graph has at most 128 processes, so their numbers fit a `u32`
     for process in 0..problem.processes().len() as u32 {
         // a tree whose greatest end is under the bar can't have the greatest finish
         if reaches(bar, tops[process as usize]) {
@@ -167,6 +168,7 @@ pub fn excess(
     let past = past_tops(alloc, problem, tops)?;
     let bar = bar_of(past.as_slice());
     let mut peak = Peak::none(alloc, problem)?;
+    // a graph has at most 128 processes, so their numbers fit a `u32`
     for process in 0..problem.processes().len() as u32 {
         // an end that is less late than the bar, or not late, can't be the greatest excess
         if reaches(bar, past[process as usize]) {

@@ -5,15 +5,15 @@ ghost use Rattle.cpg_cube.specs.Undo.{IsOn, IsUndo, restored};
 ghost use Rattle.cpg_tree_columns.specs.Path.{IsPath};
 
 use cpg_base::OutOfMemory;
-use cpg_cube::{Literal, Narrowing, first_literal_from, is_above};
+use cpg_cube::{Literal, Narrowing, VARIABLES, first_literal_from, is_above};
 use std::alloc::Global;
 use std::marker::Model;
 
-/// The most literals that a cube has: one for each variable, which is a byte.
-const MOST_LITERALS: usize = 256;
+/// The most literals that a cube has: one for each variable.
+const MOST_LITERALS: usize = VARIABLES;
 
 /// A cube that is narrowed on the way down and restored on the way up. A contract sees it as the list of its literals,
-/// by rising variable. It takes all its memory at first, so that no step can fail.
+/// by rising variable. It takes all its memory when it is made, so that no step can fail.
 #[derive(Drop)]
 pub struct PathCube {
     /// The literals of the path, by rising variable; at most one of each.
@@ -54,6 +54,7 @@ fn put_at(literals: &mut Vec<Literal>, place: usize, literal: Literal)
     ensures capacity { vec_capacity literals.old ≤ vec_capacity literals.new }
 {
     if literals.insert(place, literal).is_err() {
+        // only memory could run out, and there is room
         unreachable!()
     }
 }

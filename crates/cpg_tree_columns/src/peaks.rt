@@ -1,4 +1,4 @@
-//! The greatest time of a tree, and the first scenario that has it.
+//! The greatest number of a tree, and the least scenario that has it.
 ghost use Rattle.std.specs.Prelude.{◌≡◌, ◌≢◌, ℕ, Bool, Option, None, Some, All, IfNone, IfOk, IfSome, IsPermutation};
 ghost use Rattle.std.specs.Bool.{OnFalse, OnTrue};
 ghost use Rattle.std.specs.Option.{option_map};
@@ -7,7 +7,7 @@ ghost use Rattle.cpg_base.specs.Numbers.{numbers_below};
 ghost use Rattle.cpg_cube.specs.Fit.{IsKnown, lows};
 ghost use Rattle.cpg_base.specs.Scenario.{IsLeast};
 ghost use Rattle.cpg_tree_columns.specs.Columns.{columns_from, columns_of_paths, first_with};
-ghost use Rattle.cpg_tree_columns.specs.Counted.{time_of};
+ghost use Rattle.cpg_tree_columns.specs.Counted.{leaf_number};
 ghost use Rattle.cpg_tree_columns.specs.Greatest.{HasNumberAt, HasValueAt, IsGreatestOf, IsLeastWhereSorted, IsGreatestNumber, greater, if_wanted, most_of};
 ghost use Rattle.cpg_tree.specs.Decision.{HasCuts};
 ghost use Rattle.cpg_tree.specs.Flat.{IsFlat, flat};
@@ -33,20 +33,20 @@ fn greater(first: Option<u64>, second: Option<u64>) -> Option<u64>
     Some(first.max(second))
 }
 
-/// Returns the time if it is the wanted one, and `None` otherwise.
-fn if_wanted(wanted: u64, time: Option<u64>) -> Option<u64>
-    ensures { result ≡ if_wanted wanted time }
+/// Returns the number if it is the wanted one, and `None` otherwise.
+fn if_wanted(wanted: u64, number: Option<u64>) -> Option<u64>
+    ensures { result ≡ if_wanted wanted number }
 {
-    let time = time?;
-    if time == wanted { Some(time) } else { None }
+    let number = number?;
+    if number == wanted { Some(number) } else { None }
 }
 
-/// Returns the time of an item of a tree's list; `None` if it is a fork or a leaf without a time.
-fn time_of(item: TreeItem<Option<u64>>) -> Option<u64>
-    ensures { result ≡ time_of item }
+/// Returns the number of an item of a tree's list, if it is a leaf with one; `None` otherwise.
+fn leaf_number(item: TreeItem<Option<u64>>) -> Option<u64>
+    ensures { result ≡ leaf_number item }
 {
     match item {
-        TreeItem::Value(time) => time,
+        TreeItem::Value(number) => number,
         TreeItem::Cut { .. } => None,
     }
 }
@@ -59,7 +59,7 @@ fn most_of(items: &[TreeItem<Option<u64>>]) -> Option<u64>
 {
     let mut most = None;
     for item in items {
-        most = greater(most, time_of(*item));
+        most = greater(most, leaf_number(*item));
     }
     most
 }
@@ -70,7 +70,7 @@ fn only_wanted(tree: &Tree<Option<u64>>, wanted: u64) -> Result<Tree<Option<u64>
     ensures each { IfOk result (λ t. HasOnePathEach t.faults t.paths) }
     ensures pass { IfOk result (λ t. (test : ℕ → Bool) → DoPathsPass test tree.now.paths → DoPathsPass test t.paths) }
 {
-    tree.map(&|time: Option<u64>| if_wanted(wanted, time))
+    tree.map(&|number: Option<u64>| if_wanted(wanted, number))
 }
 
 /// Returns the least scenario along the order that has some number; `None` exactly if none has one. The one error is
@@ -138,7 +138,7 @@ fn narrow_to_first(
     ensures same { IfOk result (λ r. OnFalse r (cube.new ≡ cube.old)) }
 {
     match top_of(items) {
-        Top::Value(time) => Ok(if_wanted(wanted, time).is_some()),
+        Top::Value(number) => Ok(if_wanted(wanted, number).is_some()),
         Top::Cut {
             variable,
             cut,
@@ -186,8 +186,9 @@ fn narrow_to_first(
     }
 }
 
-/// Returns the least scenario of the first column from the left that has the time; `None` exactly if no column has it.
-/// If columns stand by their least scenarios, no earlier scenario has the time. The one error is `OutOfMemory`.
+/// Returns the least scenario of the first column from the left that has the number; `None` exactly if no column has it. If
+/// columns stand by their least scenarios along an order, no scenario that is earlier along it has the number. The one error
+/// is `OutOfMemory`.
 fn least_found(
     tree: &Tree<Option<u64>>,
     problem: &Problem,

@@ -1,4 +1,4 @@
-//! Rows of trees.
+//! The rows of items, each made from the tree of the item's times.
 ghost use Rattle.std.specs.Prelude.{◌≡◌, IfOk, IfSome, IsPermutation, length};
 ghost use Rattle.cpg_base.specs.Graph.{process_count};
 ghost use Rattle.cpg_base.specs.Numbers.{numbers_below};
@@ -101,7 +101,8 @@ fn send_row(
     Ok(MadeRow::listed(item, columns))
 }
 
-/// Returns the row of an item. The columns of a start are merged.
+/// Returns the row of an item: the columns of a tree, merged if the item is a start, and else in the order of their least
+/// scenarios.
 pub fn row(
     alloc: Global,
     problem: &Problem,
@@ -113,6 +114,7 @@ pub fn row(
     requires tree { IsTree problem.now tree }
     ensures { IfOk result (IsRowOf problem.now urgency.now tree item) }
 {
+    // a graph has at most 128 processes, so their numbers fit a `u32`
     let processes = problem.processes().len() as u32;
     if item < processes {
         let row = start_row(alloc, problem, urgency, tree, item)?;

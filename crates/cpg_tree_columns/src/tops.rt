@@ -31,6 +31,7 @@ pub(crate) fn past_tops(
     ensures { IfOk result (λ past. past.items ≡ past_tops problem.now tops.now) }
 {
     let mut past = Vec::new(alloc);
+    // a graph has at most 128 processes, so their numbers fit a `u32`
     for process in 0..problem.processes().len() as u32 {
         past.push(time_past(tops[process as usize], problem.due(process)))?;
     }

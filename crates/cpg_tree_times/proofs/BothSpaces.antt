@@ -6,7 +6,7 @@ use Rattle.cpg_tree.specs.Decision.{value_at, low_at, high_at}
 use Rattle.cpg_tree.specs.Space.{IsInSpace}
 use Rattle.cpg_tree.specs.Results.{IsJoinIn, IsJoinOf, IsTreeWithin}
 use Rattle.cpg_tree.proofs.Forks.{made_narrower, made_weaker, two_above_of, two_below_of}
-use Rattle.cpg_tree_times.specs.Asked.{SpacePair, IsInner, IsInBothSpaces, lowered}
+use Rattle.cpg_tree_times.specs.Asked.{SpacePair, IsInner, IsInBothSpaces, with_highs}
 use Rattle.cpg_tree_times.specs.declared.asked.Highs.{Highs}
 
 -- answers made in the space that is asked for are made in both spaces
@@ -28,12 +28,12 @@ both_whole answers spaces a b part r same made = made_weaker (IsInBothSpaces spa
 
 -- ---- two spaces, put back above a cut
 
--- given: two spaces whose highs were lowered, and that get their highs back
-module _ (spaces shut inner opened : SpacePair) (v : ℕ) (highs : Highs) (back : lowered shut v highs ≡ spaces)
-    (same : inner ≡ shut) (put : opened ≡ lowered inner v highs) where
+-- given: two spaces whose highs were with_highs, and that get their highs back
+module _ (spaces shut inner opened : SpacePair) (v : ℕ) (highs : Highs) (back : with_highs shut v highs ≡ spaces)
+    (same : inner ≡ shut) (put : opened ≡ with_highs inner v highs) where
   -- then they are the two spaces from before
   pub both_opened : opened ≡ spaces
-  both_opened = put ∙ ap (λ (r : SpacePair). lowered r v highs) same ∙ back
+  both_opened = put ∙ ap (λ (r : SpacePair). with_highs r v highs) same ∙ back
 
   -- a scenario above the cut lies in the spaces that are closed below it
   pub both_reopened : (upper : SpacePair) (cut : ℕ) →

@@ -10,6 +10,7 @@ use Rattle.cpg_tree.specs.Results.{IsFillOf, IsJoinOf}
 use Rattle.cpg_tree_times.specs.Greater.{IsAtLeast, least_leaf, greatest_leaf}
 use Rattle.cpg_tree.proofs.Forks.{value_below, value_above, made_weaker}
 
+-- given: how the values of a tree are read as numbers
 module _ {T : Type 0} (number : T → ℕ) where
   -- no scenario has a lesser number than the least leaf
   pub least_under : (a : TreeNode T) (s : Scenario) → least_leaf number a ≤ number (value_at a s)

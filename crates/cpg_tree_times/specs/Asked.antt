@@ -13,20 +13,20 @@ abbrev pub IsInBothSpaces : SpacePair → Scenario → Type 0
 IsInBothSpaces spaces s = IsInSpace spaces.asked s × IsInSpace spaces.walked s
 
 -- both spaces with the given highs of v
-abbrev pub lowered : SpacePair → ℕ → Highs → SpacePair
-lowered spaces v highs =
+abbrev pub with_highs : SpacePair → ℕ → Highs → SpacePair
+with_highs spaces v highs =
     record { asked = below_cut spaces.asked v highs.asked; walked = below_cut spaces.walked v highs.walked }
 
 -- both spaces with the low of v and the faults left that `lows` keeps from before
-abbrev pub raised_back : SpacePair → ℕ → Lows → SpacePair
-raised_back spaces v lows =
+abbrev pub with_lows : SpacePair → ℕ → Lows → SpacePair
+with_lows spaces v lows =
     record { asked = reopened_below spaces.asked v lows.asked; walked = reopened_below spaces.walked v lows.walked }
 
--- all scenarios of the first spaces pass a test and lie in the inner spaces too, which ask for the same
+-- all scenarios of `spaces` pass a test and lie in `inner` too; both ask for the same scenarios
 pub record IsInner (spaces : SpacePair) (passes : Scenario → Type 0) (inner : SpacePair) : Type 0 where
   -- the space asked for is the same; the space walked may be smaller
   pub asked : inner.asked ≡ spaces.asked
-  -- no scenario of the first spaces is lost: each passes the test, and is in the inner spaces
+  -- no scenario of `spaces` is lost: each passes the test, and lies in `inner`
   pub goes : (s : Scenario) → IsInBothSpaces spaces s → passes s
   pub lies : (s : Scenario) → IsInBothSpaces spaces s → IsInBothSpaces inner s
 
@@ -41,6 +41,6 @@ pub record AreBothOpen (spaces : SpacePair) (v cut : ℕ) : Type 0 where
 -- `Above` keeps take the new spaces back to the old ones. With `Both` the spaces stay as they are, and are open on both
 -- sides of the cut.
 abbrev pub IsWay : SpacePair → SpacePair → ℕ → ℕ → Way → Type 0
-IsWay old new v cut (Below highs) = IsInner old (λ s. number_of s v ≤ cut) new × (lowered new v highs ≡ old)
-IsWay old new v cut (Above lows) = IsInner old (λ s. cut < number_of s v) new × (raised_back new v lows ≡ old)
+IsWay old new v cut (Below highs) = IsInner old (λ s. number_of s v ≤ cut) new × (with_highs new v highs ≡ old)
+IsWay old new v cut (Above lows) = IsInner old (λ s. cut < number_of s v) new × (with_lows new v lows ≡ old)
 IsWay old new v cut Both = AreBothOpen old v cut × (new ≡ old)

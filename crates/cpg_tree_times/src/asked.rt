@@ -1,7 +1,7 @@
 //! Two spaces at once: the scenarios that are asked for, and those that come to a place of a tree.
 ghost use Rattle.std.specs.Prelude.{◌≡◌, ◌≤◌, ◌<◌, true};
 ghost use Rattle.cpg_base.specs.Scenario.{Scenario, number_of};
-ghost use Rattle.cpg_tree_times.specs.Asked.{IsWay, IsInBothSpaces, lowered, raised_back};
+ghost use Rattle.cpg_tree_times.specs.Asked.{IsWay, IsInBothSpaces, with_highs, with_lows};
 ghost use Rattle.cpg_tree.specs.Space.{above_cut, below_cut, is_open_above, is_open_below};
 
 use cpg_tree::{Lifted, Space};
@@ -48,7 +48,7 @@ impl SpacePair {
     /// Narrows both spaces to the scenarios up to a cut, and returns the highs from before.
     pub(crate) fn close_above(&mut self, variable: u8, cut: u8) -> Highs
         ensures asked { self.new.asked ≡ below_cut self.old.asked variable cut }
-        ensures back { lowered self.new variable result ≡ self.old }
+        ensures back { with_highs self.new variable result ≡ self.old }
         ensures lies { (s : Scenario) → IsInBothSpaces self.old s → number_of s variable ≤ cut → IsInBothSpaces self.new s }
     {
         Highs {
@@ -59,7 +59,7 @@ impl SpacePair {
 
     /// Gives both spaces their highs back.
     pub(crate) fn reopen_above(&mut self, variable: u8, highs: Highs)
-        ensures { self.new ≡ lowered self.old variable highs }
+        ensures { self.new ≡ with_highs self.old variable highs }
     {
         self.asked.reopen_above(variable, highs.asked);
         self.walked.reopen_above(variable, highs.walked);
@@ -72,7 +72,7 @@ impl SpacePair {
         requires walked_below { is_open_below self.old.walked variable cut ≡ true }
         requires walked_above { is_open_above self.old.walked variable cut ≡ true }
         ensures asked { self.new.asked ≡ above_cut self.old.asked variable cut }
-        ensures back { raised_back self.new variable result ≡ self.old }
+        ensures back { with_lows self.new variable result ≡ self.old }
         ensures lies { (s : Scenario) → IsInBothSpaces self.old s → cut < number_of s variable → IsInBothSpaces self.new s }
     {
         Lows {
@@ -83,7 +83,7 @@ impl SpacePair {
 
     /// Gives both spaces their lows and the faults left back.
     pub(crate) fn reopen_below(&mut self, variable: u8, lows: Lows)
-        ensures { self.new ≡ raised_back self.old variable lows }
+        ensures { self.new ≡ with_lows self.old variable lows }
     {
         self.asked.reopen_below(variable, lows.asked);
         self.walked.reopen_below(variable, lows.walked);
@@ -93,7 +93,7 @@ impl SpacePair {
     /// both from before, so that `reopen_above` can undo it.
     pub(crate) fn ask_below(&mut self, variable: u8, cut: u8) -> Highs
         ensures asked { self.new.asked ≡ below_cut self.old.asked variable cut }
-        ensures back { lowered self.new variable result ≡ self.old }
+        ensures back { with_highs self.new variable result ≡ self.old }
         ensures lies { (s : Scenario) → IsInBothSpaces self.old s → number_of s variable ≤ cut → IsInBothSpaces self.new s }
     {
         Highs {
@@ -108,7 +108,7 @@ impl SpacePair {
         requires below { is_open_below self.old.asked variable cut ≡ true }
         requires above { is_open_above self.old.asked variable cut ≡ true }
         ensures asked { self.new.asked ≡ above_cut self.old.asked variable cut }
-        ensures back { raised_back self.new variable result ≡ self.old }
+        ensures back { with_lows self.new variable result ≡ self.old }
         ensures lies { (s : Scenario) → IsInBothSpaces self.old s → cut < number_of s variable → IsInBothSpaces self.new s }
     {
         Lows {
@@ -121,7 +121,7 @@ impl SpacePair {
     /// both from before, so that `reopen_above` can undo it.
     fn walk_below(&mut self, variable: u8, cut: u8) -> Highs
         ensures asked { self.new.asked ≡ self.old.asked }
-        ensures back { lowered self.new variable result ≡ self.old }
+        ensures back { with_highs self.new variable result ≡ self.old }
         ensures lies { (s : Scenario) → IsInBothSpaces self.old s → number_of s variable ≤ cut → IsInBothSpaces self.new s }
     {
         Highs {
@@ -136,7 +136,7 @@ impl SpacePair {
         requires below { is_open_below self.old.walked variable cut ≡ true }
         requires above { is_open_above self.old.walked variable cut ≡ true }
         ensures asked { self.new.asked ≡ self.old.asked }
-        ensures back { raised_back self.new variable result ≡ self.old }
+        ensures back { with_lows self.new variable result ≡ self.old }
         ensures lies { (s : Scenario) → IsInBothSpaces self.old s → cut < number_of s variable → IsInBothSpaces self.new s }
     {
         Lows {

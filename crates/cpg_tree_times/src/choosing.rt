@@ -84,7 +84,7 @@ fn greater_where<T: Copy, U: Copy, V: Copy + Eq, R: Reading<T>, S: Reading<U>, F
 /// Returns a tree that has, in each scenario in which a given tree is true, what a function makes of the greater number
 /// of two trees whose leaves are read as numbers. In the other scenarios it has one value, and nothing is made of the
 /// two others. The one error is `OutOfMemory`.
-pub fn greater_of_where<
+pub(crate) fn greater_of_where<
     T: Copy,
     U: Copy,
     V: Copy + Eq,
@@ -96,7 +96,7 @@ pub fn greater_of_where<
     tree: &Tree<T>,
     read: &R,
     other: &Tree<U>,
-    also: &S,
+    other_reading: &S,
     made: &F,
     none: V,
 ) -> Result<Tree<V>, OutOfMemory>
@@ -104,7 +104,7 @@ pub fn greater_of_where<
     requires equal { (x y : V) → V.eq x y ≡ true → x ≡ y }
     requires first { chooser.now.faults ≡ tree.now.faults }
     requires second { chooser.now.faults ≡ other.now.faults }
-    ensures is { IfOk result (IsJoinWhere (λ x y z. F.post made.now (max (R.number read.now x) (S.number also.now y)) z) none
+    ensures is { IfOk result (IsJoinWhere (λ x y z. F.post made.now (max (R.number read.now x) (S.number other_reading.now y)) z) none
         chooser.now tree.now other.now) }
     ensures each { IfOk result (λ t. HasOnePathEach t.faults t.paths) }
     ensures tidy { IfOk result (λ t. All (IsTidyPath t.faults) t.paths) }
@@ -118,7 +118,7 @@ pub fn greater_of_where<
     let mut bounds = Vec::with_capacity(alloc, own_items.len() / 2 + other_items.len() / 2)?;
     push_bounds(own_items, read, &mut bounds)?;
     let forks = bounds.len();
-    push_bounds(other_items, also, &mut bounds)?;
+    push_bounds(other_items, other_reading, &mut bounds)?;
     let (own_bounds, other_bounds) = bounds.split_at(forks);
     let pair = TreePair {
         own: BoundedTree {
@@ -132,7 +132,7 @@ pub fn greater_of_where<
     };
     let how = Greater {
         read,
-        other_reading: also,
+        other_reading,
         made,
     };
     let faults = chooser.faults();

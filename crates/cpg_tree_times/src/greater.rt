@@ -276,17 +276,24 @@ fn greater_by_bounds<T: Copy, U: Copy, V: Copy + Eq, R: Reading<T>, S: Reading<U
 /// Returns what a function makes in each scenario of the greater number of two trees whose leaves are read as numbers.
 /// If one tree's numbers are at least the other's everywhere, nothing of the other is tested; no clause asks for this.
 /// The one error is `OutOfMemory`.
-pub fn greater_of<T: Copy, U: Copy, V: Copy + Eq, R: Reading<T>, S: Reading<U>, F: Fn(u64) -> V>(
+pub(crate) fn greater_of<
+    T: Copy,
+    U: Copy,
+    V: Copy + Eq,
+    R: Reading<T>,
+    S: Reading<U>,
+    F: Fn(u64) -> V,
+>(
     tree: &Tree<T>,
     read: &R,
     other: &Tree<U>,
-    also: &S,
+    other_reading: &S,
     made: &F,
 ) -> Result<Tree<V>, OutOfMemory>
     requires callable { F.IsAlwaysCallable made.now }
     requires equal { (x y : V) → V.eq x y ≡ true → x ≡ y }
     requires same { tree.now.faults ≡ other.now.faults }
-    ensures is { IfOk result (IsJoin (λ x y z. F.post made.now (max (R.number read.now x) (S.number also.now y)) z) tree.now other.now) }
+    ensures is { IfOk result (IsJoin (λ x y z. F.post made.now (max (R.number read.now x) (S.number other_reading.now y)) z) tree.now other.now) }
     ensures each { IfOk result (λ t. HasOnePathEach t.faults t.paths) }
     ensures tidy { IfOk result (λ t. All (IsTidyPath t.faults) t.paths) }
     ensures pass { IfOk result (λ t. (test : ℕ → Bool) → DoPathsPass test tree.now.paths → DoPathsPass test other.now.paths → DoPathsPass test t.paths) }
@@ -295,7 +302,7 @@ pub fn greater_of<T: Copy, U: Copy, V: Copy + Eq, R: Reading<T>, S: Reading<U>, 
     let space = Space::whole(faults);
     let how = Greater {
         read,
-        other_reading: also,
+        other_reading,
         made,
     };
     let others = other.items();

@@ -9,8 +9,7 @@ mod greater;
 mod picking;
 mod values;
 
-pub use choosing::greater_of_where;
-pub use greater::{greater_of, max_later, max_of};
+pub use greater::{max_later, max_of};
 pub use picking::pick_later;
 pub use values::{
     ends, fixed, later, later_of, later_or, same_as, slot_at, slots, started, started_of,

@@ -228,7 +228,7 @@ pub fn ends(
     )
 }
 
-/// Returns the first slot at the time or later, and 0 if none is asked for.
+/// Returns the first slot at the time or later; 0 if there is no time, or if it is `LATE` or later.
 pub fn slot_at(share: Share, time: Option<u64>) -> u64
     ensures { result ≡ slot_at share time }
 {

@@ -41,6 +41,7 @@ pub each_whole : (ps : List Process) (parts : List ℕ) (whole copies : List Pro
     whole ≡ copies ++ in_parts_each ps parts → (ps ≡ []) ⊎ (parts ≡ []) → copies ≡ whole
 each_whole ps parts whole copies h e = sym (h ∙ ap (λ zs. copies ++ zs) (each_done ps parts e) ∙ append-nil copies)
 
+-- given: a number of parts for each process of a graph, and a fault number
 module _ (g : Graph) (parts : List ℕ) (faults : ℕ) (one_each : length parts ≡ process_count g) where
   -- a retuned graph has as many processes
   pub count_same : process_count (retuned g parts faults) ≡ process_count g

@@ -47,16 +47,16 @@ first_next d n best h = go (nat_lt (d (n + 1)) (d best)) refl
           some = omega arith;
           few = omega arith;
           least = λ m some l. elim (or_last m l) [
-            | inl k ↦ (let old = h.least m some k in omega (arith, old, less))
+            | inl k ↦ (let least_so_far = h.least m some k in omega (arith, least_so_far, less))
             | inr e ↦ (let same = ap d e in omega (arith, same))
           ];
-          first = λ m some l. (let old = h.least m some (omega (arith, l)) in omega (arith, old, less));
+          first = λ m some l. (let least_so_far = h.least m some (omega (arith, l)) in omega (arith, least_so_far, less));
         }
     go false f =
         let no_less = ltb-false (d (n + 1)) (d best) f in
         record {
           some = h.some;
-          few = (let old = h.few in omega (arith, old));
+          few = (let few_so_far = h.few in omega (arith, few_so_far));
           least = λ m some l. elim (or_last m l) [
             | inl k ↦ h.least m some k
             | inr e ↦ (let same = ap d e in omega (arith, same, no_less))
@@ -93,6 +93,7 @@ one_unit work parts some many =
           absurd (omega (arith, twice, whole.1, many)))
     ]
 
+-- given: a process, and how many faults its execution has
 module _ (p : Process) (faults : ℕ) where
   -- the first of 1 to n that lasts least
   abbrev pub fewest : ℕ → ℕ

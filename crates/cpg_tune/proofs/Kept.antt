@@ -52,6 +52,7 @@ alike (p ∷ ps) [] i d e = absurd (omega (arith, e))
 alike (p ∷ ps) (n ∷ parts) zero d e = record { node = refl; join = refl }
 alike (p ∷ ps) (n ∷ parts) (suc i) d e = alike ps parts i d (omega (arith, e))
 
+-- given: a number of parts for each process of a graph, and a fault number
 module _ (g : Graph) (parts : List ℕ) (faults : ℕ) (one_each : length parts ≡ process_count g) where
   -- the retuned graph
   abbrev h : Graph

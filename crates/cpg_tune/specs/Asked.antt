@@ -21,8 +21,8 @@ MayAskEach may g = (faults : ℕ) → faults ≤ MOST_FAULTS → may (with_fault
 
 -- a judge may be asked about the same graphs before a call and after it
 abbrev pub SameQuestions : (Graph → Type 0) → (Graph → Type 0) → Type 0
-SameQuestions old new = (g : Graph) → old g ↔ new g
+SameQuestions may_old may_new = (g : Graph) → may_old g ↔ may_new g
 
 -- a judge may give the same answers on each graph before a call and after it
 abbrev pub SameAnswers : (Graph → Judged → Type 0) → (Graph → Judged → Type 0) → Type 0
-SameAnswers old new = (g : Graph) (judged : Judged) → old g judged ↔ new g judged
+SameAnswers answers_old answers_new = (g : Graph) (judged : Judged) → answers_old g judged ↔ answers_new g judged

@@ -27,7 +27,8 @@ fn best_of(process: &Process, faults: u8) -> u32
     requires faults { faults ≤ 8 }
     ensures { result ≡ best_of process.now faults }
 {
-    // a part lasts at least one unit: more parts than units of work only add detections and checkpoints
+    // a part lasts at least one unit: more parts than units of work only add detections and checkpoints; the lesser of
+    // the two is at most 255, so the cast fits
     let most_parts = process.wcet.min(u64::from(MOST_PARTS)) as u32;
     let mut best = 1;
     let mut least = duration_in(process, best, faults);
@@ -44,7 +45,7 @@ fn best_of(process: &Process, faults: u8) -> u32
 
 /// Returns the best number of parts of a process: the least from 1 to 255 with which an execution with all k faults is
 /// shortest. It takes no memory.
-pub fn best_parts(problem: &Problem, process: u32) -> u32
+pub fn best_parts_at(problem: &Problem, process: u32) -> u32
     requires { process < process_count problem.now }
     ensures parts { result ≡ best_of (process_at problem.now process) problem.now.faults }
     ensures best { IsBest (process_at problem.now process) problem.now.faults result }

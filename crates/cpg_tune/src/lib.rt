@@ -10,7 +10,7 @@ mod judge;
 mod retuning;
 mod tuning;
 
-pub use best::best_parts;
+pub use best::best_parts_at;
 pub use judge::{Judge, Judged};
 pub use retuning::retuned;
 pub use tuning::{Tuned, tune};

@@ -4,7 +4,7 @@ ghost use Rattle.cpg_tune.specs.Best.{best_parts};
 ghost use Rattle.cpg_tune.specs.Asked.{MayAskRows, SameQuestions, SameAnswers};
 ghost use Rattle.cpg_tune.specs.Tuned.{AreRows, IsTuning, is_accepted, tolerated, IsGreatestAccepted};
 
-use crate::{Judge, Judged, best_parts, retuned};
+use crate::{Judge, Judged, best_parts_at, retuned};
 use cpg_base::{MOST_FAULTS, OutOfMemory, Problem};
 use std::alloc::Global;
 use std::marker::Model;
@@ -46,7 +46,8 @@ fn tolerated(rows: &[Judged]) -> Option<u8>
     let mut found = None;
     for (faults, row) in rows.iter().enumerate() {
         if is_accepted(*row) {
-            // a later row replaces an earlier one, also if rows between them aren't accepted
+            // a later row replaces an earlier one, also if rows between them aren't accepted; there are at most nine rows,
+            // so the number fits 8 bits
             found = Some(faults as u8);
         }
     }
@@ -54,12 +55,12 @@ fn tolerated(rows: &[Judged]) -> Option<u8>
 }
 
 /// Returns the best number of parts of each process, by number.
-fn best_of_each(alloc: Global, problem: &Problem) -> Result<Vec<u32>, OutOfMemory>
+fn best_parts(alloc: Global, problem: &Problem) -> Result<Vec<u32>, OutOfMemory>
     ensures { IfOk result (λ parts. parts.items ≡ best_parts problem.now) }
 {
     let mut parts = Vec::new(alloc);
     for process in 0..problem.processes().len() as u32 {
-        parts.push(best_parts(problem, process))?;
+        parts.push(best_parts_at(problem, process))?;
     }
     Ok(parts)
 }
@@ -96,7 +97,7 @@ pub fn tune<J: Judge>(alloc: Global, problem: &Problem, judge: &mut J) -> Result
     ensures same { SameAnswers (J.answers judge.old) (J.answers judge.new) }
     ensures tuned { IfOk result (IsTuning (J.answers judge.old) problem.now) }
 {
-    let parts = best_of_each(alloc, problem)?;
+    let parts = best_parts(alloc, problem)?;
     let rows = rows_of(alloc, problem, parts.as_slice(), judge)?;
     let tolerates = tolerated(rows.as_slice());
     Ok(Tuned {

@@ -31,7 +31,7 @@ same_value true false = refl
 same_value false true = refl
 same_value false false = refl
 
--- the literal of a condition's value holds exactly if the condition has the value
+-- the literal that says that condition `c` has value `b` holds exactly if the condition has the value
 pub value_holds : (s : Scenario) (c : ℕ) (b : Bool) →
     holds s (value_literal c b) ≡ same_bool b (get_or s.values c false)
 value_holds s c b = ap (λ n. nat_le (number_of_value b) n && nat_le n (number_of_value b)) (number_of-value s c)
@@ -48,19 +48,19 @@ of_arms : (v m : Bool) (wanted : Bool) (off on : Activation) →
 of_arms true m wanted off on = refl
 of_arms false m wanted off on = or-false (m && same_bool wanted (is_active off))
 
--- of four tests that all have to pass, the first may be put in front of the others
+-- of four tests that all have to pass, `x` too, the first, `h`, may be put in front of the others
 moved : (h m n x : Bool) → (((h && m) && n) && x) ≡ (h && ((m && n) && x))
 moved true m n x = refl
 moved false m n x = refl
 
--- if the first two of four tests don't both pass, not all do
+-- if the first two of four tests, `h` and `m`, don't both pass, not all four do
 never : (h m n x : Bool) → (h && m) ≡ false → (h && ((m && n) && x)) ≡ false
 never true m n x e = ap (λ b. (b && n) && x) e
 never false m n x e = refl
 
 -- the scenarios that `cube` matches and no cube of `by` does, and in which a process is active (`wanted`) or isn't
 module _ (g : Graph) (order : List ℕ) (by : List (List Literal)) (wanted : Bool) (cube : List Literal) where
-  -- at a leaf that is what is wanted, the least scenario that is left of the cube is the answer
+  -- at a leaf `a` that is what is wanted, the least scenario `o` that is left of the cube is the answer
   pub at_leaf : (a : Activation) (o : Option Scenario) → same_bool wanted (is_active a) ≡ true →
       IsFirst g order (is_left by cube) o →
       IsFirst g order (λ s. is_left by cube s && comes_to (Leaf a) wanted s) o
@@ -72,7 +72,8 @@ module _ (g : Graph) (order : List ℕ) (by : List (List Literal)) (wanted : Boo
       IsFirst g order (λ s. is_left by cube s && comes_to (Leaf a) wanted s) None
   at_other_leaf a e = λ s _. and_right (is_left by cube s) (same_bool wanted (is_active a)) e
 
-  -- at a test, the earlier of the answers with the condition false and with it true is the answer
+  -- at a test of condition `c`, the earlier of the answers `a`, with the condition false, and `b`, with it true, is the
+  -- answer
   pub at_test : (c : ℕ) (off on : Guard) (a b : Option Scenario)
       → IsFirst g order (λ s. holds s (value_literal c false) && (is_left by cube s && comes_to off wanted s)) a
       → IsFirst g order (λ s. holds s (value_literal c true) && (is_left by cube s && comes_to on wanted s)) b
@@ -91,7 +92,7 @@ module _ (g : Graph) (order : List ℕ) (by : List (List Literal)) (wanted : Boo
 
   -- a literal that has to hold as well, and the guard that is asked there
   module _ (l : Literal) (tree : Guard) where
-    -- the answer for the part of the cube that the literal leaves is that for the cube where the literal holds
+    -- the answer `o` for the part of the cube that literal `l` leaves is that for the cube where the literal holds
     pub where_holds : (part : List Literal) (o : Option Scenario) →
         ((s : Scenario) → matches part s ≡ (holds s l && matches cube s)) →
         IsFirst g order (λ s. is_left by part s && comes_to tree wanted s) o

@@ -13,7 +13,7 @@ use Rattle.cpg_cube.specs.Cube.{matches}
 use Rattle.cpg_cube.specs.declared.column.Column.{Column}
 use Rattle.cpg_violation.specs.Broken.{is_broken}
 
--- a test that is asked along with either of two may be asked once
+-- test `m`, asked along with `a` or along with `b`, may be asked once, along with either
 both_or : (m a b : Bool) → ((m && a) || (m && b)) ≡ (m && (a || b))
 both_or true a b = refl
 both_or false a b = refl
@@ -46,7 +46,8 @@ module _ {X : Type 0} (g : Graph) (order : List ℕ) (fact : Scenario → Bool) 
       ∙ ap (λ m. fact s && m) (sym (list_any_more (test s) xs i d h)))
       (first_or g order (λ s. fact s && list_any (test s) (take i xs)) (λ s. fact s && test s (get_or xs i d)) a b f k)
 
--- the earlier of the answers for two tests is the answer for their disjunction, with a fact that has to hold as well
+-- the earlier of the answers `a` for test `p` and `b` for test `q` is the answer for either test, with a fact that has
+-- to hold as well
 pub first_either : (g : Graph) (order : List ℕ) (fact p q : Scenario → Bool) (a b : Option Scenario) →
     IsFirst g order (λ s. fact s && p s) a →
     IsFirst g order (λ s. fact s && q s) b

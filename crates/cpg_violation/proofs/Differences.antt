@@ -13,13 +13,13 @@ module _ {X : Type 0} (xs ys : List X) (i : ℕ) where
       take (i + 1) xs ≡ take (i + 1) ys
   same_more d e h k s t = take_more xs i d h ∙ ap₂ (λ ts x. ts ++ x ∷ []) t s ∙ sym (take_more ys i e k)
 
-  -- lists whose elements at the place differ, differ there
+  -- lists `xs` and `ys` whose elements at place `i` differ, differ there; the defaults `d` and `e` aren't read
   pub differ_here : (d e : X) → i < length xs → i < length ys → get_or xs i d ≢ get_or ys i e →
       slice_get xs i ≢ slice_get ys i
   differ_here d e h k n q =
       n (same_Some (get_or xs i d) (get_or ys i e) (sym (slice_get-get_or xs i d h) ∙ q ∙ slice_get-get_or ys i e k))
 
-  -- lists whose elements at the place differ aren't the same; the second one may have ended
+  -- lists `xs` and `ys` whose elements at place `i` differ aren't the same; the second one may have ended
   pub differ_lists : (d e : X) → i < length xs → get_or xs i d ≢ get_or ys i e → xs ≢ ys
   differ_lists d e h n q = n (get_or_default xs i d e h ∙ ap (λ zs. get_or zs i e) q)
 
@@ -33,7 +33,7 @@ module _ {X : Type 0} (xs ys : List X) (i : ℕ) where
       go (y ∷ ys) k q =
           none-some (get_or (y ∷ ys) i y) (sym (slice_get_past xs i h) ∙ q ∙ slice_get-get_or (y ∷ ys) i y k)
 
--- lists of different lengths differ at the place where the shorter one ends
+-- lists `xs` and `ys` of different lengths differ at place `i`, where the shorter one ends
 pub ends_differ : {X : Type 0} (xs ys : List X) (i : ℕ) → i ≡ min (length xs) (length ys) → length xs ≢ length ys →
     slice_get xs i ≢ slice_get ys i
 ends_differ xs ys i e n = elim (cases_lt i (length ys)) [

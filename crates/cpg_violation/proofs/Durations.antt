@@ -8,7 +8,8 @@ use Rattle.cpg_base.specs.Scenario.{Scenario, IsScenario, fault_of}
 use Rattle.cpg_base.proofs.NumbersOf.{number_of-fault}
 use Rattle.cpg_cube.proofs.Boxes.{number_within, top_of_count}
 
--- an execution with more faults doesn't last shorter: each fault adds the same time
+-- an execution of process `p` with `n` faults, at least `m`, doesn't last shorter than with `m`: each fault adds the
+-- same time
 pub duration_grows : (g : Graph) (p m n : ℕ) → m ≤ n → duration g p m ≤ duration g p n
 duration_grows g p m n h =
     let more : m
@@ -18,7 +19,7 @@ duration_grows g p m n h =
     ((process_at g p).mu + div_ceil (process_at g p).wcet (process_at g p).parts + (process_at g p).alpha) h in
     omega arith
 
--- in a scenario of a graph a process has at most as many faults as the graph allows
+-- in a scenario `s` of a graph, process `p` has at most as many faults as the graph allows
 pub fault_within : (g : Graph) → process_count g ≤ 128 → (p : ℕ) → p < process_count g → (s : Scenario) →
     IsScenario g s →
     fault_of s p ≤ g.faults

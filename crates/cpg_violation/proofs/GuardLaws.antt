@@ -48,9 +48,9 @@ module _ (wanted : Bool) (c : ℕ) (off on : Guard) (s : Scenario) where
       comes_to (Test c off on) wanted s ≡ false
   both_arms low high = arms (get_or s.values c false) refl (λ e. low) (λ e. high)
 
--- the same in all scenarios of a space, for a guard that is a test
+-- given a guard that is a test of condition `c`, with the sides `off` and `on`, and a space
 module _ (wanted : Bool) (tree : Guard) (c : ℕ) (off on : Guard) (is : tree ≡ Test c off on) (space : Space) where
-  -- if the condition is true in the whole space, what is answered of the side for true is true of the guard
+  -- if condition `c` is true in the whole space, what `b` answers of the side for true (`on`) is true of the guard
   pub step_on : (b : Bool) → OnTrue b ((s : Scenario) → IsInSpace space s → comes_to on wanted s ≡ false) →
       ((s : Scenario) → IsInSpace space s → holds s (value_literal c true) ≡ true)
       → OnTrue b ((s : Scenario) → IsInSpace space s → comes_to tree wanted s ≡ false)
@@ -58,16 +58,16 @@ module _ (wanted : Bool) (tree : Guard) (c : ℕ) (off on : Guard) (is : tree �
       of_true b high (λ h. subst (λ t. (s : Scenario) → IsInSpace space s → comes_to t wanted s ≡ false) (sym is)
       (λ s lies. only_on wanted c off on s (some s lies) (h s lies)))
 
-  -- if the condition is false in the whole space and the side for false never comes to what is wanted there, neither
-  -- does the guard
+  -- if condition `c` is false in the whole space, and the side for false (`off`) never comes to what is wanted there,
+  -- neither does the guard
   pub step_off : ((s : Scenario) → IsInSpace space s → comes_to off wanted s ≡ false) →
       ((s : Scenario) → IsInSpace space s → holds s (value_literal c false) ≡ true)
       → (s : Scenario) → IsInSpace space s → comes_to tree wanted s ≡ false
   step_off low none = subst (λ t. (s : Scenario) → IsInSpace space s → comes_to t wanted s ≡ false) (sym is)
       (λ s lies. only_off wanted c off on s (none s lies) (low s lies))
 
-  -- if the side for false never comes to what is wanted in the space, what is answered of the side for true is true of
-  -- the guard
+  -- if the side for false (`off`) never comes to what is wanted in the space, what `b` answers of the side for true
+  -- (`on`) is true of the guard
   pub step_both : (b : Bool) → ((s : Scenario) → IsInSpace space s → comes_to off wanted s ≡ false) →
       OnTrue b ((s : Scenario) → IsInSpace space s → comes_to on wanted s ≡ false)
       → OnTrue b ((s : Scenario) → IsInSpace space s → comes_to tree wanted s ≡ false)
@@ -123,21 +123,21 @@ module _ (g : Graph) (s : Scenario) (p c : ℕ) (when : Option Bool) (value : Bo
   pub refused_of : holds s (value_literal c (not value)) ≡ true → takes when (value_of g s.values p) ≡ false
   refused_of h = taken_as ∙ other value (get_or s.values c false) (sym (value_holds s c (not value)) ∙ h)
 
--- if the first of two tests fails, not both pass: an edge isn't live if its source is idle
+-- if the first of two tests, `a`, fails, not both pass: an edge isn't live if its source is idle
 pub idle_source : (a t : Bool) → a ≡ false → (a && t) ≡ false
 idle_source true t e = absurd (both_ways true e refl)
 idle_source false t e = refl
 
--- if the second of two tests fails, not both pass: an edge isn't live if its source has the other value
+-- if the second of two tests, `t`, fails, not both pass: an edge isn't live if its source has the other value
 pub other_value : (a t : Bool) → t ≡ false → (a && t) ≡ false
 other_value true t e = e
 other_value false t e = refl
 
--- if each of two tests passes, both do: then an edge is live
+-- if each of two tests, `a` and `t`, passes, both do: then an edge is live
 pub both_there : (a t : Bool) → a ≡ true → t ≡ true → (a && t) ≡ true
 both_there a t e f = rw (e, f) refl
 
--- if an item is active exactly when the source that was found says so, it is when a source that is the same says so
+-- if item `x` is active exactly when the source that was found says so, it is when a source that is the same says so
 pub as_source : (g : Graph) (x : ℕ) (found source : ItemSource) →
     ((values : List Bool) → item_active g values (item_at g x) ≡ is_active_by g values found) → found ≡ source
     → (values : List Bool) → item_active g values (item_at g x) ≡ is_active_by g values source

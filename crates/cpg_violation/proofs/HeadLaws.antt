@@ -14,11 +14,11 @@ use Rattle.cpg_violation.specs.Heads.{IsHeadFor}
 use Rattle.std.specs.List.{list_all}
 use Rattle.std.specs.Prelude.{IfSome, List, None, Some}
 
--- a head that is a graph's is the graph's own head, but that it may have no extras
+-- a head `h` that is a graph's is the graph's own head, but that it may have no extras
 same_but_extras : (g : Graph) (h : Head) → IsHeadFor g h → record h { extras = extras_of g } ≡ head_of g
 same_but_extras g h k = rw (k.faults, k.nodes, k.processes.processes, k.edges) refl
 
--- tables that are lawful under it are lawful under the graph's own head
+-- tables that are lawful under head `h`, which is the graph's, are lawful under the graph's own head
 pub tables_of_graph : (g : Graph) (h : Head) (tables : List NodeTable) → IsHeadFor g h → AreTablesOf h tables →
     AreTablesOf (head_of g) tables
 -- no field of lawful tables depends on the extras, so they can be put together again for a head with the graph's extras
@@ -38,7 +38,7 @@ tables_of_graph g h tables k are = subst (λ (head : Head). AreTablesOf head tab
       few = are.few;
     })
 
--- a node hears the same items by it as in the graph
+-- a node hears the same items by head `h` as in the graph
 pub hears_of_graph : (g : Graph) (h : Head) → IsHeadFor g h → IsWithinLimits g → (node : ℕ) → node < length g.nodes →
     hears_of h node ≡ heard_by g node
 hears_of_graph g h k within node l =

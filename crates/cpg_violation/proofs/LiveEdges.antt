@@ -8,13 +8,13 @@ use Rattle.cpg_order.proofs.Acyclic.{source_in_order}
 use Rattle.cpg_rules.specs.Guards.{Guards, AreGuardsOf, is_passed, test_of, active_by, edge_guard, edge_guard_of}
 use Rattle.cpg_rules.proofs.EdgeGuards.{active_by-is, live_by-is}
 
--- the guard that is kept for an edge is the one that the graph gives it
+-- the guard that is kept for edge `e` is the one that the graph gives it
 guard_at : (g : Graph) (order : List ℕ) (guards : Guards) → AreGuardsOf g order guards → (e : ℕ) → e < edge_count g →
     edge_guard guards e ≡ edge_guard_of g e
 guard_at g order guards are e l = ap (λ xs. get_or xs e (record { source = 0; test = None })) are.edges
     ∙ get_or-map-below (edge_guard_of g) (edge_count g) e (record { source = 0; test = None }) l
 
--- an edge is live exactly if its source is active and its test of the source's value passes
+-- edge `e` is live exactly if its source is active and its test of the source's value passes
 pub live_tested : (g : Graph) (order : List ℕ) → IsTopological g order → (guards : Guards) →
     AreGuardsOf g order guards → (values : List Bool) → length values ≡ condition_count g → (e : ℕ) →
     e < edge_count g

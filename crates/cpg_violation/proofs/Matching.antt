@@ -22,7 +22,8 @@ use Rattle.cpg_violation.specs.Violation.{AllHold, Holds, row_rules}
 -- a scenario, and an item of the graph
 module _ (g : Graph) (tables : List NodeTable) (s : Scenario) (law : IsScenario g s) (x : ℕ)
     (l : x < item_count g) where
-  -- if a rule is sure at the item, no column of the item's row that matches breaks it
+  -- if a rule is sure at the item, no column of the item's row that matches, at a place `i`, breaks it; the default `d`
+  -- isn't read
   pub sure_rule : (rule : Rule) → IsSure g tables rule x → (i : ℕ) (d : Column) → i < length (columns_of tables x) →
       matches (get_or (columns_of tables x) i d).cube s ≡ true
       → breaks_rule rule g tables s x (take i (columns_of tables x)) (get_or (columns_of tables x) i d) ≡ false
@@ -33,7 +34,7 @@ module _ (g : Graph) (tables : List NodeTable) (s : Scenario) (law : IsScenario 
       (drop_more (columns_of tables x) i d h)) ∙ sure (Some i) s law in
       second_false _ _ m (or_parts _ _ here).0
 
-  -- so it is for a rule that holds
+  -- a `rule` that holds isn't broken at column `i` of the item, if that matches
   pub at_rule : (rule : Rule) → Holds g tables rule → (i : ℕ) (d : Column) → i < length (columns_of tables x) →
       matches (get_or (columns_of tables x) i d).cube s ≡ true
       → breaks_rule rule g tables s x (take i (columns_of tables x)) (get_or (columns_of tables x) i d) ≡ false
@@ -47,7 +48,7 @@ module _ (g : Graph) (tables : List NodeTable) (s : Scenario) (law : IsScenario 
     active_where d k m = not-false _
         (or_parts _ _ (at_rule Rule.Activity rules.0 k.0 d k.1 (ap (λ (c : Column). matches c.cube s) k.2 ∙ m))).0
 
-    -- by V1, the process of each of its literals is active
+    -- by V1, the process of each literal `l` of a column `d` that matches is active
     pub literal_active : (d : Column) → Contains (columns_of tables x) d → matches d.cube s ≡ true → (l : Literal) →
         Contains d.cube l →
         active g s.values (process_of_variable g l.variable) ≡ true

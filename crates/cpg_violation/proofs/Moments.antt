@@ -15,14 +15,14 @@ use Rattle.cpg_table.specs.Valid.{ends_of, is_by, breaks_inputs_of}
 
 -- the tables of all nodes
 module _ (tables : List NodeTable) where
-  -- the time of a column that matches is one of the item's times
+  -- the time of column `d` of item `x`, which matches scenario `s`, is one of the item's times
   pub in_at : (x : ℕ) (s : Scenario) (d : Column) → Contains (columns_of tables x) d → matches d.cube s ≡ true →
       Contains (at tables x s) d.time
   in_at x s d h m =
       Contains-map (λ (c : Column). c.time) (filter (λ (c : Column). matches c.cube s) (columns_of tables x)) d
       (Contains-filter (λ (c : Column). matches c.cube s) (columns_of tables x) d m h)
 
-  -- each of the item's times is that of a column that matches
+  -- each of the times of item `x` in scenario `s` is that of a column `d` that matches
   pub at_parts : (x : ℕ) (s : Scenario) (time : ℕ) → Contains (at tables x s) time →
       (d : Column) × Contains (columns_of tables x) d × (matches d.cube s ≡ true) × (d.time ≡ time)
   at_parts x s time h =

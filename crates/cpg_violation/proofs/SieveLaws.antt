@@ -16,21 +16,22 @@ use Rattle.cpg_cube.specs.Column.{column_at}
 use Rattle.cpg_violation.specs.Parted.{Parted, Cut}
 use Rattle.cpg_violation.specs.Sieves.{places_in, Sifts, is_at}
 
--- nothing is both a value and its negation
+-- nothing, `x`, is both a value and its negation
 pub not_itself : (b x : Bool) → x ≡ b → x ≡ not b → ⊥
 not_itself true true e f = true≢false f
 not_itself true false e f = true≢false (sym e)
 not_itself false true e f = true≢false e
 not_itself false false e f = true≢false (sym f)
 
--- what is on the side that a scenario goes to was found, if it was found on either side that the scenario may go to
+-- a place `i` on the side that a scenario goes to, as `b` says, was found, if it was found on either side that the
+-- scenario may go to
 pub side_of : (b : Bool) (below above found : List ℕ) (i : ℕ) → (b ≡ true → Contains below i → Contains found i) →
     (b ≡ false → Contains above i → Contains found i) →
     Contains (cond b below above) i → Contains found i
 side_of true below above found i h k c = h refl c
 side_of false below above found i h k c = k refl c
 
--- a place is on the side that a scenario goes to, if it is on either side that the scenario may go to
+-- a place `i` is on the side that a scenario goes to, as `b` says, if it is on either side that the scenario may go to
 pub side_found : (b : Bool) (below above : List ℕ) (i : ℕ) → (b ≡ true → Contains below i) →
     (b ≡ false → Contains above i) →
     Contains (cond b below above) i
@@ -79,8 +80,8 @@ module _ (columns : List Column) (v most : ℕ) (below : Bool) (places kept : Li
       (Contains-push_cases (take k places) (get_or places k d) i
       (subst (λ xs. Contains xs i) (take_more places k d within) c))
 
--- if the sides of a cut lose no place that a scenario on them needs, and each side's sieve finds its places, the cut's
--- sieve finds all places
+-- if the sides of a cut of variable `v` at `most`, with places `low` and `high`, lose no place that a scenario on them
+-- needs, and the sieves `below` and `above` find these, the cut's sieve finds all places
 pub sifts_cut : (columns : List Column) (v most : ℕ) (places low high : List ℕ) (below above : Parted)
     → ((s : Scenario) (i : ℕ) → Contains places i → i < length columns → matches (column_at columns i).cube s ≡ true →
     nat_le (number_of s v) most ≡ true → Contains low i)

@@ -1,22 +1,22 @@
 -- Laws of two tests that have to pass together.
 use Rattle.std.proofs.Common.{◌≡◌, Bool, true, false, not, ◌&&◌, ◌||◌, refl, sym}
 
--- if the second test passes, both pass exactly if the first does
+-- if test `b` passes, `m` and `b` both pass exactly if `m` does
 pub with_true : (m b : Bool) → b ≡ true → m ≡ (m && b)
 with_true true b e = sym e
 with_true false b e = refl
 
--- if two second tests agree where the first passes, either may be asked along with it
+-- if tests `a` and `b` agree where `m` passes, either may be asked along with it
 pub same_where : (m a b : Bool) → (m ≡ true → a ≡ b) → (m && a) ≡ (m && b)
 same_where true a b h = h refl
 same_where false a b h = refl
 
--- if the second test fails where the first passes, never both pass
+-- if test `b` fails where `m` passes, never both pass
 pub off_where : (m b : Bool) → (m ≡ true → b ≡ false) → (m && b) ≡ false
 off_where true b h = h refl
 off_where false b h = refl
 
--- one of two tests fails exactly if not both pass
+-- one of tests `a` and `b` fails exactly if not both pass
 pub not_both : (a b : Bool) → (not a || not b) ≡ not (a && b)
 not_both true b = refl
 not_both false b = refl

@@ -18,7 +18,7 @@ use Rattle.cpg_table.specs.declared.rule.Rule.{Rule}
 use Rattle.cpg_violation.specs.Sure.{IsSure}
 use Rattle.cpg_violation.proofs.SureLaws.{sure_of}
 
--- a due is at most the deadline
+-- the due of process `p` is at most the deadline
 due_le : (g : Graph) (p : ℕ) → due g p ≤ g.deadline
 due_le g p = go (process_at g p).deadline
   where
@@ -27,8 +27,8 @@ due_le g p = go (process_at g p).deadline
     go None = omega arith
     go (Some own) = omega arith
 
--- if an end, capped at the greatest number of 64 bits, is by a process's due, so is the end itself: a due is far below
--- that number
+-- if an end, capped at the greatest number of 64 bits, is by the due of process `p`, so is the end itself: a due is far
+-- below that number
 pub by_due : (g : Graph) → IsWithinLimits g → (p end capped limit : ℕ) → capped ≡ min end (2 ^ 64 - 1) →
     limit ≡ due g p → capped ≤ limit → end ≤ limit
 by_due g within p end capped limit is by h = omega (arith, is, by, h, due_le g p, within.deadline)
@@ -47,7 +47,7 @@ module _ (g : Graph) (tables : List NodeTable) (x : ℕ) where
       (λ s c earlier law k m. ap (λ b. is_frozen g x && b) (same c k (find (is_possible g) (columns_of tables x)) refl)
       ∙ and-false (is_frozen g x))
     where
-      -- no column differs from the time of the first possible one, as all columns have one time
+      -- no column `c` differs from the time of the first possible one, `o`, as all columns have one time
       same : (c : Column) → Contains (columns_of tables x) c → (o : Option Column) →
           find (is_possible g) (columns_of tables x) ≡ o →
           differs_from c.time o ≡ false

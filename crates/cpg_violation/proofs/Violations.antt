@@ -28,7 +28,7 @@ module _ {g : Graph} {order : List ℕ} {guards : Guards} (admitted : IsAdmitted
   pub long_order : length order ≡ process_count g
   long_order = length_order (process_count g) order admitted.urgency.all
 
-  -- in tables of the graph, each item's columns are on variables of the graph
+  -- in tables of the graph, the columns of each item `x` are on variables of the graph
   pub columns_known : (tables : List NodeTable) → AreTablesOf (head_of g) tables → (x : ℕ) →
       All (λ (c : Column). IsKnown g c.cube) (columns_of tables x)
   columns_known tables are x = All-weaker (Contains (columns_of tables x)) (λ (c : Column). IsKnown g c.cube)

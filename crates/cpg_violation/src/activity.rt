@@ -21,6 +21,7 @@ pub fn value_literal(condition: u32, value: bool) -> Literal
     ensures { result ≡ value_literal condition value }
 {
     let number = u8::from(value);
+    // there are at most 32 conditions, whose variables begin at 128, so the number of the variable fits a byte
     Literal {
         variable: FIRST_VALUE + condition as u8,
         low: number,

@@ -8,29 +8,32 @@ ghost use Rattle.cpg_violation.specs.Sieves.{touch};
 use cpg_cube::Literal;
 
 /// Whether the ranges of two literals have a number in common.
-fn touch(first: &Literal, second: &Literal) -> bool
-    ensures { result ≡ touch first.now second.now }
+fn touch(literal: &Literal, other: &Literal) -> bool
+    ensures { result ≡ touch literal.now other.now }
 {
-    first.low <= second.high && second.low <= first.high
+    literal.low <= other.high && other.low <= literal.high
 }
 
 /// Whether a scenario may match both of two lists of literals, whose variables rise. It can't if their ranges of some
 /// variable have no number in common. True guarantees nothing: the ranges may ask for more faults than there are.
-pub(crate) fn may_meet(first: &[Literal], second: &[Literal]) -> bool
-    ensures { OnFalse result ((s : Scenario) → (matches first.now s && matches second.now s) ≡ false) }
+pub(crate) fn may_meet(literals: &[Literal], others: &[Literal]) -> bool
+    ensures { OnFalse result ((s : Scenario) → (matches literals.now s && matches others.now s) ≡ false) }
 {
     // once a list has ended, no variable is left that both ask for
-    let (Some((one, rest)), Some((other, others))) = (first.split_first(), second.split_first())
-    else {
+    let (Some((literal, later)), Some((other, later_others))) = (
+        literals.split_first(),
+        others.split_first(),
+    ) else {
         return true;
     };
-    // the variables rise, so the second list says nothing of the first one's next variable
-    if one.variable < other.variable {
-        return may_meet(rest, second);
+    // the variables rise, so no other literal is on this one's variable
+    if literal.variable < other.variable {
+        return may_meet(later, others);
     }
-    // nor does the first list of the second one's
-    if one.variable > other.variable {
-        return may_meet(first, others);
+    // no literal of the first list is on the other one's variable
+    if literal.variable > other.variable {
+        return may_meet(literals, later_others);
     }
-    touch(one, other) && may_meet(rest, others)
+    // both are on one variable
+    touch(literal, other) && may_meet(later, later_others)
 }

@@ -78,6 +78,7 @@ fn is_always_active(admitted: &Admitted, process: u32) -> bool
 pub fn always_active(alloc: Global, admitted: &Admitted) -> Result<Vec<bool>, OutOfMemory>
     ensures { IfOk result (λ marks. AreAlways admitted.now.graph marks.items) }
 {
+    // there are at most 128 processes, so the cast keeps their number
     let processes = admitted.problem().processes().len() as u32;
     let marks = tested_marks(alloc, processes, |process| {
         is_always_active(admitted, process)

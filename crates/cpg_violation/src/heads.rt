@@ -91,7 +91,7 @@ fn are_same_extras(problem: &Problem, head: &Head) -> bool
     // called for its clause `within` alone: a head that has extras has one for each process
     let _described = head.processes();
     for process in 0..processes.len() {
-        // a head of version 1
+        // a head of version 1 has none; there are at most 128 processes, so the cast keeps the number
         let Some(extra) = head.extra(process as u32) else {
             return true;
         };

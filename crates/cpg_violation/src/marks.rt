@@ -61,7 +61,8 @@ pub fn are_all(marks: &[bool], items: u32) -> bool
     true
 }
 
-/// A mark for each of the first `items` items, by number: whether it passes a test. The one error is `OutOfMemory`.
+/// A mark for each of the first `items` items, by number: whether it passes a test. The contract says only that a set
+/// mark is of one of these items, and that the item passes. The one error is `OutOfMemory`.
 pub fn tested_marks<F: Fn(u32) -> bool>(
     alloc: Global,
     items: u32,

@@ -99,8 +99,8 @@ fn goes(cube: &Cube, variable: u8, most: u8, below: bool) -> bool
     true
 }
 
-/// Whether the cube of the column at a place leaves a variable a number on a side of a cut; false if there is no
-/// column.
+/// Whether the cube of the column at a place leaves a variable a number on that side of a cut, as `goes` says; false if
+/// there is no column.
 fn column_goes(columns: &[Column], place: u32, variable: u8, most: u8, below: bool) -> bool
     ensures { OnFalse result ((s : Scenario) → place < length columns.now → matches (column_at columns.now place).cube s ≡ true →
         nat_le (number_of s variable) most ≡ not below) }
@@ -336,7 +336,7 @@ fn tallied_sides(
     ensures { IfOk result (λ r. IfSome r (ArePartsOf columns.now places.now)) }
 {
     // the tables of the tally are made when they are first needed: most rows need none
-    tally.keep(alloc)?;
+    tally.make_tables(alloc)?;
     let Some(cut) = tallied_cut(columns, places, tally) else {
         return Ok(None);
     };

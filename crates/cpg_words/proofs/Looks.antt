@@ -29,7 +29,7 @@ look_one : (x : ℕ) (b : Bool) → (x == 45) ≡ b → Look (x ∷ [])
 look_one x true e = plain refl (rw e refl) (rw e refl) (rw e refl)
 look_one x false e = plain refl (rw e refl) (rw e refl) (rw e refl)
 
--- a short word has a first flag
+-- a word of a minus (45), a byte y and a rest has a first flag
 first_flag : (y : ℕ) (rest cs : Text) → chars (y ∷ rest) ≡ cs → IsUtf8 (45 ∷ y ∷ rest) →
     (c : ℕ) × (slice_get cs 0 ≡ Some c)
 unfolding chars encode_utf8
@@ -47,7 +47,7 @@ take_one n x xs = let e : 1 + n ≡ suc n = omega arith in rw e refl
 drop_one : (n x : ℕ) (xs : Text) → drop (1 + n + 1) (x ∷ xs) ≡ drop (n + 1) xs
 drop_one n x xs = let e : 1 + n + 1 ≡ suc (n + 1) = omega arith in rw e refl
 
--- what is before an equals sign, behind a minus
+-- what is before the first `=` of a word with a minus in front is the minus and what is before it in the word
 before_minus : (w : Text) → before_first is_equals (45 ∷ w) ≡ 45 ∷ before_first is_equals w
 before_minus w = take_one (prefix_len (λ x. not (is_equals x)) w) 45 w
 

@@ -17,7 +17,7 @@ pub joined-none : (o : Option (List Pair)) → joined [] o ≡ o
 joined-none None = refl
 joined-none (Some qs) = refl
 
--- one more pair that is read is the first of those to come
+-- a pair put behind the pairs ps, and then those still to come, are ps and then the pair in front of those to come
 pub joined-more : (ps : List Pair) (n : ℕ) (graph : Text) (o : Option (List Pair))
     → joined (ps ++ record { period = n; graph = graph } ∷ []) o ≡ joined ps (with_pair (Some n) graph o)
 joined-more ps n graph None = refl
@@ -25,7 +25,7 @@ joined-more ps n graph (Some qs) = ap Some (append_assoc ps (record { period = n
 
 -- ---- over borrowed texts
 
--- a rest behind two words is all that is left
+-- the rest behind two words has two words less than all, and so many of it are the whole rest
 rest_is : (rest : List (Bor Text)) → take (suc (suc (length rest)) - 2) rest ≡ rest
 rest_is rest = let e : suc (suc (length rest)) - 2 ≡ length rest = omega arith in rw e (take-length rest)
 
@@ -36,7 +36,7 @@ left_is [] d h = absurd (omega arith)
 left_is (a ∷ []) d h = absurd (omega arith)
 left_is (a ∷ b ∷ rest) d h = ap (λ (xs : List (Bor Text)). a.now ∷ b.now ∷ texts xs) (sym (rest_is rest))
 
--- with one more pair read, all pairs stay the same
+-- if the next pair p is read, the pairs read so far and those of the words left are still the pairs `whole`
 pub pairs_step : (left : List (Bor Text)) (d : Bor Text) (items now : List Pair) (p : Pair)
     (whole : Option (List Pair)) → 2 ≤ length left
     → number (get_or left 0 d).now ≡ Some p.period → p.graph ≡ (get_or left 1 d).now → now ≡ items ++ p ∷ []

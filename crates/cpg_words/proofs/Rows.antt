@@ -7,7 +7,7 @@ use Rattle.cpg_words.specs.Parts.{Text}
 use Rattle.cpg_words.specs.Matches.{values_in}
 use Rattle.cpg_words.proofs.Walking.{add}
 
--- a value added to more rows comes last among the argument's values, if it does so in the rows after the first
+-- if a value added to the rows rs comes last among the values of the argument `id`, it does so with a row r in front
 add_here : (id v : Text) (r : Row) (rs : List Row) (b : Bool) → bytes_eq r.id id ≡ b →
     values_in id (add id v rs) ≡ values_in id rs ++ v ∷ []
     → values_in id (add id v (r ∷ rs)) ≡ values_in id (r ∷ rs) ++ v ∷ []

@@ -20,12 +20,12 @@ abbrev pub AllTexts : List Text → Type 0
 AllTexts [] = Unit {0}
 AllTexts (w ∷ ws) = IsUtf8 w × AllTexts ws
 
--- the rule refuses the words at each command
+-- whether the rule refuses words with these parts at each command: there are no parts, or a value of `--turns` is no number
 abbrev pub is_refused : Option Parts → Bool
 is_refused None = true
 is_refused (Some p) = list_any (λ v. not (is_some (number v))) p.turns
 
--- parts that are refused are refused with one positional more
+-- parts that are refused stay refused with a positional w in front
 refused_positional : (w : Text) (o : Option Parts) → is_refused o ≡ true → is_refused (with_positional w o) ≡ true
 refused_positional w None h = refl
 refused_positional w (Some p) h = h
@@ -35,23 +35,29 @@ refused_turns : (v : Text) (o : Option Parts) → is_refused o ≡ true → is_r
 refused_turns v None h = refl
 refused_turns v (Some p) h = rw h (or-true (not (is_some (number v))))
 
--- turns that are no number are refused
+-- parts with a value v of `--turns` that is no number are refused
 refused_value : (v : Text) (o : Option Parts) → number v ≡ None → is_refused (with_turns v o) ≡ true
 refused_value v None e = refl
 refused_value v (Some p) e = rw e refl
 
--- both take the words: `clap` has no fault, and its rows have the positionals and the values of the parts that the rule found,
--- behind those of the rows at the start
+-- `clap`, from the rows at the start on, and the rule both take the words, and find the same parts
 pub record Taken (fault : Kinds) (rows start : List Row) (parts : Option Parts) : Type 0 where
+  -- the parts that the rule found
   pub found : Parts
+  -- the rule takes the words, and these are their parts
   pub parts_are : parts ≡ Some found
+  -- `clap` has no fault
   pub no_fault : fault ≡ []
+  -- its rows have the positionals of the parts, behind those of the rows at the start
   pub words : values_in (codes "words") rows ≡ values_in (codes "words") start ++ found.positionals
+  -- its rows have the values of `--turns` of the parts, behind those of the rows at the start
   pub turns : values_in (codes "turns") rows ≡ values_in (codes "turns") start ++ found.turns
 
--- both refuse the words: `clap` has a fault, and each command refuses the parts
+-- `clap` and the rule both refuse the words
 pub record Refused (fault : Kinds) (parts : Option Parts) : Type 0 where
+  -- `clap` has a fault
   pub fails : Walking.Fails fault
+  -- each command refuses the parts
   pub refused : is_refused parts ≡ true
 
 -- `clap` takes the words as the rule does, or both refuse them
@@ -222,7 +228,8 @@ read_word w ws (short flags c o d t l s f) more value last rows = inr (record {
   refused = rw (d, o, t) refl;
 })
 
--- the same if the word stands where the value of `turns` is awaited
+-- a word where the value of `--turns` is awaited, and the words behind it, are read as the rule says; by how the word
+-- looks
 read_value : (w : Text) (ws : List Text) → Look w → Reads ws → ReadsValue (w ∷ ws)
 -- a plain word is the value; any option is refused by `clap`, and by the rule since it is no number
 read_value w ws (plain o d l s) more rows = with_turn w _ _ _ _ rows (parts_from false ws) _

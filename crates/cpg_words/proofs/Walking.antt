@@ -54,12 +54,12 @@ waiting_of (after_turn v) = idle
 abbrev pub held_of : Last → List Row → Held
 held_of last rows = record { rows = rows; pending = pending_of last; skip = 0 }
 
--- between two words, before `--` or after it
+-- the walk between two words, with what was read last and the rows so far; `trailing` says whether it is after `--`
 abbrev pub at : Bool → Last → List Row → Walk
 at trailing last rows =
     record { held = held_of last rows; waiting = waiting_of last; position = 1; is_trailing = trailing; stopped = None }
 
--- after `--turns`
+-- the walk right after `--turns`, whose value is the next word
 abbrev pub awaiting : List Row → Walk
 awaiting rows = record {
   held = record { rows = rows; pending = Some (codes "turns", []); skip = 0 };

@@ -102,17 +102,23 @@ level_at fs w = find (λ s. answers_to w (label_of s)) (map Walking.level (form_
 
 -- the line has a command of this name
 pub record Named (fs : List Form) (w : Text) : Type 0 where
+  -- the form of the command
   pub form : Form
+  -- a search of the forms finds it by the name
   pub in_forms : find (λ f. bytes_eq f.0 w) fs ≡ Some form
+  -- the name is one of those that `clap` knows
   pub in_names : find (answers_to w) (names_in fs) ≡ Some (w, [])
+  -- the name is that of a level of the line
   pub in_line : level_at fs w ≡ Some (Walking.level w)
 
 -- a word names neither a form nor a level
 pub record Unnamed (fs : List Form) (w : Text) : Type 0 where
+  -- a search of the forms finds none by the word
   pub in_forms : find (λ f. bytes_eq f.0 w) fs ≡ None
+  -- the word is none of the names that `clap` knows
   pub in_names : find (answers_to w) (names_in fs) ≡ None
 
--- with one form more a word is named in both or in neither
+-- if a word names a form among fs and its level, or neither, so it does with a form f in front
 name_here : (f : Form) (fs : List Form) (w : Text) (b : Bool) → bytes_eq f.0 w ≡ b → Named fs w ⊎ Unnamed fs w →
     Named (f ∷ fs) w ⊎ Unnamed (f ∷ fs) w
 name_here f fs w true e rest =
@@ -129,7 +135,7 @@ named (f ∷ fs) w = name_here f fs w (bytes_eq f.0 w) refl (named fs w)
 
 -- ---- the first word
 
--- nothing is true together with false
+-- `b and false` is false
 and_false : (b : Bool) → (b && false) ≡ false
 and_false true = refl
 and_false false = refl
@@ -240,7 +246,7 @@ form_refuses : (f : Form) (fs : List Form) (w : Text) (p : Parts) (b : Bool) →
 form_refuses f fs w p true e h rest = rw e h
 form_refuses f fs w p false e h rest = rw e rest
 
--- if each form refuses bad values of `--turns`, every command does
+-- if each form refuses the values of `--turns` that are no numbers, the command of every word does
 each_refuses : (fs : List Form) → EachRefuses fs → (w : Text) (p : Parts) → is_refused (Some p) ≡ true →
     command_named fs w p ≡ None
 each_refuses [] each w p h = refl
@@ -259,23 +265,29 @@ no_form : (fs : List Form) (w : Text) (o : Option Parts) → find (λ f. bytes_e
 no_form fs w None e = refl
 no_form fs w (Some p) e = rw e refl
 
--- the words are a name of a form and words that it takes
+-- `clap` and the rule both accept the words: the name of a form, and words that it takes
 pub record Accepted (fs : List Form) (words : List Text) : Type 0 where
+  -- the name of the command
   pub name : Text
+  -- the words behind it
   pub rest : List Text
   -- the first word is the command's name
   pub words_are : words ≡ name ∷ rest
-  -- what `clap` enters for the rest, without a fault
+  -- what `clap` enters for the rest
   pub rows : List Row
+  -- `clap` has no fault
   pub no_fault : built_fault (line fs) nothing_held words ≡ []
+  -- it enters the level of this name with these rows
   pub entered_is : entered (line fs) (stop_after [] (names_in fs) words) ≡ Some (name, rows)
   -- the command is the one of this name, by the positionals and the values of `--turns` in these rows
   pub call : command_in fs words ≡ command_named fs name
       (record { positionals = values_in (codes "words") rows; turns = values_in (codes "turns") rows })
 
--- `clap` fails on the words, and the rule refuses them
+-- `clap` and the rule both refuse the words
 pub record Rejected (fs : List Form) (words : List Text) : Type 0 where
+  -- `clap` has a fault
   pub fails : Walking.Fails (built_fault (line fs) nothing_held words)
+  -- by the rule the words form no command
   pub refused : command_in fs words ≡ None
 
 -- words that begin with a command's name are accepted by both, or refused by both
@@ -317,7 +329,7 @@ not_number : (o : Option ℕ) → (not (is_some o) || false) ≡ true → o ≡ 
 not_number None e = refl
 not_number (Some n) e = cc
 
--- a form of one word refuses a value of `--turns` that is no number; the forms below do, too
+-- a form of one word refuses any parts with a value of `--turns` that is no number
 one_word_refuses : (f : Text → Command) (ps ts : List Text) →
     is_refused (Some (record { positionals = ps; turns = ts })) ≡ true →
     one_word f ps ts ≡ None
@@ -326,7 +338,7 @@ one_word_refuses f [] (t ∷ ts) h = refl
 one_word_refuses f (a ∷ []) (t ∷ ts) h = refl
 one_word_refuses f (a ∷ b ∷ ps) (t ∷ ts) h = refl
 
--- a form of two words refuses what is refused
+-- a form of two words refuses any parts with a value of `--turns` that is no number
 two_words_refuses : (f : Text → Text → Command) (ps ts : List Text) →
     is_refused (Some (record { positionals = ps; turns = ts })) ≡ true →
     two_words f ps ts ≡ None
@@ -336,7 +348,8 @@ two_words_refuses f (a ∷ []) (t ∷ ts) h = refl
 two_words_refuses f (a ∷ b ∷ []) (t ∷ ts) h = refl
 two_words_refuses f (a ∷ b ∷ c ∷ ps) (t ∷ ts) h = refl
 
--- a form of three words makes no command of words that are refused; by how many words and values there are
+-- a form of three words refuses any parts with a value of `--turns` that is no number; by how many words and values
+-- there are
 three_words_refuses : (f : Text → Text → Text → Command) (ps ts : List Text) →
     is_refused (Some (record { positionals = ps; turns = ts })) ≡ true →
     three_words f ps ts ≡ None
@@ -347,7 +360,7 @@ three_words_refuses f (a ∷ b ∷ []) (t ∷ ts) h = refl
 three_words_refuses f (a ∷ b ∷ c ∷ []) (t ∷ ts) h = refl
 three_words_refuses f (a ∷ b ∷ c ∷ d ∷ ps) (t ∷ ts) h = refl
 
--- `play` makes no command of words that are refused; by how many words and values there are
+-- `play` refuses any parts with a value of `--turns` that is no number; by how many words and values there are
 play_refuses : (ps ts : List Text) → is_refused (Some (record { positionals = ps; turns = ts })) ≡ true →
     play_of ps ts ≡ None
 play_refuses [] ts h = refl
@@ -358,7 +371,7 @@ play_refuses (a ∷ b ∷ c ∷ []) [] h = refl
 play_refuses (a ∷ b ∷ c ∷ []) (t ∷ u ∷ ts) h = refl
 play_refuses (a ∷ b ∷ c ∷ []) (t ∷ []) h = rw (not_number (number t) h) refl
 
--- `trial` refuses what is refused
+-- `trial` refuses any parts with a value of `--turns` that is no number
 trial_refuses : (ps ts : List Text) → is_refused (Some (record { positionals = ps; turns = ts })) ≡ true →
     trial_of ps ts ≡ None
 trial_refuses ps [] h = cc
@@ -366,7 +379,7 @@ trial_refuses [] (t ∷ ts) h = refl
 trial_refuses (a ∷ []) (t ∷ ts) h = refl
 trial_refuses (a ∷ b ∷ ps) (t ∷ ts) h = refl
 
--- `hyper` refuses what is refused
+-- `hyper` refuses any parts with a value of `--turns` that is no number
 hyper_refuses : (ps ts : List Text) → is_refused (Some (record { positionals = ps; turns = ts })) ≡ true →
     hyper_of ps ts ≡ None
 hyper_refuses ps [] h = cc

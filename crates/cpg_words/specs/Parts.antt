@@ -13,9 +13,11 @@ Text = List ℕ
 abbrev pub texts : List (Bor Text) → List Text
 texts = map (λ w. w.now)
 
--- The positionals, and the values of `--turns`, in the order of the words.
+-- What the words after a command's name are split into.
 pub record Parts : Type 0 where
+  -- the positionals, in the order of the words
   pub positionals : List Text
+  -- the values of `--turns`, in the order of the words
   pub turns : List Text
 
 -- The parts with one more positional in front.

@@ -1,4 +1,5 @@
--- Proof of `least_cycles_are_least`: `least_cycle` is the least time after which tables may be used again.
+-- Proof of `least_cycles_are_least`: `least_cycle` is the least cycle time: the least after which the tables may be used
+-- again.
 use Rattle.cpg_cluster.proofs.Cycles.{least_cycles as law}
 use Rattle.cpg_cluster.proofs.least_cycles_are_least.Goals as goal
 

@@ -3,6 +3,6 @@
 use Rattle.cpg_follow_laws.proofs.Ranges.{frames_contradict_where_they_tell as law}
 use Rattle.cpg_follow_laws.proofs.frames_contradict_where_they_tell.Goals as goal
 
--- `frames_contradict_where_they_tell` of `Ranges` says just this
+-- `frames_contradict_where_they_tell` of `Ranges` proves this law
 pub returns : goal.returns
 returns c = law

@@ -3,6 +3,6 @@
 use Rattle.cpg_follow_laws.proofs.Follow.{plays_are_followed as law}
 use Rattle.cpg_follow_laws.proofs.plays_are_followed.Goals as goal
 
--- `plays_are_followed` of `Follow` says just this
+-- `plays_are_followed` of `Follow` proves this law
 pub returns : goal.returns
 returns c = law

@@ -1,4 +1,5 @@
--- Proof of `latest_are_frozen`: the frozen times of a graph are those that the latest times of all tracks give.
+-- Proof of `latest_are_frozen`: the frozen times of a graph are the latest times of its frozen items over all tracks,
+-- as if they were not frozen.
 use Rattle.cpg_latest.proofs.latest_are_frozen.Goals as goal
 use Rattle.cpg_latest.proofs.OverTracks.{frozen_times}
 

@@ -1,4 +1,5 @@
--- Proof of `latest_are_reached`: each latest time with n faults is reached in some run with at most n faults.
+-- Proof of `latest_are_reached`: each latest time of an outcome with n faults is reached in some run of it with at most
+-- n faults.
 use Rattle.cpg_latest.proofs.latest_are_reached.Goals as goal
 use Rattle.cpg_latest.proofs.Reached.{are_reached}
 

@@ -1,4 +1,4 @@
--- Proof of `outcome`: runs the program over a shelf and two sinks.
+-- Proof of `outcome`: runs the program over a shelf and two sinks, and returns its exit status.
 use Rattle.std.proofs.Common.{arith, inl, refl}
 use Rattle.cpg_io.proofs.Agreeing.{fetched_same}
 use Rattle.cpgc.proofs.outcome.Goals as goal

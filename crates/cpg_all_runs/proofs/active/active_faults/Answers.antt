@@ -1,4 +1,4 @@
--- Proof of `active_faults`: the number of each process, in a list.
+-- Proof of `active_faults`: `active_fault` of each process, in the order of their numbers.
 use Rattle.cpg_base.proofs.Lists.{map_below_push}
 use Rattle.cpg_all_runs.specs.Active.{active_fault}
 use Rattle.cpg_all_runs.proofs.active.active_faults.Goals as goal

@@ -1,4 +1,4 @@
--- Loops of `active_faults`: the number of each process, in a list.
+-- Loops of `active_faults`: `active_fault` of each process, in the order of their numbers.
 use Rattle.std.proofs.Common.{◌≡◌, map}
 use Rattle.cpg_base.specs.Numbers.{numbers_below}
 use Rattle.cpg_all_runs.specs.Active.{active_fault}

@@ -1,4 +1,4 @@
--- Loops of `active_numbers`: the number of each process and then of each condition.
+-- Loops of `active_numbers`: `active_fault` of each process and then `active_value` of each condition.
 use Rattle.std.proofs.Common.{◌≡◌, ◌++◌, map}
 use Rattle.cpg_base.specs.Numbers.{numbers_below}
 use Rattle.cpg_base.specs.Graph.{process_count}

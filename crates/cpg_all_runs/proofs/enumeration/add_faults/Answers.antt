@@ -1,5 +1,5 @@
--- Proof of `add_faults`: adds the scenario with each count of a process that the graph allows together with the other
--- counts.
+-- Proof of `add_faults`: adds the scenario with each fault count of a process that the faults left by the other
+-- processes allow.
 use Rattle.std.proofs.Common.{◌∙◌, ap}
 use Rattle.cpg_all_runs.specs.Listing.{with_fault}
 use Rattle.cpg_all_runs.proofs.Listed.{appended_push}

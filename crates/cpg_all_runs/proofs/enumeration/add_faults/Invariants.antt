@@ -1,5 +1,5 @@
--- Loops of `add_faults`: adds the scenario with each count of a process that the graph allows together with the other
--- counts.
+-- Loops of `add_faults`: adds the scenario with each fault count of a process that the faults left by the other
+-- processes allow.
 use Rattle.std.proofs.Common.{◌≡◌, ◌++◌, map}
 use Rattle.cpg_base.specs.Numbers.{numbers_below}
 use Rattle.cpg_all_runs.specs.Listing.{with_fault}

@@ -1,4 +1,4 @@
--- Proof of `faulty`: the scenarios in which every value is false.
+-- Proof of `faulty`: the scenarios in which every value is false, with faults in all processes.
 use Rattle.std.proofs.Common.{◌∙◌, ◌++◌, ◌∷◌, [], ap, sym, subst, length, All, arith}
 use Rattle.cpg_base.specs.Scenario.{IsScenario}
 use Rattle.cpg_all_runs.proofs.Listed.{faults_first, faults_more, all_lawful_faults}

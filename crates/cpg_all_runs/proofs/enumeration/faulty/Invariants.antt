@@ -1,4 +1,4 @@
--- Loops of `faulty`: the scenarios in which every value is false.
+-- Loops of `faulty`: the scenarios in which every value is false, with faults in all processes.
 use Rattle.std.proofs.Common.{◌≡◌}
 use Rattle.cpg_all_runs.specs.Listing.{with_faults_below}
 use Rattle.cpg_all_runs.proofs.enumeration.faulty.Given as goal

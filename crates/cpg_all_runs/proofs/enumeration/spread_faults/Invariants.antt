@@ -1,4 +1,4 @@
--- Loops of `spread_faults`: each scenario with each count of a process.
+-- Loops of `spread_faults`: each of the scenarios with each fault count of a process that the others leave.
 use Rattle.std.proofs.Common.{◌≡◌, take}
 use Rattle.std.specs.List.{flat_map}
 use Rattle.cpg_all_runs.specs.Listing.{with_each_fault}

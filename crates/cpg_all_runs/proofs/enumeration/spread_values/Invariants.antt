@@ -1,4 +1,4 @@
--- Loops of `spread_values`: each scenario with both values of a condition.
+-- Loops of `spread_values`: each of the scenarios as it is, and with the condition true.
 use Rattle.std.proofs.Common.{◌≡◌, take}
 use Rattle.std.specs.List.{flat_map}
 use Rattle.cpg_all_runs.specs.Listing.{with_both}

@@ -33,7 +33,7 @@ returns c = λ order frozen topological are.
     let numbers = c.in_ok-numbers.numbers.items in
     -- the place as the search found it, said of the graph, its urgency order and the list of excesses
     let at = c.first_greatest-at.result in
-    let first : IsFirstGreatest g urgency (length list) list numbers at =
+    let is_first : IsFirstGreatest g urgency (length list) list numbers at =
     subst (λ ns. IsFirstGreatest g urgency (length list) list ns at) c.as_slice.ensures.value
     (subst (λ u. IsFirstGreatest g u (length list) list c.as_slice.result.now at) c.order.ensures.order
     (subst (λ h. IsFirstGreatest h c.order.result.now (length list) list c.as_slice.result.now at)
@@ -45,12 +45,12 @@ returns c = λ order frozen topological are.
     -- the excess at that place is the greatest, its scenario and process the least that have it
     subst (λ n. IsExcess g urgency order frozen n c.in_ok-scenario.scenario by)
     (sym (c.index.ensures ∙ get_or_default numbers at c.index.result.now 0
-    (omega (arith, first.there, ap length read, length-map runs (excess_in_run g), c.requires.count))))
-    (is_excess g order topological urgency frozen list c.requires.scenarios runs are numbers at first
+    (omega (arith, is_first.there, ap length read, length-map runs (excess_in_run g), c.requires.count))))
+    (is_excess g order topological urgency frozen list c.requires.scenarios runs are numbers at is_first
     c.in_ok-scenario.scenario t
     (λ d. c.in_ok-scenario.ensures ∙ c.index-scenarios-at.is
-    ∙ get_or_default list at c.index-scenarios-at.result d first.there)
-    (λ d. c.index-runs-at.is ∙ get_or_default runs at t d (omega (arith, first.there, c.requires.count)))
+    ∙ get_or_default list at c.index-scenarios-at.result d is_first.there)
+    (λ d. c.index-runs-at.is ∙ get_or_default runs at t d (omega (arith, is_first.there, c.requires.count)))
     by read
     (subst (λ h. IsLeastExceeding h t (excess_in_run h t) by) c.problem-3.ensures.problem
     c.most_exceeding-process.ensures))

@@ -1,4 +1,4 @@
--- Proof of `excess_in_run`: the greatest excess of a run.
+-- Proof of `excess_in_run`: how far an end of a run is past its due at most, or 0 if none is.
 use Rattle.std.proofs.Common.{◌∙◌, ap₂, max, sym}
 use Rattle.cpg_run.specs.Finish.{excess_of}
 use Rattle.cpg_all_runs.proofs.Firsts.{greatest_more, the_max}

@@ -1,4 +1,4 @@
--- Loops of `excess_in_run`: the greatest excess of a run.
+-- Loops of `excess_in_run`: how far an end of a run is past its due at most, or 0 if none is.
 use Rattle.std.proofs.Common.{◌≡◌, map}
 use Rattle.cpg_base.specs.Numbers.{greatest, numbers_below}
 use Rattle.cpg_run.specs.Finish.{excess_of}

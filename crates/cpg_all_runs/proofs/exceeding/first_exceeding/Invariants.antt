@@ -1,4 +1,5 @@
--- Loops of `first_exceeding`: the first process with this excess.
+-- Loops of `first_exceeding`: the first process whose end is past its due by `excess`, and `None` exactly if there is
+-- none.
 use Rattle.std.proofs.Common.{ℕ, ◌<◌, ◌≢◌}
 use Rattle.cpg_run.specs.Finish.{excess_of}
 use Rattle.cpg_all_runs.proofs.exceeding.first_exceeding.Given as goal

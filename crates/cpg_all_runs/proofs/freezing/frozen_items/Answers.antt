@@ -1,4 +1,4 @@
--- Proof of `frozen_items`: the frozen items along an order.
+-- Proof of `frozen_items`: the frozen items of all processes, along an order.
 use Rattle.std.proofs.Common.{ℕ, ◌+◌, ◌≡◌, ◌∙◌, ◌<◌, ◌≤◌, List, [], ◌∷◌, ◌++◌, ap, ap₂, append-nil, get_or, length}
 use Rattle.std.proofs.Common.{subst, sym, take}
 use Rattle.std.specs.List.{flat_map}
@@ -19,9 +19,9 @@ add_frozen_of-requires-clause-process c =
 one_more : (f : ℕ → List ℕ) (list order : List ℕ) (i : ℕ) (old new : List ℕ) → list ≡ order → i < length list →
     old ≡ flat_map f (take i order) → new ≡ old ++ f (get_or list i 0) → new ≡ flat_map f (take (i + 1) order)
 one_more f list order i old new is within before more =
-    let there : i < length order = subst (λ (xs : List ℕ). i < length xs) is within in
+    let inside : i < length order = subst (λ (xs : List ℕ). i < length xs) is within in
     more ∙ ap₂ (λ (xs : List ℕ) (p : ℕ). xs ++ f p) before (ap (λ (xs : List ℕ). get_or xs i 0) is)
-    ∙ sym (ap (λ (xs : List ℕ). flat_map f xs) (take_more order i 0 there)
+    ∙ sym (ap (λ (xs : List ℕ). flat_map f xs) (take_more order i 0 inside)
     ∙ flat_map-append f (take i order) (get_or order i 0 ∷ [])
     ∙ ap (λ (xs : List ℕ). flat_map f (take i order) ++ xs) (append-nil (f (get_or order i 0))))
 

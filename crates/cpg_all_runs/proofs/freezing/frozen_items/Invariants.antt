@@ -1,4 +1,4 @@
--- Loops of `frozen_items`: the frozen items along an order.
+-- Loops of `frozen_items`: the frozen items of all processes, along an order.
 use Rattle.std.proofs.Common.{◌≡◌, take}
 use Rattle.cpg_run.specs.FrozenItems.{frozen_along}
 use Rattle.cpg_all_runs.proofs.freezing.frozen_items.Given as goal

@@ -1,5 +1,5 @@
--- Proof of `sweep`: the times of the frozen items, as in `frozen_times`, given these items along the order and
--- scenarios that show all runs.
+-- Proof of `sweep`: the times of the frozen items under an order, given these items along the order and scenarios that
+-- show all runs.
 use Rattle.std.proofs.Common.{◌≡◌, ◌∙◌, ◌<◌, Contains, get_or, refl, sym, ap, subst, arith}
 use Rattle.std.proofs.lemmas.List.Elements.{All-weaker, All-contains_itself}
 use Rattle.cpg_base.specs.Scenario.{IsScenario}
@@ -52,9 +52,9 @@ advance-requires-clause-ahead c =
     let g = c.args.setting.now.problem.now in
     let order = c.args.setting.now.order.now in
     let x = get_or c.args.items.now c.loop-item.item-index 0 in
-    let there : c.place-next.result ≡ place_of_item g order x =
+    let place_is : c.place-next.result ≡ place_of_item g order x =
     c.place-next.ensures.place ∙ ap (place order) (c.producer.ensures.producer) in
-    omega (arith, there, c.loop-item.invariant.ahead c.loop-item.item-index (omega arith) c.loop-item-test.true)
+    omega (arith, place_is, c.loop-item.invariant.ahead c.loop-item.item-index (omega arith) c.loop-item-test.true)
 
 -- the place is one of the order
 pub advance-requires-clause-place : goal.advance-requires-clause-place
@@ -110,7 +110,7 @@ loop-item-preserved c =
     let n = c.loop-item.item-index in
     let x = get_or items n 0 in
     -- the item's process is at the place that has been reached
-    let there : place_of_item g order x ≡ c.place-next.result =
+    let place_is : place_of_item g order x ≡ c.place-next.result =
     sym (c.place-next.ensures.place ∙ ap (place order) (c.producer.ensures.producer)) in
     let settled = c.loop-item.invariant.settled in
     -- what is settled, what was found before the place, and which items come no earlier
@@ -119,13 +119,13 @@ loop-item-preserved c =
           c.requires.setting.admitted.1.limits c.loop-item-test.true
           c.settle.new.frozen c.in_ok-settle.ensures.item c.in_ok-settle.ensures.others c.in_ok-settle.ensures.count;
       along = along_kept g order c.loop-item.frozen c.place-next.result c.args.scenarios.now
-          c.requires.setting.topological c.settle.new.frozen x c.advance.new.found.items there
+          c.requires.setting.topological c.settle.new.frozen x c.advance.new.found.items place_is
           c.in_ok-settle.ensures.others c.in_ok-advance.ensures;
       ahead = λ j l k.
           let within = (item_frozen g order c.requires.setting.topological items n c.loop-item.frozen settled j k).0 in
           omega (
             arith,
-            there,
+            place_is,
             later_place g order x (get_or items j 0) within
                 (later_moment g order c.requires.setting.topological items settled.all n j (omega arith) k),
           );

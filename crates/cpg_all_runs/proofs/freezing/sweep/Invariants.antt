@@ -1,5 +1,5 @@
--- Loops of `sweep`: the times of the frozen items, as in `frozen_times`, given these items along the order and
--- scenarios that show all runs.
+-- Loops of `sweep`: the times of the frozen items under an order, given these items along the order and scenarios that
+-- show all runs.
 use Rattle.std.proofs.Common.{ℕ, ◌≤◌, ◌<◌, length, get_or}
 use Rattle.cpg_all_runs.specs.Sweep.{AreAlong, place_of_item}
 use Rattle.cpg_run.proofs.Settled.{AreSettled}

@@ -25,6 +25,7 @@ loop-at-preserved c =
     let order = c.args.setting.now.order.now in
     let frozen = c.args.frozen.now in
     let list = c.args.scenarios.now in
+    -- the scenario at this place has a run
     let r = a_run g order frozen c.index-scenarios-at.result c.requires.setting.topological in
     subst (IsLatest g order frozen c.args.item (c.loop-at.at + 1) list)
     (sym (c.later-latest.ensures ∙ ap (later c.loop-at.latest) (c.in_ok-time.ensures r.0 r.1)))

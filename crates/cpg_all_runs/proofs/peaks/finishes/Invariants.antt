@@ -1,4 +1,4 @@
--- Loops of `finishes`: when each run finishes.
+-- Loops of `finishes`: the finish of each run, in their order.
 use Rattle.std.proofs.Common.{◌≡◌, map, take}
 use Rattle.cpg_all_runs.proofs.peaks.finishes.Given as goal
 

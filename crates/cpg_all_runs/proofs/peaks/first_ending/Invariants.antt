@@ -1,4 +1,5 @@
--- Loops of `first_ending`: the first of this many processes that ends at a time.
+-- Loops of `first_ending`: the least process with a number below `processes` that ends at a time, and `None` exactly if
+-- none does.
 use Rattle.std.proofs.Common.{ℕ, ◌<◌, ◌≢◌, get_or, Some, None}
 use Rattle.cpg_all_runs.proofs.peaks.first_ending.Given as goal
 

@@ -1,4 +1,5 @@
--- Proof of `worst`: the greatest finish over all scenarios of a graph, given all of them and the run of each.
+-- Proof of `worst`: the greatest finish over all scenarios of a graph, with the first scenario and the first process
+-- that have it.
 use Rattle.std.proofs.Common.{◌≢◌, ◌<◌, ◌∙◌, ℕ, IfSome, IfNone, Some, None, get_or, length, sym, ap, subst, arith}
 use Rattle.std.proofs.lemmas.List.{get_or_default, length-map}
 use Rattle.cpg_base.specs.Graph.{process_count}
@@ -32,7 +33,7 @@ returns c = λ order frozen topological are.
     let numbers = c.in_ok-numbers.numbers.items in
     let at = c.first_greatest-at.result in
     -- the place as the search found it, said of the graph, its urgency order and the list of finishes
-    let first : IsFirstGreatest g urgency (length list) list numbers at =
+    let is_first : IsFirstGreatest g urgency (length list) list numbers at =
     subst (λ ns. IsFirstGreatest g urgency (length list) list ns at) c.as_slice.ensures.value
     (subst (λ u. IsFirstGreatest g u (length list) list c.as_slice.result.now at) c.order.ensures.order
     (subst (λ h. IsFirstGreatest h c.order.result.now (length list) list c.as_slice.result.now at)
@@ -44,12 +45,12 @@ returns c = λ order frozen topological are.
     -- the finish at that place is the greatest, its scenario and process the least that have it
     subst (λ n. IsWorst g urgency order frozen n c.in_ok-scenario.scenario by)
     (sym (c.index.ensures ∙ get_or_default numbers at c.index.result.now 0
-    (omega (arith, first.there, ap length read, length-map runs (λ u. u.finish), c.requires.count))))
-    (is_worst g order topological urgency frozen list c.requires.scenarios runs are numbers at first
+    (omega (arith, is_first.there, ap length read, length-map runs (λ u. u.finish), c.requires.count))))
+    (is_worst g order topological urgency frozen list c.requires.scenarios runs are numbers at is_first
     c.in_ok-scenario.scenario t
     (λ d. c.in_ok-scenario.ensures ∙ c.index-scenarios-at.is
-    ∙ get_or_default list at c.index-scenarios-at.result d first.there)
-    (λ d. c.index-runs-at.is ∙ get_or_default runs at t d (omega (arith, first.there, c.requires.count)))
+    ∙ get_or_default list at c.index-scenarios-at.result d is_first.there)
+    (λ d. c.index-runs-at.is ∙ get_or_default runs at t d (omega (arith, is_first.there, c.requires.count)))
     by read
     (subst (λ n. IfSome by (λ p. IsFirstEnding t n p)) c.finish.ensures c.first_ending-process.ensures.found)
     (subst (λ n. IfNone by ((q : ℕ) → q < process_count g → get_or t.ends q None ≢ Some n)) c.finish.ensures

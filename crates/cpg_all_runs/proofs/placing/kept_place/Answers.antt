@@ -1,4 +1,4 @@
--- Proof of `kept_place`: the place of a list of numbers.
+-- Proof of `kept_place`: the place that a list of numbers has in the map, or `at`, which it gets if it has none yet.
 use Rattle.std.proofs.Common.{◌≡◌, Some, None, inl, inr, refl, sym, subst}
 use Rattle.cpg_all_runs.specs.Placed.{place_in}
 use Rattle.cpg_all_runs.proofs.placing.kept_place.Goals as goal

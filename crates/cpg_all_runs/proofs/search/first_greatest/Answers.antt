@@ -1,4 +1,5 @@
--- Proof of `first_greatest`: the place of the greatest of the numbers of scenarios.
+-- Proof of `first_greatest`: the place of the greatest of the numbers of scenarios, and of several the one whose
+-- scenario comes first in the urgency order.
 use Rattle.std.proofs.Common.{◌≡◌, ◌∙◌, get_or, sym, ap₂, arith, inl, inr}
 use Rattle.std.proofs.lemmas.Bool.{cases_lt, both_ways}
 use Rattle.std.proofs.lemmas.List.{get_or_default}

@@ -1,4 +1,5 @@
--- Loops of `first_greatest`: the place of the greatest of the numbers of scenarios.
+-- Loops of `first_greatest`: the place of the greatest of the numbers of scenarios, and of several the one whose
+-- scenario comes first in the urgency order.
 use Rattle.cpg_all_runs.specs.Peaks.{IsFirstGreatest}
 use Rattle.cpg_all_runs.proofs.search.first_greatest.Given as goal
 

@@ -1,4 +1,4 @@
--- Loops of `advance`: for each scenario, goes on from a place to another that isn't before it.
+-- Loops of `advance`: for each scenario, finds its run on from a place up to another that isn't before it.
 use Rattle.cpg_all_runs.specs.Sweep.{AreAlong}
 use Rattle.cpg_all_runs.proofs.sweeping.advance.Given as goal
 

@@ -1,4 +1,4 @@
--- Proof of `step_each`: for each scenario, finds the times of the process at a place.
+-- Proof of `step_each`: for each scenario, finds the times of the process at a place and of what it sends.
 use Rattle.std.proofs.Common.{◌∙◌, ◌+◌, refl, sym, subst, arith}
 use Rattle.std.proofs.lemmas.List.{get_or_default}
 use Rattle.cpg_run.specs.Progress.{IsAlong}

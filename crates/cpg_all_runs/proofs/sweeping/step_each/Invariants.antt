@@ -1,4 +1,4 @@
--- Loops of `step_each`: for each scenario, finds the times of the process at a place.
+-- Loops of `step_each`: for each scenario, finds the times of the process at a place and of what it sends.
 use Rattle.cpg_all_runs.proofs.Swept.{AreStepped}
 use Rattle.cpg_all_runs.proofs.sweeping.step_each.Given as goal
 

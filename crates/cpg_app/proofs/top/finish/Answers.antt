@@ -16,6 +16,7 @@ use Rattle.cpg_app.proofs.top.finish.Goals as goal
 pub follow-requires-clause-may : goal.follow-requires-clause-may
 follow-requires-clause-may g c =
     let asked = c.requires.may in
+    -- the output is a node that is to follow a stream, so the command is `live`
     let live : IsLive asked.command asked.values c.in-Ok-Stream.follower c.in-Ok-Stream.stream =
     live_of asked.command asked.values c.in-Ok-Stream.follower c.in-Ok-Stream.stream
     (subst (Answers asked.command asked.values) c.in-Ok-Stream.field-0-is
@@ -27,6 +28,7 @@ follow-requires-clause-may g c =
 pub follow-requires-clause-opened : goal.follow-requires-clause-opened
 follow-requires-clause-opened g c =
     let asked = c.requires.may in
+    -- the output is a node that is to follow a stream, so the command is `live`
     let live : IsLive asked.command asked.values c.in-Ok-Stream.follower c.in-Ok-Stream.stream =
     live_of asked.command asked.values c.in-Ok-Stream.follower c.in-Ok-Stream.stream
     (subst (Answers asked.command asked.values) c.in-Ok-Stream.field-0-is
@@ -58,6 +60,7 @@ put_pack-requires g c =
 -- the output is a text, which was written or met a fault, so the run ends lawfully
 pub returns-in-Ok-Lines-clause-lawful : goal.returns-in-Ok-Lines-clause-lawful
 returns-in-Ok-Lines-clause-lawful g c words start at =
+    -- the run, as it ends
     let r : Ran = record {
       words = words;
       shelf = seen start (g.S.Shelf.state c.args.shelf.now);
@@ -65,6 +68,7 @@ returns-in-Ok-Lines-clause-lawful g c words start at =
       err = sent (g.E.Sink.state c.args.err.now) (g.E.Sink.state c.end.new.err);
       status = c.end.result;
     } in
+    -- its words are the command, whose files were read, and the output answers it
     let has : Has r at.command at.has.values = record { words = at.words; reads = at.has.reads } in
     let puts = text_of at.command at.has.values (Lines c.in-Ok-Lines.text) tt
     (subst (Answers at.command at.has.values) c.in-Ok-Lines.field-0-is
@@ -77,6 +81,7 @@ returns-in-Ok-Lines-clause-lawful g c words start at =
 -- the output is the text of a graph's tables, which was written or met a fault
 pub returns-in-Ok-Table-clause-lawful : goal.returns-in-Ok-Table-clause-lawful
 returns-in-Ok-Table-clause-lawful g c words start at =
+    -- the run, as it ends
     let r : Ran = record {
       words = words;
       shelf = seen start (g.S.Shelf.state c.args.shelf.now);
@@ -84,6 +89,7 @@ returns-in-Ok-Table-clause-lawful g c words start at =
       err = sent (g.E.Sink.state c.args.err.now) (g.E.Sink.state c.end-in-Ok-Table.new.err);
       status = c.end-in-Ok-Table.result;
     } in
+    -- its words are the command, whose files were read, and the output answers it
     let has : Has r at.command at.has.values = record { words = at.words; reads = at.has.reads } in
     let puts = text_of at.command at.has.values (Shown c.in-Ok-Table.made) tt
     (subst (Answers at.command at.has.values) c.in-Ok-Table.field-0-is
@@ -96,6 +102,7 @@ returns-in-Ok-Table-clause-lawful g c words start at =
 -- the output is the text of a node's table, which was written or met a fault
 pub returns-in-Ok-NodeTable-clause-lawful : goal.returns-in-Ok-NodeTable-clause-lawful
 returns-in-Ok-NodeTable-clause-lawful g c words start at =
+    -- the run, as it ends
     let r : Ran = record {
       words = words;
       shelf = seen start (g.S.Shelf.state c.args.shelf.now);
@@ -103,6 +110,7 @@ returns-in-Ok-NodeTable-clause-lawful g c words start at =
       err = sent (g.E.Sink.state c.args.err.now) (g.E.Sink.state c.end-in-Ok-NodeTable.new.err);
       status = c.end-in-Ok-NodeTable.result;
     } in
+    -- its words are the command, whose files were read, and the output answers it
     let has : Has r at.command at.has.values = record { words = at.words; reads = at.has.reads } in
     let puts = text_of at.command at.has.values (OfNode c.in-Ok-NodeTable.tables c.in-Ok-NodeTable.node) tt
     (subst (Answers at.command at.has.values) c.in-Ok-NodeTable.field-0-is
@@ -115,6 +123,7 @@ returns-in-Ok-NodeTable-clause-lawful g c words start at =
 -- the output is a pack, which was written or met a fault
 pub returns-in-Ok-Pack-clause-lawful : goal.returns-in-Ok-Pack-clause-lawful
 returns-in-Ok-Pack-clause-lawful g c words start at =
+    -- the run, as it ends
     let r : Ran = record {
       words = words;
       shelf = seen start (g.S.Shelf.state c.args.shelf.now);
@@ -122,6 +131,7 @@ returns-in-Ok-Pack-clause-lawful g c words start at =
       err = sent (g.E.Sink.state c.args.err.now) (g.E.Sink.state c.end-in-Ok-Pack.new.err);
       status = c.end-in-Ok-Pack.result;
     } in
+    -- its words are the command, whose files were read, and the output answers it
     let has : Has r at.command at.has.values = record { words = at.words; reads = at.has.reads } in
     let puts = text_of at.command at.has.values (Pack c.in-Ok-Pack.made) tt
     (subst (Answers at.command at.has.values) c.in-Ok-Pack.field-0-is
@@ -134,6 +144,7 @@ returns-in-Ok-Pack-clause-lawful g c words start at =
 -- the node followed its stream, to the close or not, so the run ends lawfully
 pub returns-in-Ok-Stream-clause-lawful : goal.returns-in-Ok-Stream-clause-lawful
 returns-in-Ok-Stream-clause-lawful g c words start at =
+    -- the run, as it ends
     let r : Ran = record {
       words = words;
       shelf = seen start (g.S.Shelf.state c.follow.new.shelf);
@@ -151,6 +162,7 @@ returns-in-Ok-Stream-clause-lawful g c words start at =
 -- the work stopped, and the line that says so was written or met a fault
 pub returns-in-Err-clause-lawful : goal.returns-in-Err-clause-lawful
 returns-in-Err-clause-lawful g c words start at =
+    -- the run, as it ends
     let r : Ran = record {
       words = words;
       shelf = seen start (g.S.Shelf.state c.args.shelf.now);
@@ -158,6 +170,7 @@ returns-in-Err-clause-lawful g c words start at =
       err = sent (g.E.Sink.state c.args.err.now) (g.E.Sink.state c.stop.new.err);
       status = c.stop.result;
     } in
+    -- its words are the command, whose files were read, and the output answers it
     let has : Has r at.command at.has.values = record { words = at.words; reads = at.has.reads } in
     stopped_lawful r c.in-Err.halt
     (inr (inr (record { command = at.command; values = at.has.values; has = has; stops = c.in-Err.ensures.halt at.command at.has.values at.has.are })))

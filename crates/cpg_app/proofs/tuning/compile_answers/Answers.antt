@@ -13,7 +13,9 @@ loop-faults-preserved c =
     let g : Graph = c.args.admitted.graph in
     let varied = c.in_ok-varied.varied in
     let faults = c.loop-faults.faults in
+    -- the varied graph is the graph with this fault number
     let is : varied.graph ≡ with_fault_number g faults = c.in_ok-varied.ensures.graph ∙ c.loop-faults.invariant.same faults in
+    -- it is admitted, and its compile gives its answer
     let judged : IsJudged varied.graph c.in_ok-compile_answer.field-0 = record {
       order = varied.order;
       guards = varied.guards;

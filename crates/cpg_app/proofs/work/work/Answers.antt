@@ -65,15 +65,15 @@ returns-in-Node-clause-halt c command values are = stops_node command values c.n
 
 -- `live` is ready to follow the stream, as a follower of the node
 pub returns-in-Live-clause-output : goal.returns-in-Live-clause-output
-returns-in-Live-clause-output c command values are = of_live command values c.opened.result c.in-Live.tables
+returns-in-Live-clause-output c command values are = of_live command values c.follower_named.result c.in-Live.tables
     c.in-Live.name c.in-Live.stream (subst (AreInputs command values) c.in-Live.is are)
-    (rw c.as_str-in-Live.ensures at c.opened.ensures.opens)
+    (rw c.as_str-in-Live.ensures at c.follower_named.ensures.opens)
 
 -- the tables have no node of this name, or memory runs out
 pub returns-in-Live-clause-halt : goal.returns-in-Live-clause-halt
-returns-in-Live-clause-halt c command values are = stops_live command values c.opened.result c.in-Live.tables
+returns-in-Live-clause-halt c command values are = stops_live command values c.follower_named.result c.in-Live.tables
     c.in-Live.name c.in-Live.stream (subst (AreInputs command values) c.in-Live.is are)
-    (rw c.as_str-in-Live.ensures at c.opened.ensures.halt)
+    (rw c.as_str-in-Live.ensures at c.follower_named.ensures.halt)
 
 -- `hyper` puts out the text of the graph of all instances
 pub returns-in-Hyper-clause-output : goal.returns-in-Hyper-clause-output

@@ -1,5 +1,5 @@
--- Proof of `audit`: the least scenario in the urgency order that gives a log: what is due on all nodes up to the log's
--- time is just what the log names, each at its time.
+-- Proof of `audit`: the least scenario in the urgency order that gives a log, which means that what is due on all nodes up
+-- to the log's time is just what the log names, each at its time. `None` exactly if no scenario gives it.
 use Rattle.std.proofs.Common.{ℕ, refl, ◌≡◌, ◌++◌, List, [], All, Bor, map, flat_map, sym, subst}
 use Rattle.std.proofs.lemmas.List.Elements.{All-map}
 use Rattle.cpg_base.specs.Numbers.{numbers_below}

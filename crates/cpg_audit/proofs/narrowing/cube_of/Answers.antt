@@ -1,4 +1,5 @@
--- Proof of `cube_of`: a cube that matches all scenarios of a space: it has the space's ranges of all variables.
+-- Proof of `cube_of`: a cube that matches all scenarios of a space: it has the space's ranges of all variables, except
+-- those that have all numbers.
 use Rattle.std.proofs.Common.{◌≤◌, length}
 use Rattle.cpg_audit.proofs.NarrowingLaws.{ranges_weaker, known_ranges, matches_space}
 use Rattle.cpg_audit.proofs.narrowing.cube_of.Goals as goal

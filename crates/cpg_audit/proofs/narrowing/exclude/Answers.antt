@@ -1,5 +1,5 @@
 -- Proof of `exclude`: narrows a space to the scenarios in which a literal doesn't hold, if these have one range of its
--- variable.
+-- variable; otherwise the space stays as it is.
 use Rattle.std.proofs.Common.{◌∙◌}
 use Rattle.std.proofs.Math.Bool.{and-true}
 use Rattle.cpg_cube.specs.Cube.{holds}

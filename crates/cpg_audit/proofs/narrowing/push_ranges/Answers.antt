@@ -1,5 +1,5 @@
--- Proof of `push_ranges`: adds to a cube the space's ranges of the variables from `first` up to `end`, this one left
--- out, except those that leave out no number of the variable.
+-- Proof of `push_ranges`: adds to a cube the space's ranges of the variables from `first` up to `end`, `end` itself left
+-- out, except those ranges that have all numbers of the variable.
 use Rattle.std.proofs.Common.{◌+◌, arith}
 use Rattle.std.proofs.lemmas.List.Elements.{All-push}
 use Rattle.cpg_audit.specs.Narrowing.{IsRange}

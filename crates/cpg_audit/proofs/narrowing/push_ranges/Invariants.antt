@@ -1,5 +1,5 @@
--- Loops of `push_ranges`: adds to a cube the space's ranges of the variables from `first` up to `end`, this one left
--- out, except those that leave out no number of the variable.
+-- Loops of `push_ranges`: adds to a cube the space's ranges of the variables from `first` up to `end`, `end` itself left
+-- out, except those ranges that have all numbers of the variable.
 use Rattle.std.proofs.Common.{All}
 use Rattle.cpg_audit.specs.Narrowing.{IsRange}
 use Rattle.cpg_audit.proofs.narrowing.push_ranges.Given as goal

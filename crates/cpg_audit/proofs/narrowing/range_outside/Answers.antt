@@ -1,4 +1,5 @@
--- Proof of `range_outside`: the range that a variable is in wherever in a space a literal on it doesn't hold.
+-- Proof of `range_outside`: a range that a literal's variable is in, in all scenarios of a space in which the literal
+-- doesn't hold. Without such a range nothing is to be shown.
 use Rattle.std.proofs.Common.{arith}
 use Rattle.cpg_audit.proofs.NarrowingLaws.{above_range, below_range}
 use Rattle.cpg_audit.proofs.narrowing.range_outside.Goals as goal

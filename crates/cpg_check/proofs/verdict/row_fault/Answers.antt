@@ -1,4 +1,4 @@
--- Proof of `row_fault`: the first violation of V1 to V3.
+-- Proof of `row_fault`: the first violation of V1 to V3, by rule, item and column, with its least scenario.
 use Rattle.std.proofs.Common.{◌∙◌, ap}
 use Rattle.cpg_base.specs.Graph.{item_count}
 use Rattle.cpg_check.proofs.verdict.row_fault.Goals as goal

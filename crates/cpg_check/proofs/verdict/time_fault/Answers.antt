@@ -1,4 +1,4 @@
--- Proof of `time_fault`: the first violation of V4 to V9.
+-- Proof of `time_fault`: the first violation of V4 to V9, by rule, item and column, with its least scenario.
 use Rattle.std.proofs.Common.{◌∙◌, ap}
 use Rattle.cpg_base.specs.Graph.{item_count}
 use Rattle.cpg_check.proofs.verdict.time_fault.Goals as goal

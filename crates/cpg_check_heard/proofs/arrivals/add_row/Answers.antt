@@ -1,5 +1,5 @@
--- Proof of `add_row`: adds the columns of a row that may match together with a cube, and whose frames may have come by
--- a time.
+-- Proof of `add_row`: adds to `arrivals` the columns of a row that may match together with a cube, and whose ends or
+-- frames may have come by a time.
 use Rattle.std.proofs.Common.{◌||◌, Contains, sym, ap, ◌∙◌, subst}
 use Rattle.std.specs.List.{list_any}
 use Rattle.std.proofs.Math.Bool.{or-false}
@@ -18,7 +18,7 @@ loop-place-preserved c =
     record {
       each =
           λ g known can old. c.in_ok-add_column.ensures.each g known can (c.loop-place.invariant.each g known can old);
-      told = λ g b s. row_more (is_telling_at g t.means c.args.time b t.row.now.columns.now s) places
+      told = λ g b s. row_more (is_telling_at g t.means c.args.time b t.sieved.now.columns.now s) places
           c.loop-place.place-index 0 c.loop-place-test.true
           (do_tell g c.args.time b c.args.arrivals.now.items s) (do_tell g c.args.time b c.loop-place.arrivals.items s)
           (do_tell g c.args.time b c.add_column.new.arrivals.items s)
@@ -32,9 +32,9 @@ returns-clause-told c = λ g b s m.
     let t = c.args.row.now in
     let places = c.as_slice-place-items.result.now in
     c.loop-place.invariant.told g b s ∙ ap (λ x. do_tell g c.args.time b c.args.arrivals.now.items s || x)
-    (ap (list_any (is_telling_at g t.means c.args.time b t.row.now.columns.now s))
+    (ap (list_any (is_telling_at g t.means c.args.time b t.sieved.now.columns.now s))
     (take_all c.loop-place.place-index places c.loop-place-test.false)
-    ∙ row_all g t.means c.args.time b t.row.now.columns.now places s
+    ∙ row_all g t.means c.args.time b t.sieved.now.columns.now places s
     (λ j l at.
     subst (λ xs. Contains xs j) (sym c.as_slice-place-items.ensures.value) (c.in_ok-places.ensures s j l at m)))
 
@@ -43,5 +43,5 @@ pub returns-then-not-may_have_come-clause-told : goal.returns-then-not-may_have_
 returns-then-not-may_have_come-clause-told c = λ g b s m.
     let t = c.args.row.now in
     let told = do_tell g c.args.time b c.args.arrivals.now.items s in
-    sym (ap (λ x. told || x) (late_row (is_telling g t.means c.args.time b s) t.row.now.columns.now t.row.now.first
+    sym (ap (λ x. told || x) (late_row (is_telling g t.means c.args.time b s) t.sieved.now.columns.now t.sieved.now.first
     c.requires.first (c.if-not-may_have_come.ensures g b s)) ∙ or-false told)

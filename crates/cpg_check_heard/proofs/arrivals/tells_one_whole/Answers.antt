@@ -1,5 +1,5 @@
--- Proof of `tells_one_whole`: whether one of these columns tells a bound by a time wherever a cube matches, as
--- `tells_whole` finds out.
+-- Proof of `tells_one_whole`: whether one of these columns tells a bound by a time, by a literal of its frame, wherever
+-- a cube matches.
 use Rattle.std.proofs.Common.{All}
 use Rattle.std.proofs.iter.Serving.{serving}
 use Rattle.cpg_cube.specs.Fit.{IsKnown}

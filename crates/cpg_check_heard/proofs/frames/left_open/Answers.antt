@@ -1,5 +1,5 @@
--- Proof of `left_open`: those of some bounds that none of these columns tells wherever a column matches, as
--- `tells_one_whole` finds out.
+-- Proof of `left_open`: those of some bounds that none of `arrivals` is found to tell wherever a column matches, by the
+-- column's time.
 use Rattle.std.proofs.Common.{All, sym, subst}
 use Rattle.std.proofs.lemmas.List.Elements.{All-push}
 use Rattle.cpg_base.specs.Graph.{IsVariable}

@@ -1,5 +1,5 @@
--- Loops of `left_open`: those of some bounds that none of these columns tells wherever a column matches, as
--- `tells_one_whole` finds out.
+-- Loops of `left_open`: those of some bounds that none of `arrivals` is found to tell wherever a column matches, by the
+-- column's time.
 use Rattle.std.proofs.Common.{◌≡◌, Bool, true, false, All, take}
 use Rattle.std.specs.List.{list_any}
 use Rattle.cpg_base.specs.Graph.{IsVariable}

@@ -1,5 +1,5 @@
 -- Proof of `first_unheard`: the place of the first column of an item's row that matches in a scenario in which the
--- item's node hasn't heard one of its literals by its time, with the least such scenario.
+-- item's node hasn't heard one of the column's literals by its time, with the least such scenario.
 use Rattle.std.proofs.Common.{◌≡◌, ◌<◌, ◌&&◌, ◌∙◌, false, Some, None, All, Contains, length, ap, sym, subst, arith, inl}
 use Rattle.std.proofs.Common.{inr}
 use Rattle.std.proofs.lemmas.Bool.{cases_lt}

@@ -1,5 +1,5 @@
 -- Loops of `first_unheard`: the place of the first column of an item's row that matches in a scenario in which the
--- item's node hasn't heard one of its literals by its time, with the least such scenario.
+-- item's node hasn't heard one of the column's literals by its time, with the least such scenario.
 use Rattle.std.proofs.Common.{ℕ, ◌≡◌, ◌<◌, false}
 use Rattle.cpg_base.specs.Scenario.{Scenario, IsScenario}
 use Rattle.cpg_check_heard.specs.Unheard.{is_unheard}

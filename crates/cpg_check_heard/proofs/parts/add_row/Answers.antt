@@ -20,12 +20,12 @@ loop-place-preserved c =
           c.in_ok-part.ensures.known);
       -- the cubes match where one of the places so far, or this one, tells the bound
       told = λ s i. row_more (is_telling_at g c.args.row.now.means c.args.time c.args.bound
-          c.args.row.now.row.now.columns.now s) places c.loop-place.place-index 0 c.loop-place-test.true
+          c.args.row.now.sieved.now.columns.now s) places c.loop-place.place-index 0 c.loop-place-test.true
           (list_any (λ b. matches b s) c.args.told.now.items) (list_any (λ b. matches b s) c.loop-place.told.items)
           (list_any (λ b. matches b s) c.add.new.told.items) (c.loop-place.invariant.told s i)
           (ap (list_any (λ b. matches b s)) c.in_ok-add.ensures
           ∙ told_add g (λ t. is_telling_at g c.args.row.now.means c.args.time c.args.bound
-          c.args.row.now.row.now.columns.now t (get_or places c.loop-place.place-index 0))
+          c.args.row.now.sieved.now.columns.now t (get_or places c.loop-place.place-index 0))
           c.loop-place.told.items c.in_ok-part.part c.in_ok-part.ensures.part s i);
     }
 
@@ -36,8 +36,8 @@ returns-clause-told c = λ s i m.
     let places = c.as_slice-place-items.result.now in
     c.loop-place.invariant.told s i ∙ ap (λ t. list_any (λ b. matches b s) c.args.told.now.items || t)
     (ap (list_any (is_telling_at g c.args.row.now.means c.args.time c.args.bound
-    c.args.row.now.row.now.columns.now s)) (take_all c.loop-place.place-index places c.loop-place-test.false)
-    ∙ row_all g c.args.row.now.means c.args.time c.args.bound c.args.row.now.row.now.columns.now places s
+    c.args.row.now.sieved.now.columns.now s)) (take_all c.loop-place.place-index places c.loop-place-test.false)
+    ∙ row_all g c.args.row.now.means c.args.time c.args.bound c.args.row.now.sieved.now.columns.now places s
     (λ j l t.
     subst (λ xs. Contains xs j) (sym c.as_slice-place-items.ensures.value) (c.in_ok-places.ensures s j l t m)))
 
@@ -47,6 +47,6 @@ returns-then-not-may_have_come-clause-told c = λ s i m.
     let g = c.args.problem.now in
     let t = c.args.row.now in
     let told = list_any (λ b. matches b s) c.args.told.now.items in
-    sym (ap (λ x. told || x) (late_row (is_telling g t.means c.args.time c.args.bound s) t.row.now.columns.now
-    t.row.now.first c.requires.row.first
+    sym (ap (λ x. told || x) (late_row (is_telling g t.means c.args.time c.args.bound s) t.sieved.now.columns.now
+    t.sieved.now.first c.requires.row.first
     (c.if-not-may_have_come.ensures g c.args.bound s)) ∙ or-false told)

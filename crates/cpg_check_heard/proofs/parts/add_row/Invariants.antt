@@ -15,6 +15,6 @@ invariant-loop-place l = record {
   known : All (IsKnown l.problem) l.told.items;
   told : (s : Scenario) → IsScenario l.problem s → list_any (λ b. matches b s) l.told.items ≡
       (list_any (λ b. matches b s) l.fn.told.items
-      || list_any (is_telling_at l.problem l.row.means l.time l.bound l.row.row.now.columns.now s)
+      || list_any (is_telling_at l.problem l.row.means l.time l.bound l.row.sieved.now.columns.now s)
       (take l.place-index l.place-items));
 }

@@ -1,5 +1,5 @@
 -- Proof of `counts_by`: with how many of the fault counts, from 0 on, an execution that starts at `start` ends by
--- `time`: with counts below the result it does, and with greater ones it doesn't.
+-- `time`: with fewer faults than the result it does, and with as many or more it doesn't.
 use Rattle.std.proofs.Common.{◌-◌, ◌<◌, arith}
 use Rattle.cpg_base.specs.Duration.{duration}
 use Rattle.cpg_check_heard.proofs.Counts.{counts_here}

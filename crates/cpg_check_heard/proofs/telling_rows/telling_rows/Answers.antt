@@ -18,11 +18,11 @@ loop-item-preserved c = λ tables are.
       c.item_count-item-end.ensures,
       ap item_count c.problem-problem.ensures.problem,
     ) in
-    let row : IsSievedRow (columns_of tables x) c.index-rows-item.result =
+    let sieved : IsSievedRow (columns_of tables x) c.index-rows-item.result =
     subst (IsSievedRow (columns_of tables x)) (sym c.index-rows-item.is) (are.each x c.index-rows-item.result below) in
     rows_more g tables x c.loop-item.telling_rows.items c.push.new.self.items _ c.in_ok-push.ensures.items
     (c.loop-item.invariant tables are)
-    (record { row = row; means = rw (← c.problem-problem.ensures.problem) c.means_of-means.ensures })
+    (record { sieved = sieved; means = rw (← c.problem-problem.ensures.problem) c.means_of-means.ensures })
 
 -- the loop has seen all items
 pub returns : goal.returns

@@ -18,6 +18,6 @@ loop-item-preserved c =
     (λ marked. c.requires.inputs c.loop-item.item below (sym c.is_marked-is_in_time.ensures ∙ marked))
     c.columns_of.ensures.columns)))
 
--- the loop has gone over all items
+-- the loop has gone over all items, so each that is marked is sure
 pub returns : goal.returns
 returns c = c.loop-item.invariant.sure

@@ -6,7 +6,7 @@ use Rattle.cpg_check_quick.proofs.OrderLaws.{told_at}
 use Rattle.cpg_check_quick.proofs.HeardRowLaws.{only_place}
 use Rattle.cpg_check_quick.proofs.heard_rows.alone.Goals as goal
 
--- there is one place, so the column there is the only one
+-- there is one place, so the column there is that at each place
 pub returns : goal.returns
 returns c = only_place c.args.columns.now c.args.places.now c.in-Some.column.now c.if-places-ne1.false
     (told_at (λ (d : Column). d ≡ c.in-Some.column.now) c.args.columns.now _ c.in-Some.column.now

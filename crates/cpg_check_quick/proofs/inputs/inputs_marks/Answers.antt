@@ -17,6 +17,6 @@ loop-item-preserved c = rw c.in_ok-push.ensures.items
     })
     c.requires.rules c.columns_of.ensures.columns)))
 
--- the loop has gone over all items
+-- the loop has gone over all items, so each that is marked is sure
 pub returns : goal.returns
 returns c = c.loop-item.invariant.sure

@@ -1,4 +1,4 @@
--- Proof of `is_start_sure`: whether V5 is known to hold at a start, which has these columns.
+-- Proof of `is_start_sure`: whether V5 is known to hold at the start of a process, which has these columns.
 use Rattle.std.proofs.Common.{◌≡◌, ◌<◌, All, Contains, ap, sym, ◌∙◌, subst}
 use Rattle.cpg_base.specs.Graph.{edge_count, inputs, process_at}
 use Rattle.cpg_tree.proofs.Passes.{of_true}

@@ -1,4 +1,4 @@
--- Proof of `are_all_known`: whether all literals of all these columns are on known variables.
+-- Proof of `are_all_known`: whether all literals of all these columns are on variables that `known` marks.
 use Rattle.std.proofs.Common.{◌≡◌, All, get_or, true, false}
 use Rattle.std.proofs.lemmas.Bool.{OnTrue_at}
 use Rattle.cpg_cube.specs.declared.literal.Literal.{Literal}
@@ -15,7 +15,7 @@ loop-column-preserved c =
     (OnTrue_at {P = All (λ (m : Literal). get_or c.args.known.now m.variable false ≡ true) c.column-item.result.cube}
     c.if-not-is_cube_known.false c.is_cube_known.ensures)
 
--- the loop has gone over all columns, so it holds of each
+-- the loop has gone over all columns, so what its invariant says of those so far holds of each
 pub returns : goal.returns
 returns c = each_all (λ (d : Column). All (λ (m : Literal). get_or c.args.known.now m.variable false ≡ true) d.cube)
     c.args.columns.now c.loop-column.column-index c.loop-column-test.false

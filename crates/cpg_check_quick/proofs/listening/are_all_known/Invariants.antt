@@ -1,4 +1,4 @@
--- Loops of `are_all_known`: whether all literals of all these columns are on known variables.
+-- Loops of `are_all_known`: whether all literals of all these columns are on variables that `known` marks.
 use Rattle.std.proofs.Common.{◌≡◌, All, get_or, take, true, false}
 use Rattle.cpg_cube.specs.declared.literal.Literal.{Literal}
 use Rattle.cpg_cube.specs.declared.column.Column.{Column}

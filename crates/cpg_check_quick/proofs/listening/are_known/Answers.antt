@@ -1,4 +1,4 @@
--- Proof of `are_known`: whether all literals are on known variables.
+-- Proof of `are_known`: whether all these literals are on variables that `known` marks.
 use Rattle.std.proofs.Common.{◌≡◌, get_or, true, false}
 use Rattle.std.proofs.lemmas.Bool.{OnTrue_from, and_parts}
 use Rattle.std.proofs.lemmas.List.Elements.{All-more}
@@ -14,7 +14,7 @@ loop-literal-preserved c both =
     c.loop-literal.literal-index (record { variable = 0; low = 0; high = 0 }) c.loop-literal-test.true
     (c.loop-literal.invariant parts.0) parts.1
 
--- the loop has gone over all literals, so it holds of each
+-- the loop has gone over all literals, so what its invariant says of those so far holds of each
 pub returns : goal.returns
 returns c = OnTrue_from _ _ (λ are. each_all (λ (m : Literal). get_or c.args.known.now m.variable false ≡ true)
     c.args.literals.now c.loop-literal.literal-index c.loop-literal-test.false

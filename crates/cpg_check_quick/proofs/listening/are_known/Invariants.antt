@@ -1,4 +1,4 @@
--- Loops of `are_known`: whether all literals are on known variables.
+-- Loops of `are_known`: whether all these literals are on variables that `known` marks.
 use Rattle.std.proofs.Common.{◌≡◌, All, get_or, take, true, false}
 use Rattle.cpg_cube.specs.declared.literal.Literal.{Literal}
 use Rattle.cpg_check_quick.proofs.listening.are_known.Given as goal

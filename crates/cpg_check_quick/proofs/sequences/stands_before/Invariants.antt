@@ -1,4 +1,4 @@
--- Loops of `stands_before`: whether one item comes before another in an order.
+-- Loops of `stands_before`: whether item `first` comes before item `second` in an order that has no item twice.
 use Rattle.std.proofs.Common.{ℕ, ◌<◌, ◌≡◌, get_or}
 use Rattle.std.specs.Bool.{OnTrue}
 use Rattle.cpg_check_quick.proofs.sequences.stands_before.Given as goal

@@ -1,5 +1,5 @@
--- Proof of `has_own_slots`: whether V7 is known to hold at an item: each send is at the start of a slot that no item of
--- a lower number shares.
+-- Proof of `has_own_slots`: whether V7 is known to hold at an item: it isn't sent, or each of its sends is at the start
+-- of a slot that no item of a lower number shares.
 use Rattle.std.proofs.Common.{◌≡◌, ◌∙◌, All, true}
 use Rattle.std.proofs.lemmas.Bool.{OnTrue_at}
 use Rattle.cpg_base.specs.Bus.{next_slot}

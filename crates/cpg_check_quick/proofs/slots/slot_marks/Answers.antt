@@ -9,6 +9,6 @@ loop-item-preserved c = rw c.in_ok-push.ensures.items
     (one_more c.args.admitted.now.graph c.args.tables.now.nodes Rule.Slot c.loop-item.item c.loop-item.marks.items
     c.in_ok-is_sure.is_sure c.loop-item.invariant c.in_ok-is_sure.ensures)
 
--- the loop has gone over all items
+-- the loop has gone over all items, so each that is marked is sure
 pub returns : goal.returns
 returns c = c.loop-item.invariant.sure

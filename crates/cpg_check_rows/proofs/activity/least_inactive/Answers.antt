@@ -9,6 +9,7 @@ pub returns-in-Nothing : goal.returns-in-Nothing
 returns-in-Nothing c =
     let g = c.args.admitted.now.graph in
     let x = c.args.item in
+    -- what `item_source` says of the item, with the source at hand
     let is = as_source g x c.item_source.result ItemSource.Nothing
     (rw c.problem-problem.ensures.problem at c.item_source.ensures.active) c.in-Nothing.is in
     inactive_never g c.args.admitted.now.order c.args.cube.now x is c.least.result
@@ -19,6 +20,7 @@ pub returns-in-Process : goal.returns-in-Process
 returns-in-Process c =
     let g = c.args.admitted.now.graph in
     let x = c.args.item in
+    -- what `item_source` says of the item, with the source at hand
     let is = as_source g x c.item_source.result (ItemSource.Process c.in-Process.process)
     (rw c.problem-problem.ensures.problem at c.item_source.ensures.active) c.in-Process.is in
     inactive_as g c.args.admitted.now.order c.args.cube.now x
@@ -29,6 +31,7 @@ pub returns-in-Edge : goal.returns-in-Edge
 returns-in-Edge c =
     let g = c.args.admitted.now.graph in
     let x = c.args.item in
+    -- what `item_source` says of the item, with the source at hand
     let is = as_source g x c.item_source.result (ItemSource.Edge c.in-Edge.edge)
     (rw c.problem-problem.ensures.problem at c.item_source.ensures.active) c.in-Edge.is in
     inactive_as g c.args.admitted.now.order c.args.cube.now x

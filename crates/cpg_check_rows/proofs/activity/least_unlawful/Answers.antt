@@ -14,7 +14,8 @@ pub earlier-requires-clause-order : goal.earlier-requires-clause-order
 earlier-requires-clause-order c =
     rw (c.order.ensures.order, c.problem.ensures.problem) (long_order c.order.ensures.admitted)
 
--- the column is unlawful if its item is inactive or the process of a literal is, so the earlier of both is the least
+-- the column breaks V1 where it matches and its item or the process of a literal is inactive, so the earlier of the
+-- least scenarios of both kinds is the least
 pub returns : goal.returns
 returns c =
     let g = c.args.admitted.now.graph in

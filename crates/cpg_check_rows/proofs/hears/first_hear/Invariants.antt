@@ -1,4 +1,5 @@
--- Loops of `first_hear`: what `difference_at` answers at the least node at which there is a difference.
+-- Loops of `first_hear`: the first place at which the hear row of an item doesn't have the sender's column, later by
+-- the delay, at the least node whose row has such a place.
 use Rattle.std.proofs.Common.{ℕ, ◌<◌, map}
 use Rattle.cpg_table.specs.Valid.{later_by}
 use Rattle.cpg_check_rows.specs.Hears.{HearsAt}

@@ -22,7 +22,7 @@ loop-literal-preserved c s law lies =
     (record { variable = 0; low = 0; high = 0 }) c.loop-literal-test.true
     ∙ ap₂ (λ a b. a || not b) (c.loop-literal.invariant s law lies) here
 
--- the loop has gone over all literals
+-- the loop has gone over all literals, so the process of each is active
 pub returns : goal.returns
 returns c s law lies = rw (take_all c.loop-literal.literal-index c.args.literals.now c.loop-literal-test.false) at
     (c.loop-literal.invariant s law lies)

@@ -14,14 +14,14 @@ use Rattle.cpg_check_rows.proofs.quick_activity.are_lawful.Goals as goal
 abbrev IsLawful : Graph → ℕ → Column → Type 0
 IsLawful g x d = (s : Scenario) → IsScenario g s → matches d.cube s ≡ true → breaks_activity g s x d ≡ false
 
--- the next column is lawful, too
+-- the next column breaks V1 in no scenario that it matches, either
 pub loop-column-preserved : goal.loop-column-preserved
 loop-column-preserved c = each_more (IsLawful c.args.admitted.now.graph c.args.item) c.args.columns.now
     c.loop-column.column-index c.column-item.result c.loop-column-test.true c.column-item.is
     c.loop-column.invariant
     (OnTrue_at c.if-not-is_lawful.false c.is_lawful.ensures)
 
--- the loop has gone over all columns
+-- the loop has gone over all columns, so none breaks V1 in a scenario that it matches
 pub returns : goal.returns
 returns c = each_all (IsLawful c.args.admitted.now.graph c.args.item) c.args.columns.now c.loop-column.column-index
     c.loop-column-test.false c.loop-column.invariant

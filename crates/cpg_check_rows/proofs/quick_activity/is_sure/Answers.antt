@@ -33,7 +33,7 @@ returns-then-is_plain c =
     (OnTrue_at c.if-is_plain.true c.is_plain.ensures.all) (columns_known a c.args.tables.now.nodes are c.args.item)
     (OnTrue_at c.if-is_plain.true c.is_plain.ensures.item)
 
--- if all columns of the row are lawful, the item keeps V1
+-- if no column of the row breaks V1 in a scenario that it matches, the item keeps V1
 pub returns : goal.returns
 returns c =
     let g = c.args.admitted.now.graph in

@@ -1,5 +1,5 @@
--- Proof of `on_values`: the last of these literals, those behind the last one on a count: if the variables rise, they
--- are all that are on values.
+-- Proof of `on_values`: those of these literals that come after the last one on a fault count, or all of them if none
+-- is on a count.
 use Rattle.std.proofs.Common.{◌-◌, length}
 use Rattle.cpg_check_rows.proofs.LawfulRows.{matches_from}
 use Rattle.cpg_check_rows.proofs.quick_activity.on_values.Goals as goal

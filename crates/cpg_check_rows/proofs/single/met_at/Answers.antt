@@ -1,4 +1,4 @@
--- Proof of `met_at`: the least scenario that a cube matches together with the column at a place.
+-- Proof of `met_at`: the least scenario that a cube matches together with the column at `place`.
 use Rattle.std.proofs.Common.{◌≡◌, ◌&&◌, ◌∙◌, Some, ap, sym}
 use Rattle.std.specs.Prelude.{slice_get}
 use Rattle.std.proofs.lemmas.Option.{slice_get-get_or}

@@ -1,4 +1,4 @@
--- Proof of `shared`: the least scenario that a cube matches together with a column at one of some places.
+-- Proof of `shared`: the least scenario that a cube matches together with the column at one of these places.
 use Rattle.std.proofs.Common.{get_or, ◌&&◌}
 use Rattle.cpg_cube.specs.Cube.{matches}
 use Rattle.cpg_violation.specs.Sieves.{is_at}

@@ -1,4 +1,4 @@
--- Loops of `shared`: the least scenario that a cube matches together with a column at one of some places.
+-- Loops of `shared`: the least scenario that a cube matches together with the column at one of these places.
 use Rattle.std.proofs.Common.{◌&&◌, take}
 use Rattle.std.specs.List.{list_any}
 use Rattle.cpg_base.specs.First.{IsFirst}

@@ -1,4 +1,4 @@
--- Proof of `shared_before`: the least scenario that a column matches together with an earlier one.
+-- Proof of `shared_before`: the least scenario that a column of a row matches together with an earlier one.
 use Rattle.cpg_check_rows.proofs.Doubles.{at_place}
 use Rattle.cpg_check_rows.proofs.single.shared_before.Goals as goal
 

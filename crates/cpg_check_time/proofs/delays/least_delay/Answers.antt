@@ -34,7 +34,7 @@ least_near-requires-clause-columns c =
     (c.requires.rows.each c.args.item c.index-rows-item.result c.requires.item) in
     rw row.all (columns_are c.problem-problem.ensures.admitted c.args.tables.now.nodes c.requires.lawful c.args.item)
 
--- the question fits: its cube and its delay are of the graph
+-- the question is about the graph: all variables of its cube are the graph's, and its delay is one of the graph
 pub least_near-requires-clause-fits : goal.least_near-requires-clause-fits
 least_near-requires-clause-fits c = record { cube = c.requires.cube; delay = c.requires.delay }
 

@@ -1,4 +1,5 @@
--- Proof of `frozen_times`: what `frozen_time` says of each item, by number.
+-- Proof of `frozen_times`: for each item, by number, the time that it has to have; `None` if it isn't frozen, or no
+-- column of it ever matches.
 use Rattle.cpg_base.proofs.Lists.{map_below_push}
 use Rattle.cpg_check_time.specs.Frozen.{frozen_time}
 use Rattle.cpg_check_time.proofs.frozen.frozen_times.Goals as goal

@@ -1,4 +1,5 @@
--- Loops of `frozen_times`: what `frozen_time` says of each item, by number.
+-- Loops of `frozen_times`: for each item, by number, the time that it has to have; `None` if it isn't frozen, or no
+-- column of it ever matches.
 use Rattle.std.proofs.Common.{◌≡◌, map}
 use Rattle.cpg_base.specs.Numbers.{numbers_below}
 use Rattle.cpg_check_time.specs.Frozen.{frozen_time}

@@ -16,7 +16,7 @@ returns-in_default-clause-none c =
     (common_none c.args.cube.now c.literals-literal-items.result.now c.loop-literal.part c.loop-literal.literal-index
     (record { variable = 0; low = 0; high = 0 }) c.loop-literal-test.true c.loop-literal.invariant.both none)
 
--- the part narrowed by the next literal matches what the cube and one literal more match
+-- narrowed by the next literal, the part matches exactly where the cube and one literal more do
 pub loop-literal-preserved : goal.loop-literal-preserved
 loop-literal-preserved c =
     let both = rw c.in-Some.is at c.in_ok-next.ensures.both in

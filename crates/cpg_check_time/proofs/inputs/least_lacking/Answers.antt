@@ -1,5 +1,5 @@
--- Proof of `least_lacking`: the least scenario in which a column matches, and an input is live and isn't there by its
--- time.
+-- Proof of `least_lacking`: the least scenario in which a column matches, and input `edge` is there only after the
+-- column's time.
 use Rattle.std.proofs.Common.{◌≡◌, ◌&&◌, ◌∙◌, true, false, sym, ap}
 use Rattle.cpg_base.specs.Graph.{is_message}
 use Rattle.cpg_base.specs.Scenario.{Scenario}
@@ -23,7 +23,8 @@ returns-then-is_message c =
     lacks_frame c.args.admitted.now.graph c.args.admitted.now.order c.args.tables.now.nodes c.args.column.now
     c.args.edge c.in_ok-found.found on found
 
--- the edge is on one node, so its input is missing exactly if the source has the value and ends late
+-- the edge leads to a process of the same node, so its input is missing exactly if the source has the value and ends
+-- late
 pub returns : goal.returns
 returns c =
     let g = c.args.admitted.now.graph in

@@ -1,5 +1,5 @@
--- Proof of `least_of_lacking`: the least scenario in which a column matches, and one of several inputs is live and
--- isn't there by its time.
+-- Proof of `least_of_lacking`: the least scenario in which a column matches, and one of these inputs is there only
+-- after the column's time.
 use Rattle.std.proofs.Common.{subst}
 use Rattle.std.specs.List.{list_any}
 use Rattle.std.proofs.lemmas.List.{take_all}
@@ -14,7 +14,7 @@ pub earlier-found-requires-clause-order : goal.earlier-found-requires-clause-ord
 earlier-found-requires-clause-order c =
     rw (c.order-order.ensures.order, c.problem-problem.ensures.problem) (long_order c.order-order.ensures.admitted)
 
--- the lesser of the scenario so far and the next input's is the least for one input more
+-- the earlier of the scenario so far and the next input's is the least for one input more
 pub loop-edge-preserved : goal.loop-edge-preserved
 loop-edge-preserved c = rw (c.earlier-found.ensures, c.problem-problem.ensures.problem, c.order-order.ensures.order)
     (first_more c.args.admitted.now.graph c.args.admitted.now.order (lacks_input c.args.admitted.now.graph

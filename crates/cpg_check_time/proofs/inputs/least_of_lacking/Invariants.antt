@@ -1,5 +1,5 @@
--- Loops of `least_of_lacking`: the least scenario in which a column matches, and one of several inputs is live and
--- isn't there by its time.
+-- Loops of `least_of_lacking`: the least scenario in which a column matches, and one of these inputs is there only
+-- after the column's time.
 use Rattle.std.proofs.Common.{take}
 use Rattle.std.specs.List.{list_any}
 use Rattle.cpg_base.specs.First.{IsFirst}

@@ -1,5 +1,5 @@
--- Proof of `first_in_row`: the place of the first column of an item that breaks the rule in some scenario, with the
--- least such scenario.
+-- Proof of `first_in_row`: the place of the first column of an item that breaks the judge's rule in some scenario, with
+-- the least such scenario.
 use Rattle.cpg_violation.proofs.HeadLaws.{tables_of_graph}
 use Rattle.std.proofs.Common.{length, arith, ap, subst}
 use Rattle.cpg_base.specs.First.{IsFirst}

@@ -1,5 +1,5 @@
--- Proof of `first_violation`: the first violation of a rule, by item and column, with the least scenario in the urgency
--- order in which it occurs.
+-- Proof of `first_violation`: the first violation of the judge's rule, by item and column, with the least scenario in
+-- the urgency order in which it occurs.
 use Rattle.std.proofs.Common.{ℕ, ◌≡◌, ◌<◌, Some, false, ap, arith, sym}
 use Rattle.cpg_base.specs.Graph.{item_count}
 use Rattle.cpg_base.specs.Scenario.{Scenario, IsScenario}

@@ -1,4 +1,5 @@
--- Proof of `late_part`: the part of a cube in whose scenarios an execution that starts at `start` ends after `time`.
+-- Proof of `late_part`: the part of a cube in whose scenarios an execution of a process that starts at `start` ends
+-- after `time`.
 use Rattle.std.proofs.Common.{arith}
 use Rattle.cpg_check_time.proofs.Counts.{part_known}
 use Rattle.cpg_check_time.proofs.lateness.late_part.Goals as goal

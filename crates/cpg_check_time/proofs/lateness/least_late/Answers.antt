@@ -7,25 +7,26 @@ use Rattle.cpg_cube.specs.Cube.{matches}
 use Rattle.cpg_check_time.specs.Lateness.{ends_after}
 use Rattle.cpg_check_time.proofs.lateness.least_late.Goals as goal
 
--- `room` is the least scenario that both match, which is one of the graph, also if memory runs out
+-- if memory runs out, `room` is the least scenario that the cube and the column both match, which is one of the graph
 pub returns-in_err-part-clause-room : goal.returns-in_err-part-clause-room
 returns-in_err-part-clause-room c =
     let lawful : IsScenario c.args.problem.now c.meets.new.least = (c.if-not-meets.ensures.least []).lawful in
     record { values = lawful.values; faults = lawful.faults }
 
--- so it is if the execution always ends in time
+-- if the execution always ends by the time, `room` is that scenario, too
 pub returns-in_default-clause-room : goal.returns-in_default-clause-room
 returns-in_default-clause-room c =
     let lawful : IsScenario c.args.problem.now c.meets.new.least = (c.if-not-meets.ensures.least []).lawful in
     record { values = lawful.values; faults = lawful.faults }
 
--- so it may be written into again
+-- `room` is that scenario when `met` is called, so `met` may write into it
 pub met-requires-clause-room : goal.met-requires-clause-room
 met-requires-clause-room c =
     let lawful : IsScenario c.args.problem.now c.meets.new.least = (c.if-not-meets.ensures.least []).lawful in
     record { values = lawful.values; faults = lawful.faults }
 
--- the part matches exactly if the column matches and the execution ends after the time
+-- the part matches exactly if the column matches and the execution ends after the time, so the least scenario that the
+-- cube and the part match is the answer
 pub returns-clause-first : goal.returns-clause-first
 returns-clause-first c =
     let g = c.args.problem.now in

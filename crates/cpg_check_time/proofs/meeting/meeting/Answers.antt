@@ -1,4 +1,5 @@
--- Proof of `meeting`: columns of a row, among which each is that matches some scenario together with a cube.
+-- Proof of `meeting`: those columns of a row that may match a scenario together with a cube: each that does is among
+-- them.
 use Rattle.std.proofs.Common.{ℕ, ◌≡◌, ◌≤◌, ◌<◌, ◌∙◌, true, length, get_or, map, All, Contains, ap, sym, subst, Bor}
 use Rattle.std.proofs.lemmas.List.{take_all}
 use Rattle.std.proofs.lemmas.List.Elements.{All-nil}

@@ -1,4 +1,5 @@
--- Loops of `meeting`: columns of a row, among which each is that matches some scenario together with a cube.
+-- Loops of `meeting`: those columns of a row that may match a scenario together with a cube: each that does is among
+-- them.
 use Rattle.std.proofs.Common.{All, Contains, map, take}
 use Rattle.cpg_check_time.proofs.MeetingLaws.{AreFound}
 use Rattle.cpg_check_time.proofs.meeting.meeting.Given as goal

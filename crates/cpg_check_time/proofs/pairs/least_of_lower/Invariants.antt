@@ -1,5 +1,5 @@
 -- Loops of `least_of_lower`: the least scenario in which a column of an item clashes with some column of an item with a
--- lower number.
+-- lower number, as `pairs` judges.
 use Rattle.std.specs.List.{list_any}
 use Rattle.cpg_base.specs.Numbers.{numbers_below}
 use Rattle.cpg_base.specs.First.{IsFirst}

@@ -1,4 +1,5 @@
--- Proof of `arrivals_from`, which returns the arrival times in the hear rows of sender `other`, by time.
+-- Proof of `arrivals_from`, which returns the arrival times in the hear rows of sender `other`, by time; `senders` has the
+-- sender of each row.
 use Rattle.std.proofs.lemmas.List.Sorted.{IsNonDecreasingBy-from_sort}
 use Rattle.cpg_cluster.proofs.arrivals.arrivals_from.Goals as goal
 

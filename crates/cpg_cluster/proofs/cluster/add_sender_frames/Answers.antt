@@ -1,5 +1,5 @@
--- Proof of `add_sender_frames`, which adds the frame of an item, with this value, if there is such a sender and its
--- frame arrives at the time.
+-- Proof of `add_sender_frames`, which adds the frame of an item, with this value, if there is such a sender, it has sent
+-- the item, and the frame arrives at the time.
 use Rattle.std.proofs.Common.{◌++◌, arith, sym, ap, ◌∙◌, [], append-nil, length, List, Option, subst}
 use Rattle.std.specs.Option.{option_map_or}
 use Rattle.std.proofs.lemmas.List.{length-append}

@@ -10,6 +10,7 @@ use Rattle.cpg_cluster.proofs.member.open_member.Goals as goal
 -- that for the table's rows.
 pub returns : goal.returns
 returns c = record {
+  -- the node, and what it keeps of the graph
   node = search rules;
   senders = c.in_ok-senders.ensures ∙ ap (map (λ (row : Row). home c.args.problem.now row.item)) c.hears.ensures.hears;
   slot = search rules;
@@ -20,10 +21,12 @@ returns c = record {
       c.as_slice.ensures.value
       (subst (λ (ns : List (List ℕ)). AreIndexed c.hears-2.result.now c.as_slice.result.now
       (length ns) c.in_ok-arrivals.arrivals.items) c.nodes.ensures.nodes c.in_ok-arrivals.ensures));
+  -- nothing is done yet
   acts = search rules;
   noted = search rules;
   ends = search rules;
   reports = search rules;
+  -- there is the room that was reserved
   acts_room = search rules;
   ends_room = search rules;
   reports_room = search rules;

@@ -1,5 +1,5 @@
--- Proof of `take_turn`: a member takes the reports of the executions that are over by its next instant `time`, and
--- then its turn with these frames.
+-- Proof of `take_turn`: a member takes the reports of the executions that are over by its next instant `time`, and then its
+-- turn with these frames. It keeps what it did, and the reports whose planned end this is.
 use Rattle.std.proofs.Common.{◌≡◌, ◌++◌, [], arith, sym, ap, ap₂, Option, ◌∙◌, length, ◌≤◌, List, fold, subst}
 use Rattle.cpg_table.specs.Table.{NodeTable}
 use Rattle.cpg_node.specs.Dispatcher.{Own, Running, Act, next, turn, acts_of_turn}

@@ -1,4 +1,4 @@
--- Proof of `finish_all`: gives the node these reports, each at its time, one after another.
+-- Proof of `finish_all`: gives the node the reports `ended`, each at its time, one after another.
 use Rattle.std.proofs.Common.{ℕ, ◌+◌, ◌<◌, ◌∙◌, ◌≡◌, List, ap, drop, false, get_or, length, subst, sym}
 use Rattle.std.proofs.lemmas.List.{drop_more}
 use Rattle.cpg_node.specs.Dispatcher.{Dispatcher, Ended, finished}

@@ -17,12 +17,12 @@ loop-place-preserved c =
     let due = due_reports_of c.args.time in
     let runs = c.args.running.now in
     let n = c.loop-place.place in
-    let there : n < length runs = omega (arith, c.loop-place-test.true, c.requires.same) in
+    let in_runs : n < length runs = omega (arith, c.loop-place-test.true, c.requires.same) in
     let given = c.planned_end-end.ensures ∙ ap (λ (o : Own). due o (get_or runs n None)) c.index-own-place.is in
     record {
       ends = mapped_on (at c.args.time) due c.args.own.now runs n c.index-own-place.result None
           (option_to_list c.planned_end-end.result) c.loop-place.ends.items c.add_end.new.ends.items
-          (c.args.ends.now.items ++ ends_by c.args.time c.args.own.now runs) c.loop-place-test.true there given
+          (c.args.ends.now.items ++ ends_by c.args.time c.args.own.now runs) c.loop-place-test.true in_runs given
           c.add_end.ensures.ends c.loop-place.invariant.ends;
       room = c.add_end.ensures.room ∙ c.loop-place.invariant.room;
     }
@@ -33,10 +33,10 @@ add_end-requires c =
     let due = due_reports_of c.args.time in
     let runs = c.args.running.now in
     let n = c.loop-place.place in
-    let there : n < length runs = omega (arith, c.loop-place-test.true, c.requires.same) in
+    let in_runs : n < length runs = omega (arith, c.loop-place-test.true, c.requires.same) in
     let given = c.planned_end-end.ensures ∙ ap (λ (o : Own). due o (get_or runs n None)) c.index-own-place.is in
     let fits = mapped_fits (at c.args.time) due c.args.own.now runs n c.index-own-place.result None
     (option_to_list c.planned_end-end.result) c.loop-place.ends.items
     (c.args.ends.now.items ++ ends_by c.args.time c.args.own.now runs) (vec_capacity c.args.ends.now)
-    c.loop-place-test.true there given c.loop-place.invariant.ends c.requires.room in
+    c.loop-place-test.true in_runs given c.loop-place.invariant.ends c.requires.room in
     omega (arith, fits, c.loop-place.ends.ok.0, c.loop-place.invariant.room)

@@ -16,13 +16,13 @@ loop-place-preserved c =
     let reports = report_of c.args.problem.now w c.args.time in
     let runs = c.args.running.now in
     let n = c.loop-place.place in
-    let there : n < length runs = omega (arith, c.loop-place-test.true, c.requires.same) in
+    let in_runs : n < length runs = omega (arith, c.loop-place-test.true, c.requires.same) in
     let given = c.report_of-report.ensures ∙ ap (λ (o : Own). reports o (get_or runs n None)) c.index-own-place.is in
     record {
       reports = gathered_on reports c.args.own.now runs n c.index-own-place.result None
           (option_to_list c.report_of-report.result) c.loop-place.reports.items c.add_report.new.reports.items
           (c.args.reports.now.items ++ reports_by c.args.problem.now w c.args.time c.args.own.now runs)
-          c.loop-place-test.true there given c.add_report.ensures.reports c.loop-place.invariant.reports;
+          c.loop-place-test.true in_runs given c.add_report.ensures.reports c.loop-place.invariant.reports;
       room = c.add_report.ensures.room ∙ c.loop-place.invariant.room;
     }
 
@@ -33,11 +33,11 @@ add_report-requires c =
     let reports = report_of c.args.problem.now w c.args.time in
     let runs = c.args.running.now in
     let n = c.loop-place.place in
-    let there : n < length runs = omega (arith, c.loop-place-test.true, c.requires.same) in
+    let in_runs : n < length runs = omega (arith, c.loop-place-test.true, c.requires.same) in
     let given = c.report_of-report.ensures ∙ ap (λ (o : Own). reports o (get_or runs n None)) c.index-own-place.is in
     let fits = gathered_fits reports c.args.own.now runs n c.index-own-place.result None
     (option_to_list c.report_of-report.result) c.loop-place.reports.items
     (c.args.reports.now.items ++ reports_by c.args.problem.now w c.args.time c.args.own.now runs)
-    (vec_capacity c.args.reports.now) c.loop-place-test.true there given c.loop-place.invariant.reports
+    (vec_capacity c.args.reports.now) c.loop-place-test.true in_runs given c.loop-place.invariant.reports
     c.requires.room in
     omega (arith, fits, c.loop-place.reports.ok.0, c.loop-place.invariant.room)

@@ -1,4 +1,5 @@
--- Proof of `waits_between`: whether a member waits on the member with number `other` before it takes an instant.
+-- Proof of `waits_between`: whether a member waits on `sender`, the member with number `other`, before it takes the
+-- instant `time`.
 use Rattle.std.proofs.Common.{length, ◌∙◌, ap}
 use Rattle.std.specs.List.{list_any}
 use Rattle.cpg_node.specs.Dispatcher.{zip_with}

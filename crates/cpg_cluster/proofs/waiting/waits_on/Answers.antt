@@ -1,5 +1,5 @@
--- Proof of `waits_on`: whether a sender may still send one of the frames whose arrivals are `times` and which arrive
--- by `time`.
+-- Proof of `waits_on`: whether a sender with this next instant and slot length may still send one of the frames whose
+-- arrivals are `times` and which arrive by `time`.
 use Rattle.std.proofs.Common.{◌-◌, ◌∙◌, arith, sym}
 use Rattle.std.proofs.lemmas.List.{get_or_default}
 use Rattle.cpg_cluster.proofs.Arriving.{none_sent, none_until, last_until}

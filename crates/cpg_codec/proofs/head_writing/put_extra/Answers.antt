@@ -5,7 +5,8 @@ use Rattle.cpg_codec.specs.Spelling.{deadline_number}
 use Rattle.cpg_codec.proofs.Puts.{Puts-then, Puts-first}
 use Rattle.cpg_codec.proofs.head_writing.put_extra.Goals as goal
 
--- the sink took only a proper prefix of the release, with which the extras begin
+-- the release failed: the sink took only a proper prefix of what the buffer held and of the release, and so of what the
+-- buffer held and of both numbers
 pub returns-in_err-put_long-clause-put : goal.returns-in_err-put_long-clause-put
 returns-in_err-put_long-clause-put g c =
     let p = err_from_is_err_and c.from_residual.result c.from_residual.ensures.1 in

@@ -9,15 +9,15 @@ use Rattle.cpg_codec.proofs.row_reading.next_row.Goals as goal
 pub read_to-requires : goal.read_to-requires
 read_to-requires c =
     let read =
-    ap (read_row c.args.space.now c.args.item c.args.before) (sym c.rest.ensures) ∙ c.in_ok-row.ensures.gives in
-    left_within (row_reads c.args.space.now c.args.item c.args.before c.requires.space c.requires.before)
+    ap (read_row c.args.space.now c.args.item c.args.columns_read) (sym c.rest.ensures) ∙ c.in_ok-row.ensures.gives in
+    left_within (row_reads c.args.space.now c.args.item c.args.columns_read c.requires.space c.requires.few)
     c.args.unread.now c.in_ok-row.row c.in_ok-row.rest.now read
 
 -- the bytes that are left unread are those that the reader of a row leaves
 pub returns-clause-gives : goal.returns-clause-gives
 returns-clause-gives c =
     let read =
-    ap (read_row c.args.space.now c.args.item c.args.before) (sym c.rest.ensures) ∙ c.in_ok-row.ensures.gives in
-    left_is (row_reads c.args.space.now c.args.item c.args.before c.requires.space c.requires.before) c.args.unread.now
+    ap (read_row c.args.space.now c.args.item c.args.columns_read) (sym c.rest.ensures) ∙ c.in_ok-row.ensures.gives in
+    left_is (row_reads c.args.space.now c.args.item c.args.columns_read c.requires.space c.requires.few) c.args.unread.now
     c.in_ok-row.row c.in_ok-row.rest.now read
     ∙ ap (λ (t : List ℕ). Ok (c.in_ok-row.row, t)) (sym c.read_to.ensures)

@@ -1,4 +1,4 @@
--- Proof of `rows_of`: the rows of these items, if `before` columns were read before, and how many were read up to
+-- Proof of `rows_of`: the rows of these items, if `columns_read` columns were read before them, and how many were read up to
 -- their end.
 use Rattle.std.proofs.Common.{◌≡◌, ◌++◌, ◌∷◌, [], ◌+◌, ◌<◌, ℕ, List, length, get_or, drop, arith, refl, add-one}
 use Rattle.std.proofs.Common.{drop-cons}
@@ -27,7 +27,7 @@ unfolding read_rows
 loop-item-init c = record {
   so_far = rw c.in_ok-rows.ensures.items (nothing_in_front _);
   total = rw c.in_ok-rows.ensures.items (omega arith);
-  few = c.requires.before;
+  few = c.requires.few;
 }
 
 -- the row of the next item is read; by the invariant reading all goes on with the bytes after it
@@ -37,7 +37,7 @@ loop-item-preserved c =
     let g = goes_on step (read_row c.args.space.now) c.loop-item.rows.items
     (drop c.loop-item.item-index c.args.items.now) (get_or c.args.items.now c.loop-item.item-index 0)
     (drop (c.loop-item.item-index + 1) c.args.items.now) c.loop-item.total c.loop-item.unread q c.next_row.new.unread
-    (read_rows c.args.space.now c.args.items.now c.args.before c.args.unread.now)
+    (read_rows c.args.space.now c.args.items.now c.args.columns_read c.args.unread.now)
     (drop_more c.args.items.now c.loop-item.item-index c.loop-item-test.true) c.in_ok-row.ensures.gives
     c.loop-item.invariant.so_far in
     record {

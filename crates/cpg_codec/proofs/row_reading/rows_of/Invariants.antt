@@ -1,4 +1,4 @@
--- Loops of `rows_of`: the rows of these items, if `before` columns were read before, and how many were read up to
+-- Loops of `rows_of`: the rows of these items, if `columns_read` columns were read before them, and how many were read up to
 -- their end.
 use Rattle.std.proofs.Common.{◌≡◌, ◌+◌, ◌≤◌, ℕ, length, drop}
 use Rattle.cpg_base.specs.declared.limits.TheConstants.{MOST_LOAD}
@@ -15,7 +15,7 @@ abbrev pub invariant-loop-item : goal.invariant-loop-item
 invariant-loop-item l = record {
   so_far : with_front l.rows.items (read_each (λ (c : ℕ) (r : Row). c + length r.columns) (read_row l.fn.space)
       (drop l.item-index l.fn.items) l.total l.unread)
-      ≡ read_rows l.fn.space l.fn.items l.fn.before l.fn.unread;
-  total : l.total ≡ l.fn.before + column_count l.rows.items;
+      ≡ read_rows l.fn.space l.fn.items l.fn.columns_read l.fn.unread;
+  total : l.total ≡ l.fn.columns_read + column_count l.rows.items;
   few : l.total ≤ MOST_LOAD;
 }

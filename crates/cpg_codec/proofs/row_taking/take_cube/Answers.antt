@@ -10,7 +10,7 @@ use Rattle.cpg_codec.proofs.row_taking.take_cube.Goals as goal
 -- the cube was made, so its variables rise; those held are its last ones
 pub are_lawful-requires-clause-rising : goal.are_lawful-requires-clause-rising
 are_lawful-requires-clause-rising c =
-    let front = take c.skip_same-same.result.0 c.args.before.now in
+    let front = take c.skip_same-same.result.0 c.args.previous.now in
     let all : IsRising (front ++ c.as_slice.result.now) = search rules in
     let same : c.as_slice.result.now ≡ c.as_slice-2.result.now = search rules in
     subst IsRising same (rising_behind front c.as_slice.result.now all)
@@ -19,9 +19,9 @@ are_lawful-requires-clause-rising c =
 pub returns-clause-lawful : goal.returns-clause-lawful
 returns-clause-lawful c =
     let P = IsLawfulLiteral c.args.space.now in
-    let front = take c.skip_same-same.result.0 c.args.before.now in
+    let front = take c.skip_same-same.result.0 c.args.previous.now in
     let is : c.in-Some.cube ≡ front ++ c.as_slice.result.now = search rules in
     let same : c.as_slice.result.now ≡ c.as_slice-2.result.now = search rules in
     let held : All P c.as_slice-2.result.now = c.if-not-are_lawful.ensures in
     subst (All P) (sym is) (All-append P front c.as_slice.result.now
-    (All-take P c.skip_same-same.result.0 c.args.before.now c.requires.lawful) (subst (All P) (sym same) held))
+    (All-take P c.skip_same-same.result.0 c.args.previous.now c.requires.lawful) (subst (All P) (sym same) held))

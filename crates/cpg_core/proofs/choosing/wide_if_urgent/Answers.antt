@@ -1,5 +1,5 @@
--- Proof of `wide_if_urgent`: returns the least item that is too wide by its views under the urgency order of a graph
--- that gives no order.
+-- Proof of `wide_if_urgent`: returns the least item that is too wide by its views under the urgency order, and `None`
+-- if the graph gives an order or no item is too wide.
 use Rattle.std.proofs.Common.{◌≡◌, ℕ, Option, Some, None, IfNone, subst}
 use Rattle.cpg_order.specs.Urgency.{first_order}
 use Rattle.cpg_reach.specs.Wide.{IsNarrow}
@@ -14,6 +14,6 @@ if_none (Some x) P Q f h = h
 pub returns-clause-none : goal.returns-clause-none
 returns-clause-none c =
     let g = c.args.admitted.now.graph in
-    let first = first_order g c.args.admitted.now.order in
-    if_none c.in_ok-found.found (IsNarrow g c.first_order.result.now) (g.order ≡ None → IsNarrow g first)
+    let order = first_order g c.args.admitted.now.order in
+    if_none c.in_ok-found.found (IsNarrow g c.first_order.result.now) (g.order ≡ None → IsNarrow g order)
     (λ narrow ungiven. subst (IsNarrow g) c.first_order.ensures.order narrow) c.in_ok-found.ensures.none

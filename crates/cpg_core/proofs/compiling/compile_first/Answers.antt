@@ -1,4 +1,5 @@
--- Proof of `compile_first`: returns the rows of the first order, if that is taken and nothing is late under it.
+-- Proof of `compile_first`: returns the rows of the first order, given that it is taken and nothing is late under it,
+-- or the fault that shows why there are none.
 use Rattle.std.proofs.Common.{refl, sym, subst}
 use Rattle.cpg_order.specs.Urgency.{IsTopological, first_order}
 use Rattle.cpg_core.specs.Compiled.{IsCompileOrder}

@@ -1,4 +1,5 @@
--- Proof of `compile_rows`: returns the rows of a graph under the compile's order.
+-- Proof of `compile_rows`: returns the rows of a graph under the compile's order, or the fault that shows why there are
+-- none.
 use Rattle.std.proofs.Common.{◌≡◌, subst, arith}
 use Rattle.cpg_order.specs.Urgency.{first_order}
 use Rattle.cpg_core.specs.Accepted.{order_taken}

@@ -1,4 +1,5 @@
--- Proof of `compile_taken`: returns the rows of the order that is taken, if nothing is late under it.
+-- Proof of `compile_taken`: returns the rows of the order that is taken, given that nothing is late under it, or the
+-- fault that shows why there are none.
 use Rattle.std.proofs.Common.{subst}
 use Rattle.cpg_order.specs.Urgency.{first_order}
 use Rattle.cpg_core.specs.Accepted.{order_taken}

@@ -1,8 +1,8 @@
--- Proof of `compile_tracks`: returns the rows of the track order, if that is taken and nothing is late under it.
+-- Proof of `compile_tracks`: returns the rows of the track order, given that it is taken and nothing is late under it.
 use Rattle.std.proofs.Common.{refl, sym, subst}
 use Rattle.cpg_order.specs.Urgency.{IsTopological, first_order}
 use Rattle.cpg_reach.specs.Wide.{IsNarrow}
-use Rattle.cpg_expand.specs.GrownFor.{IsGrownFor}
+use Rattle.cpg_core.specs.GrownFor.{IsGrownFor}
 use Rattle.cpg_core.specs.Compiled.{IsCompileOrder}
 use Rattle.cpg_core.proofs.Figures.{tracked_in_time}
 use Rattle.cpg_core.proofs.RowsCompiled.{compiled_rows}

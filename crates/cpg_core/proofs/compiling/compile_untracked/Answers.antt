@@ -1,5 +1,5 @@
 -- Proof of `compile_untracked`: returns the rows of the first order of a graph that has too many tracks for a track
--- order.
+-- order, or the fault that shows why there are none.
 use Rattle.std.proofs.Common.{◌≡◌, sym, subst, inl, inr, arith}
 use Rattle.cpg_order.specs.Urgency.{IsTopological, first_order}
 use Rattle.cpg_core.specs.Compiled.{IsCompileOrder}

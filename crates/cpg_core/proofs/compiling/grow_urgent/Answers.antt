@@ -1,4 +1,5 @@
--- Proof of `grow_urgent`: returns what is found under the urgency order of a graph that gives no order.
+-- Proof of `grow_urgent`: returns what is found under the urgency order of a graph that gives no order, or the least
+-- item that is too wide by its views.
 use Rattle.std.proofs.Common.{subst}
 use Rattle.cpg_reach.specs.Wide.{IsNarrow}
 use Rattle.cpg_core.proofs.compiling.grow_urgent.Goals as goal

@@ -42,7 +42,7 @@ pub returns : goal.returns
 returns c =
     let g = c.args.admitted.now.graph in
     let urgency = c.args.admitted.now.order in
-    let first = first_order g urgency in
+    let order = first_order g urgency in
     let found = c.args.first in
     -- the end that is shown is the due and the excess
     let due_is : c.due.result ≡ due g c.in-Some.process =
@@ -50,7 +50,7 @@ returns c =
       -- the graph is late
       record {
         narrow = c.requires.narrow;
-        late = late_under g urgency first found c.requires.grown c.requires.late;
+        late = late_under g urgency order found c.requires.grown c.requires.late;
         helpless = c.requires.helpless;
       },
       -- what is shown: the frozen times, the excess with its scenario and process, and the run in which that ends so
@@ -58,11 +58,11 @@ returns c =
         frozen = found.trees.frozen;
         frozen_times = c.requires.grown.frozen;
         excess = found.excess.time;
-        is_excess = subst (IsExcess g urgency first found.trees.frozen found.excess.time found.excess.scenario)
+        is_excess = subst (IsExcess g urgency order found.trees.frozen found.excess.time found.excess.scenario)
             c.in-Some.is c.requires.grown.excess;
-        times = late_times g urgency first found c.requires.grown c.in-Some.process c.in-Some.is;
-        run = late_run g urgency first found c.requires.grown c.in-Some.process c.in-Some.is;
-        ends = late_end g urgency first found c.requires.grown c.in-Some.process c.in-Some.is
+        times = late_times g urgency order found c.requires.grown c.in-Some.process c.in-Some.is;
+        run = late_run g urgency order found c.requires.grown c.in-Some.process c.in-Some.is;
+        ends = late_end g urgency order found c.requires.grown c.in-Some.process c.in-Some.is
             ∙ ap (λ n. Some n) (sym (c.end_past.ensures ∙ ap (λ n. n + found.excess.time) due_is));
       },
     )

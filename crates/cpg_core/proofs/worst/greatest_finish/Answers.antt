@@ -1,5 +1,5 @@
--- Proof of `greatest_finish`: returns the greatest finish of a graph that compiles, in time units: that of the tables
--- that `compile` would make.
+-- Proof of `greatest_finish`: returns the greatest finish of a graph that compiles, in time units, or the fault that
+-- shows why it has none.
 use Rattle.std.proofs.Common.{subst}
 use Rattle.cpg_order.specs.Urgency.{first_order}
 use Rattle.cpg_reach.specs.Wide.{IsNarrow}

@@ -1,5 +1,5 @@
 -- Proof of `grown_finish`: returns the greatest finish of a graph that has too many tracks for a track order, by the
--- trees of its first order.
+-- trees of its first order, or the fault `Late`.
 use Rattle.std.proofs.Common.{None, inl, inr, arith}
 use Rattle.cpg_order.specs.Urgency.{IsTopological, first_order}
 use Rattle.cpg_core.proofs.Figures.{accepted, grown_many}

@@ -1,4 +1,4 @@
--- Proof of `late_narrow`: returns the fault of a late graph in which no item is too wide by its views.
+-- Proof of `late_narrow`: returns the fault `Late` of a late graph in which no item is too wide by its views.
 use Rattle.cpg_core.proofs.Figures.{no_finish}
 use Rattle.cpg_core.proofs.worst.late_narrow.Goals as goal
 

@@ -1,4 +1,5 @@
--- Proof of `narrow_finish`: returns the greatest finish of a graph in which no item is too wide by its views.
+-- Proof of `narrow_finish`: returns the greatest finish of a graph in which no item is too wide by its views, or the
+-- fault `Late` if it is late.
 use Rattle.std.proofs.Common.{arith}
 use Rattle.cpg_core.proofs.Figures.{accepted}
 use Rattle.cpg_core.proofs.worst.narrow_finish.Goals as goal

@@ -1,4 +1,4 @@
--- Proof of `shown_late_narrow`: returns the fault of a late graph in which no item is too wide by its views, or
+-- Proof of `shown_late_narrow`: returns the fault `Late` of a late graph in which no item is too wide by its views, or
 -- `OutOfMemory`.
 use Rattle.cpg_order.specs.Urgency.{IsTopological, first_order}
 use Rattle.cpg_core.proofs.Figures.{grown_late}

@@ -57,9 +57,9 @@ left_of-left_outside-requires t c =
     let g = c.args.problem.now in
     -- the cube that is taken out of the list has known variables
     let within : c.in-Some-place_of_match.place < length c.args.by.items = search rules in
-    let first = c.remove-first.result.now in
-    let first_known : IsKnown g first =
-    rw c.remove-first.ensures.value (c.requires.list c.in-Some-place_of_match.place c.remove-first.result within) in
+    let matching = c.remove-matching.result.now in
+    let matching_known : IsKnown g matching =
+    rw c.remove-matching.ensures.value (c.requires.list c.in-Some-place_of_match.place c.remove-matching.result within) in
     -- the literals that cut have known variables too, in their new order, and there are at most 256
     let cutting = c.in_ok-cutting.cutting.items in
     let few : length cutting ≤ 256 = c.in_ok-cutting.ensures.few in
@@ -72,7 +72,7 @@ left_of-left_outside-requires t c =
     let literals : length c.as_slice-4.result.now ≤ 256 = rw c.as_slice-4.ensures.value (omega arith) in
     -- the other cubes of the list have known variables
     let list : All (λ (b : Bor (List Literal)). IsKnown g b.now) c.as_slice-5.result.now =
-    rw (c.as_slice-5.ensures.value, c.remove-first.ensures.items)
+    rw (c.as_slice-5.ensures.value, c.remove-matching.ensures.items)
     (all_removed (λ (b : Bor (List Literal)). IsKnown g b.now) c.args.by.items c.in-Some-place_of_match.place
     c.requires.list) in
     (search rules, (c.requires.order, (c.requires.cube, (known, (literals, list)))))
@@ -83,21 +83,21 @@ left_of-returns t c =
     let g = c.args.problem.now in
     let within : c.in-Some-place_of_match.place < length c.args.by.items = search rules in
     -- the cube that was taken, and the literals that cut, in their new order
-    let first = c.remove-first.result.now in
-    let is_first : first ≡ seen (get_or c.args.by.items c.in-Some-place_of_match.place c.remove-first.result) =
-    ap seen c.remove-first.ensures.value in
+    let matching = c.remove-matching.result.now in
+    let is_matching : matching ≡ seen (get_or c.args.by.items c.in-Some-place_of_match.place c.remove-matching.result) =
+    ap seen c.remove-matching.ensures.value in
     let ranked : IsPermutation c.in_ok-cutting.cutting.items c.in_ok-literals.literals.items =
     rw c.as_slice-2.ensures.value at c.in_ok-literals.ensures in
     -- in a scenario of the cube, these literals match exactly if the cube taken out does
     let cut : (s : Scenario) → IsScenario g s → matches c.args.cube.now s ≡ true →
-    matches c.in_ok-cutting.cutting.items s ≡ matches first s =
+    matches c.in_ok-cutting.cutting.items s ≡ matches matching s =
     rw c.literals.ensures.literals at c.in_ok-cutting.ensures.same in
     -- so what the other cubes leave outside these literals is what the whole list leaves
-    left_by_taken g c.args.order.now seen c.args.by.items c.in-Some-place_of_match.place c.remove-first.result
+    left_by_taken g c.args.order.now seen c.args.by.items c.in-Some-place_of_match.place c.remove-matching.result
     c.in_ok-literals.literals.items c.args.cube.now c.in_ok-found.found within
     (λ s i t. sym (matches_permutation c.in_ok-cutting.cutting.items c.in_ok-literals.literals.items s ranked)
-    ∙ cut s i t ∙ ap (λ b. matches b s) is_first)
-    (rw (c.as_slice-5.ensures.value, c.remove-first.ensures.items, c.as_slice-4.ensures.value) at c.in_ok-found.ensures)
+    ∙ cut s i t ∙ ap (λ b. matches b s) is_matching)
+    (rw (c.as_slice-5.ensures.value, c.remove-matching.ensures.items, c.as_slice-4.ensures.value) at c.in_ok-found.ensures)
 
 -- the literal allows no number that the cube allows, so this part of the cube is empty
 pub left_of_part-returns-in_default-2-clause-part : goal.left_of_part-returns-in_default-2-clause-part
@@ -191,8 +191,8 @@ left_outside-meeting-requires-clause-cube t c =
     let known : IsVariable g l.variable =
     All-head (λ (m : Literal). IsVariable g m.variable) l ls (rw split at c.requires.literals) in
     -- the cube narrowed by the literal
-    let some : with_literal l c.args.cube.now ≡ Some c.in-Some-2.within = search rules in
-    subst (IsKnown g) (with-is l c.args.cube.now c.in-Some-2.within some)
+    let some : with_literal l c.args.cube.now ≡ Some c.in-Some-2.inside = search rules in
+    subst (IsKnown g) (with-is l c.args.cube.now c.in-Some-2.inside some)
     (known-narrowed g l c.args.cube.now known c.requires.cube)
 
 -- the part within the first literal, the other literals and the cubes kept are known to the graph
@@ -206,8 +206,8 @@ left_outside-left_outside-requires t c =
     let all : IsKnown g (l ∷ ls) = rw split at c.requires.literals in
     let known : IsVariable g l.variable = All-head (λ (m : Literal). IsVariable g m.variable) l ls all in
     -- the part within it is a cube of known variables
-    let some : with_literal l c.args.cube.now ≡ Some c.in-Some-2.within = search rules in
-    let within : IsKnown g c.in-Some-2.within = subst (IsKnown g) (with-is l c.args.cube.now c.in-Some-2.within some)
+    let some : with_literal l c.args.cube.now ≡ Some c.in-Some-2.inside = search rules in
+    let within : IsKnown g c.in-Some-2.inside = subst (IsKnown g) (with-is l c.args.cube.now c.in-Some-2.inside some)
     (known-narrowed g l c.args.cube.now known c.requires.cube) in
     let short : length (l ∷ ls) ≤ 256 = rw split at c.requires.short in (
       search rules,
@@ -238,14 +238,14 @@ left_outside-returns t c =
     let known : IsVariable g l.variable =
     All-head (λ (m : Literal). IsVariable g m.variable) l ls (rw split at c.requires.literals) in
     -- the part within it
-    let some : with_literal l cube ≡ Some c.in-Some-2.within = search rules in
+    let some : with_literal l cube ≡ Some c.in-Some-2.inside = search rules in
     -- the answers for the parts below it, above it and within it
     let below = first_below g few order by l cube c.in_ok-low.low (rw c.below.ensures at c.in_ok-low.ensures.part)
     (rw c.below.ensures at c.in_ok-low.ensures.none) in
     let above = first_above g few order by l cube c.in_ok-high.high known
     (rw (c.above.ensures, c.faults-k.ensures.faults) at c.in_ok-high.ensures.part)
     (rw (c.above.ensures, c.faults-k.ensures.faults) at c.in_ok-high.ensures.none) in
-    let within = within_kept g order by l cube c.in-Some-2.within some
+    let within = within_kept g order by l cube c.in-Some-2.inside some
     (map seen c.in_ok-kept.kept.items) c.in_ok-kept.ensures.same ls c.in_ok-found.found
     (rw c.as_slice.ensures.value at c.in_ok-found.ensures) in
     -- the earliest of these three is the answer

@@ -1,4 +1,4 @@
--- Proof of `fewest`, which returns a lower bound of the faults that it takes that none of the cubes matches.
+-- Proof of `fewest`, which returns a lower bound of the faults of scenarios that none of the cubes matches.
 use Rattle.std.proofs.Common.{rules, ◌-◌, true, false, arith}
 use Rattle.cpg_cover.specs.Fewest.{Needs}
 use Rattle.cpg_cover.proofs.FewestLaws.{Steps, without_from, value_from, count_without, count_from, parts_from}

@@ -1,4 +1,4 @@
--- Recursion of `fewest`, which returns a lower bound of the faults that it takes that none of the cubes matches.
+-- Recursion of `fewest`, which returns a lower bound of the faults of scenarios that none of the cubes matches.
 use Rattle.std.proofs.Common.{◌+◌, ◌*◌}
 use Rattle.cpg_cover.proofs.fewest.+fewest.Given as goal
 

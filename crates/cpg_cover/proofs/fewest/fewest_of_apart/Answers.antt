@@ -1,5 +1,5 @@
--- Proof of `fewest_of_apart`, which returns a lower bound of the faults that it takes that none of the cubes matches:
--- the sum over some cubes that have no variable in common, taken as they come.
+-- Proof of `fewest_of_apart`, which returns a lower bound of the faults of scenarios that none of the cubes matches: the sum
+-- over some cubes that have no variable in common, taken as they come.
 use Rattle.std.proofs.Common.{◌∙◌, sym, arith}
 use Rattle.cpg_cover.specs.Fewest.{AreMore}
 use Rattle.cpg_cover.proofs.FewestLaws.{marked_all, marked_more, one_is_off}

@@ -1,5 +1,5 @@
--- Loops of `fewest_of_each`, which returns a lower bound of the faults that it takes that none of the cubes matches:
--- the greatest that one cube alone takes.
+-- Loops of `fewest_of_each`, which returns a lower bound of the faults of scenarios that none of the cubes matches: the
+-- greatest that one cube alone gives.
 use Rattle.std.proofs.Common.{take}
 use Rattle.cpg_cover.specs.Fewest.{Needs}
 use Rattle.cpg_cover.proofs.fewest.fewest_of_each.Given as goal

@@ -4,7 +4,7 @@ use Rattle.std.proofs.Common.{◌≡◌, ◌+◌, ◌-◌, drop, length}
 use Rattle.cpg_cube.specs.Keys.{place_in}
 use Rattle.cpg_cube.proofs.sorting.place_in.Given as goal
 
--- all numbers so far stand before the given one, so its place is `place` further on than in the rest
+-- all numbers so far stand before `number`, so its place is `place` further on than in the rest
 abbrev pub invariant-loop-place : goal.invariant-loop-place
 invariant-loop-place l = place_in l.number l.key ≡ l.place + place_in l.number (drop l.place l.key)
 

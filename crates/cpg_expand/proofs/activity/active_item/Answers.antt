@@ -1,5 +1,5 @@
--- Proof of `active_item`, which returns a tree that is true where an item is active; the item is a start, or one that
--- is sent.
+-- Proof of `active_item`, which returns a tree that is true in the scenarios in which an item is active, and false in
+-- all others. The item is the start of a process, or one that is sent.
 use Rattle.std.proofs.Common.{◌≡◌, ◌<◌, ◌∙◌, ap, arith, length, subst}
 use Rattle.cpg_base.specs.Graph.{Graph, process_count, producer}
 use Rattle.cpg_rules.specs.Guards.{tree_of}

@@ -1,5 +1,6 @@
--- Proof of `begin`, which adds the start and the end of a process, its frozen time if it is frozen, and when its node
--- goes on after it.
+-- Proof of `begin`, which adds to the forest the start and the end of a process, and when its node goes on after it,
+-- and to `frozen` its frozen time if it is frozen and ever active. Returns the tree of where it is active. `TooWide`
+-- names the forest's item if a tree on the way has too many leaves.
 use Rattle.std.proofs.Common.{◌≡◌, ◌∙◌, false, true, refl, sym, subst, inl, inr}
 use Rattle.cpg_base.specs.Graph.{Graph, is_frozen}
 use Rattle.cpg_rules.specs.Guards.{tree_of}

@@ -1,5 +1,6 @@
--- Proof of `begin_frozen`, which adds the start and the end of a frozen process, its frozen time, and when its node
--- goes on after it.
+-- Proof of `begin_frozen`, which adds to the forest the start and the end of a frozen process, and when its node goes
+-- on after it, and to `frozen` its frozen time, if it is ever active. Returns the tree of where it is active. `TooWide`
+-- names the forest's item if a tree of what it would wait for has too many leaves.
 use Rattle.std.proofs.Common.{◌<◌, ◌≡◌, ◌∙◌, ap, sym, subst, length, arith}
 use Rattle.cpg_base.specs.Graph.{Graph, process_count, node_of, inputs}
 use Rattle.cpg_base.specs.Order.{place}
@@ -116,10 +117,10 @@ returns-clause-begun c =
     -- the span of the node's processes before it begins at a cut
     let span = c.span_before-span.result in
     let e = c.span_before-span.ensures in
-    let cut : IsCut h order guards (node_of h p) (place order p) span.from =
-    subst (λ n. IsCut h order guards n (place order p) span.from) c.node_of-node.ensures.node
-    (subst (λ n. IsCut h order guards c.node_of-node.result n span.from) c.place.ensures.place
-    (subst (λ (x : Guards). IsCut h order x c.node_of-node.result c.place.result span.from) is_guards e.cut)) in
+    let cut : IsCut h order guards (node_of h p) span.from (place order p) =
+    subst (λ n. IsCut h order guards n span.from (place order p)) c.node_of-node.ensures.node
+    (subst (λ n. IsCut h order guards c.node_of-node.result span.from n) c.place.ensures.place
+    (subst (λ (x : Guards). IsCut h order x c.node_of-node.result span.from c.place.result) is_guards e.cut)) in
     -- the latest start, said of the graph, the order and the guards
     let top = latest_as f span.from p c.in_ok-active.active c.in_ok-latest.latest h span.problem.now e.problem order
     span.order.now e.order guards span.guards.now (e.guards ∙ is_guards)

@@ -1,5 +1,6 @@
--- Proof of `begin_thawed`, which adds the start and the end of a process that isn't frozen, and when its node goes on
--- after it.
+-- Proof of `begin_thawed`, which adds to the forest the start and the end of a process that isn't frozen, and when its
+-- node goes on after it. Returns the tree of where it is active. `TooWide` names the forest's item if a tree on the way
+-- has too many leaves.
 use Rattle.std.proofs.Common.{◌<◌, ◌≡◌, ◌∙◌, ap, sym, subst, length, arith, inl, inr}
 use Rattle.cpg_base.specs.Graph.{Graph, process_count, process_at, node_of}
 use Rattle.cpg_rules.specs.Guards.{Guards, tree_of}

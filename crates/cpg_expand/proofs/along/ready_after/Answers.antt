@@ -1,4 +1,7 @@
--- Proof of `ready_after`, which returns from when on the node of a frozen process goes on after it.
+-- Proof of `ready_after`, which returns from when on the node of a frozen process goes on after it. `active` says where
+-- the process is active, and `end` has its ends. The right tree is made only if a later process that isn't frozen waits
+-- for the node, since a tree of all that the guard tests can be far wider than the row; otherwise some tree is
+-- returned. `TooWide` names the forest's item if a tree on the way has too many leaves.
 use Rattle.std.proofs.Common.{◌+◌, ◌≡◌, ◌∙◌, ap, sym, subst}
 use Rattle.cpg_base.specs.Graph.{Graph, node_of}
 use Rattle.cpg_order.specs.Guard.{Guard}

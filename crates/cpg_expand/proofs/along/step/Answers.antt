@@ -1,5 +1,6 @@
--- Proof of `step`, which adds the trees of a process and of what it sends, and the frozen times of those that are
--- frozen.
+-- Proof of `step`, which adds to the forest the trees of a process and of what it sends, and to `frozen` the frozen
+-- times of those of them that are frozen. `TooWide` names the forest's item if a tree on the way to the start and the
+-- end has too many leaves.
 use Rattle.std.proofs.Common.{◌∙◌, subst}
 use Rattle.cpg_base.specs.Graph.{Graph}
 use Rattle.cpg_bus.specs.Plan.{queue_of}

@@ -1,4 +1,5 @@
--- Proof of `found`, which returns where the tree of a guard is.
+-- Proof of `found`, which returns where the tree of a guard is. It is made unless `known` has an equal guard, and then
+-- kept there if there is room. `TooWide` names `descent.wide()` if a tree on the way has too many leaves.
 use Rattle.std.proofs.Common.{sym, subst}
 use Rattle.cpg_order.specs.Guard.{Guard}
 use Rattle.cpg_expand.specs.Large.{IsLarge}

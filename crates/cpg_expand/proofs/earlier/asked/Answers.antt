@@ -1,5 +1,5 @@
--- Proof of `asked`, which returns a tree that is true where the guard of some process in the span and before `to`
--- tests the condition.
+-- Proof of `asked`, which returns a tree that is true where the guard of some process in the span and before `to` tests
+-- the condition on the scenario's way, and false elsewhere.
 use Rattle.std.proofs.Common.{◌≡◌, ◌≤◌, true, length, arith, ap, subst}
 use Rattle.std.specs.Bool.{OnTrue}
 use Rattle.cpg_base.specs.Graph.{process_count}

@@ -1,5 +1,5 @@
 -- Proof of `or_asked`, which returns a tree that is true where `asked` is, or where the guard of process `other` tests
--- the condition, if `other` is in the span and before `to`.
+-- the condition on the scenario's way. If `other` isn't in the span or not before `to`, `asked` itself is returned.
 use Rattle.std.proofs.Common.{true, subst, sym, ◌∙◌}
 use Rattle.cpg_order.specs.Guard.{Guard}
 use Rattle.cpg_tree.specs.Tree.{IsConstant}

@@ -1,4 +1,5 @@
--- Proof of `durations`, which returns how long an execution of a process lasts with 0, 1, .. k faults.
+-- Proof of `durations`, which returns how long an execution of a process lasts with 0, 1, .. k faults, by their number;
+-- k is the most faults that a scenario of the graph has.
 use Rattle.cpg_base.proofs.Lists.{map_below_push}
 use Rattle.cpg_base.specs.Duration.{duration}
 use Rattle.cpg_expand.proofs.ending.durations.Goals as goal

@@ -1,4 +1,5 @@
--- Loops of `durations`, which returns how long an execution of a process lasts with 0, 1, .. k faults.
+-- The loop of `durations`, which adds how long an execution of the process lasts for one number of faults after
+-- another.
 use Rattle.std.proofs.Common.{◌≡◌, map}
 use Rattle.cpg_base.specs.Numbers.{numbers_below}
 use Rattle.cpg_base.specs.Duration.{duration}

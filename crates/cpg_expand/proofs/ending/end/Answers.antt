@@ -4,7 +4,8 @@ use Rattle.std.proofs.Common.{ℕ, List, ◌≡◌, ◌∙◌, subst}
 use Rattle.cpg_tree.specs.Tree.{IsJoin, IsNumber}
 use Rattle.cpg_tree.specs.Variables.{is_variable}
 use Rattle.cpg_tree_times.specs.Values.{ended}
-use Rattle.cpg_expand.proofs.GuardTrees.{end_valued, count_passes}
+use Rattle.cpg_expand.proofs.GuardTrees.{count_passes}
+use Rattle.cpg_expand.proofs.EndTrees.{end_valued}
 use Rattle.cpg_tree.proofs.GraphTrees.{same_tree}
 use Rattle.cpg_expand.proofs.ending.end.Goals as goal
 
@@ -16,7 +17,7 @@ returns-clause-tree c = same_tree c.args.problem.now c.args.start.now c.in_ok-en
     (c.in_ok-faults.ensures.pass (is_variable c.args.problem.now)
     (count_passes c.args.problem.now c.args.process c.requires.process)))
 
--- the ends are found from the starts and the process's count, by how long each number of executions lasts
+-- the ends are found from the starts and the process's fault count, by how long an execution lasts with each count
 pub returns-clause-end : goal.returns-clause-end
 returns-clause-end c =
     end_valued c.args.problem.now c.args.process c.args.start.now c.in_ok-end.end c.in_ok-faults.faults c.requires.start

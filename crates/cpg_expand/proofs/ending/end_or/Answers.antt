@@ -3,7 +3,8 @@
 use Rattle.cpg_tree.proofs.Readings.{later_pass, later_each, later_map}
 use Rattle.cpg_tree.specs.Read.{later_by}
 use Rattle.cpg_tree.specs.Variables.{is_variable}
-use Rattle.cpg_expand.proofs.GuardTrees.{each_of, ready_valued}
+use Rattle.cpg_expand.proofs.GuardTrees.{each_of}
+use Rattle.cpg_expand.proofs.EndTrees.{ready_valued}
 use Rattle.cpg_tree.proofs.GraphTrees.{same_tree}
 use Rattle.cpg_expand.proofs.ending.end_or.Goals as goal
 

@@ -1,4 +1,4 @@
--- Proof of `ready_first`: returns, for `count` nodes, that each is ready from time 0 on.
+-- Proof of `ready_first`, which returns, for `count` nodes, that each is ready from time 0 on.
 use Rattle.std.proofs.Common.{subst}
 use Rattle.cpg_tree.specs.Tree.{IsConstant}
 use Rattle.cpg_tree.specs.Variables.{is_variable}

@@ -1,4 +1,4 @@
--- Loops of `ready_first`: returns, for `count` nodes, that each is ready from time 0 on.
+-- The loop of `ready_first`, which adds for one node after another that it is ready from time 0 on.
 use Rattle.std.proofs.Common.{◌≡◌, All, length}
 use Rattle.cpg_expand.specs.Forest.{IsWait}
 use Rattle.cpg_expand.specs.Grown.{IsReadyFirst}

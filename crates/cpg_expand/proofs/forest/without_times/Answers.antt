@@ -14,10 +14,10 @@ loop-preserved c =
     (constant_tree c.args.problem.now None c.faults.result c.in_ok-constant.field-0 c.faults.ensures.faults
     c.in_ok-constant.ensures.each c.in_ok-constant.ensures.is
     (c.in_ok-constant.ensures.pass (is_variable c.args.problem.now))) c.in_ok-push.ensures.items in
-    let zero =
+    let is_none =
     subst (λ k. IsConstant None k c.in_ok-constant.field-0) c.faults.ensures.faults c.in_ok-constant.ensures.is in (
       pushed.0,
       pushed.1,
       constants_pushed None c.args.problem.now.faults c.loop.trees.items c.push.new.self.items c.in_ok-constant.field-0
-          c.loop.invariant.2 zero c.in_ok-push.ensures.items,
+          c.loop.invariant.2 is_none c.in_ok-push.ensures.items,
     )

@@ -1,4 +1,4 @@
--- Loops of `without_times`, which returns `count` trees that have no time in any scenario.
+-- The loop of `without_times`, which adds one tree after another that has no time in any scenario.
 use Rattle.std.proofs.Common.{◌≡◌, None, All, length}
 use Rattle.cpg_tree.specs.GraphTrees.{IsTree}
 use Rattle.cpg_tree.specs.Tree.{IsConstant}

@@ -1,4 +1,4 @@
--- Loops of `zeros`, which returns `count` trees that are 0 in every scenario.
+-- The loop of `zeros`, which adds one tree after another that is 0 in every scenario.
 use Rattle.std.proofs.Common.{◌≡◌, All, length}
 use Rattle.cpg_tree.specs.GraphTrees.{IsTree}
 use Rattle.cpg_tree.specs.Tree.{IsConstant}

@@ -1,5 +1,5 @@
 -- Proof of `few_sent`, which answers `TooWide` of the forest's item if the tree of an item that the process sends has
--- too many leaves. `inside` is the forest as the code has it, list by list.
+-- too many leaves.
 use Rattle.std.proofs.Common.{◌≡◌, ◌∙◌, ℕ, ◌<◌, List, length, get_or, Contains, ap, subst, arith, refl, sym, Option}
 use Rattle.std.proofs.lemmas.List.Elements.{Contains-get_or}
 use Rattle.cpg_bus.specs.Plan.{queue_of}
@@ -40,11 +40,10 @@ returns-in_err-few c =
       ends = c.forest.inside.ends.items;
       ready = c.forest.inside.ready.items;
       free = c.forest.inside.free.items;
-      wide =
-          c.forest.inside.wide;
+      wide = c.forest.inside.wide;
     } in
     let tree : TreeState (Option ℕ) = c.index.result.now in
-    -- the tree that is read is that of the item in the forest
+    -- the tree that is read is that of the item's times in the forest
     let same : tree ≡ times_of g f item = times_read g f c.requires.forest inside c.forest.view_is tree item item
     c.index.ensures refl (in_queue g p item queued).within in
     handed_as (IsLarge tree)

@@ -1,5 +1,6 @@
 -- Proof of `grown`, which returns the trees of all processes and of what they send, and the frozen times, under an
--- order.
+-- order. If `wide` has an item, leaves are counted: `TooWide` names it if a tree on the way has more than 147,456. If
+-- it is `None`, none are counted.
 use Rattle.std.proofs.Common.{ℕ, ◌<◌, List, Option, length, get_or, ◌∙◌, arith, sym, ap, subst}
 use Rattle.cpg_base.specs.Graph.{Graph, process_count}
 use Rattle.cpg_base.proofs.Places.{length_order}

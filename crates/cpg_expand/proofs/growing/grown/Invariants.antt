@@ -1,5 +1,5 @@
--- Loops of `grown`, which returns the trees of all processes and of what they send, and the frozen times, under an
--- order.
+-- The loop of `grown`, which goes over the processes in their order and adds the trees and the frozen times of each and
+-- of what it sends.
 use Rattle.std.proofs.Common.{◌≡◌}
 use Rattle.cpg_expand.specs.Grown.{IsGrown}
 use Rattle.cpg_expand.proofs.growing.grown.Given as goal

@@ -1,5 +1,5 @@
--- Proof of `are_own`, which says whether all these inputs come from the process's own node; so it is if there are
--- none.
+-- Proof of `are_own`, which says whether all these inputs come from the process's own node; so it is if there are none.
+-- Callers rely only on the answer yes.
 use Rattle.std.proofs.Common.{ℕ, ◌<◌, ◌≡◌, ◌∙◌, false, List, All, arith, sym, subst}
 use Rattle.std.proofs.lemmas.List.{nil_from_length}
 use Rattle.std.proofs.lemmas.List.Elements.{All-cons, All-nil}

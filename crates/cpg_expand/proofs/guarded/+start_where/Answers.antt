@@ -1,5 +1,6 @@
--- Proof of `start_where`, which returns the starts of a process where it is active, and no time elsewhere; there it
--- waits for its node, its release and these inputs.
+-- Proof of `start_where`, which returns the starts of a process where `active` is true, and no time elsewhere. It waits
+-- for its node, its release and the inputs `edges`; `wait` says from when on the node is ready for it. `TooWide` names
+-- the forest's item if a tree of the wait with some of the inputs has too many leaves.
 use Rattle.std.proofs.Common.{ap, ℕ, ◌<◌, ◌∙◌, ◌∷◌, List, arith, sym, subst}
 use Rattle.std.specs.Prelude.{IfOk}
 use Rattle.std.proofs.lemmas.List.{nil_from_length}

@@ -1,5 +1,5 @@
 -- Proof of `tested_on`, which returns a tree that is true where a guard tests the condition `wanted` on the scenario's
--- way.
+-- way, and false elsewhere.
 use Rattle.std.proofs.Common.{true, subst, sym}
 use Rattle.cpg_tree.specs.Tree.{IsConstant}
 use Rattle.cpg_order.specs.Guard.{Guard}

@@ -1,5 +1,5 @@
 -- Proof of `active`, which returns a tree that is true where a guard leads to an active leaf, so where its process is
--- active.
+-- active, and false elsewhere.
 use Rattle.cpg_expand.proofs.PartsKnown.{any_leaves}
 use Rattle.cpg_expand.proofs.guarded.active.Goals as goal
 

@@ -1,5 +1,7 @@
--- Proof of `start`, which returns the starts of a process with a guard: it waits for its node, its release and its
--- inputs.
+-- Proof of `start`, which returns the starts of a process with a guard; no time where it is inactive. It waits for its
+-- node, its release and those of its inputs that the guard's leaf asks for; `wait` says from when on the node is ready
+-- for it. `active` says where the guard leads to an active leaf. `TooWide` names the forest's item if a tree on the way
+-- has too many leaves.
 use Rattle.std.proofs.Common.{inl, inr}
 use Rattle.cpg_tree.proofs.Forks.{from_true}
 use Rattle.cpg_expand.specs.Forest.{ready_by}

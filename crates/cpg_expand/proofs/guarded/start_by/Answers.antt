@@ -1,6 +1,7 @@
--- Proof of `start_by`, which returns the starts of a process with this activation: none if it is inactive, and
--- otherwise once its node is ready, at its release or later, when all inputs, or the one that the activation names,
--- are there.
+-- Proof of `start_by`, which returns the starts of a process with this activation: no time if it is inactive, and
+-- otherwise, at its release or later, when its node is ready, which `wait` says, and all inputs, or the one that the
+-- activation names, are there. `TooWide` names the forest's item if a tree of the wait with some of the inputs has too
+-- many leaves.
 use Rattle.std.proofs.Common.{None, sym, subst, refl}
 use Rattle.cpg_base.specs.declared.activation.Activation.{Activation}
 use Rattle.cpg_base.specs.declared.activation.Activation.TheVariants.{Plain, By}

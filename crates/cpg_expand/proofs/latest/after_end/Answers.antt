@@ -1,5 +1,5 @@
 -- Proof of `after_end`, which returns `latest`, raised to the latest end of a process in a scenario in which `wanted`
--- is true; `latest` if there is none. `inside` is the forest as the code has it, list by list.
+-- is true; `latest` if there is none.
 use Rattle.std.proofs.Common.{ℕ, ◌≡◌, Option, refl, sym, subst}
 use Rattle.cpg_expand.specs.Forest.{ForestState, ends_of}
 use Rattle.cpg_expand.specs.Latest.{HasLater, IsRaised, or_later}
@@ -19,10 +19,9 @@ returns c =
       ends = c.forest.inside.ends.items;
       ready = c.forest.inside.ready.items;
       free = c.forest.inside.free.items;
-      wide =
-          c.forest.inside.wide;
+      wide = c.forest.inside.wide;
     } in
-    -- the tree that is read is that of the process in the forest
+    -- the tree that is read is that of the process's ends in the forest
     let tree : c.index.result.now ≡ ends_of g f c.args.process = ends_read g f c.requires.forest inside c.forest.view_is
     c.index.result.now c.args.process c.args.process c.index.ensures refl
     c.requires.process in

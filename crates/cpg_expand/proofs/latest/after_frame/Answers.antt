@@ -1,5 +1,5 @@
 -- Proof of `after_frame`, which returns `latest`, raised to the latest arrival of an item's frame in a scenario in
--- which `wanted` is true; `latest` if there is none. `inside` is the forest as the code has it, list by list.
+-- which `wanted` is true; `latest` if there is none.
 use Rattle.std.proofs.Common.{ℕ, ◌≡◌, ◌∙◌, Option, refl, ap, sym, subst}
 use Rattle.cpg_base.specs.Bus.{slot_length}
 use Rattle.cpg_base.specs.Graph.{home}
@@ -21,10 +21,9 @@ returns c =
       ends = c.forest.inside.ends.items;
       ready = c.forest.inside.ready.items;
       free = c.forest.inside.free.items;
-      wide =
-          c.forest.inside.wide;
+      wide = c.forest.inside.wide;
     } in
-    -- the tree that is read is that of the item in the forest
+    -- the tree that is read is that of the item's times in the forest
     let tree : c.index.result.now ≡ times_of g f c.args.item = times_read g f c.requires.forest inside c.forest.view_is
     c.index.result.now c.args.item c.args.item c.index.ensures refl
     c.requires.item in

@@ -1,5 +1,5 @@
--- Proof of `after_input`, which returns `latest`, raised to the latest arrival of an input where `active` is true, if
--- it comes from another node.
+-- Proof of `after_input`, which returns `latest`, raised to the latest arrival of an input where `active` is true. If
+-- the input comes from the node itself, `latest` stays.
 use Rattle.std.proofs.Common.{◌≡◌, ◌∙◌, true, sym, subst}
 use Rattle.cpg_base.specs.Bus.{slot_length}
 use Rattle.cpg_base.specs.Graph.{home, is_message}

@@ -1,5 +1,5 @@
--- Proof of `after_one`, which returns `latest`, raised to the latest end of process `other` where `active` is true, if
--- that is in the span and before `to`.
+-- Proof of `after_one`, which returns `latest`, raised to the latest end of process `other` where `active` is true. If
+-- `other` isn't in the span or not before `to`, `latest` stays.
 use Rattle.std.proofs.Common.{◌∙◌, sym}
 use Rattle.cpg_expand.proofs.EarlierFound.{between_from}
 use Rattle.cpg_expand.proofs.LatestFound.{one_ended}

@@ -1,6 +1,5 @@
 -- Proof of `after_queued`, which returns `latest`, raised to a round after the latest time of item `other` in a
--- scenario in which `sent` goes, if `other` stands before it in the queue of its node. `inside` is the forest as the
--- code has it, list by list.
+-- scenario in which `sent` goes. If `other` doesn't stand before `sent` in the queue of its node, `latest` stays.
 use Rattle.std.proofs.Common.{ℕ, ◌≡◌, ◌∙◌, Option, refl, sym, subst}
 use Rattle.cpg_tree.specs.Tree.{TreeState}
 use Rattle.cpg_base.specs.Bus.{round}
@@ -24,10 +23,9 @@ returns c =
       ends = c.forest.inside.ends.items;
       ready = c.forest.inside.ready.items;
       free = c.forest.inside.free.items;
-      wide =
-          c.forest.inside.wide;
+      wide = c.forest.inside.wide;
     } in
-    -- the tree that is read is that of the item in the forest
+    -- the tree that is read is that of the item's times in the forest
     let tree : c.index.result.now ≡ times_of g f y = times_read g f c.requires.forest inside c.forest.view_is
     c.index.result.now y y c.index.ensures refl c.requires.other in
     one_queued g c.args.order.now f goes sent.item y c.args.latest c.or_later.result

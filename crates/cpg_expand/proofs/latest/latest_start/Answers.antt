@@ -1,6 +1,6 @@
--- Proof of `latest_start`, which returns the latest start of a process in any scenario: it waits for its release,
--- these inputs, the ends of the processes in the span before it, and until its node has heard what their guards and
--- its own test.
+-- Proof of `latest_start`, which returns the latest start of a process in any scenario. It waits for its release, for
+-- the inputs `edges`, and for the processes in the span before it to end; and its node must have heard what the guards
+-- of these and its own test. `active` says where the process is active. `None` exactly if it is never active.
 use Rattle.std.proofs.Common.{◌+◌, Some, ap, subst, ◌∙◌}
 use Rattle.cpg_base.specs.Graph.{condition_count, process_count, process_at}
 use Rattle.cpg_tree.specs.Tree.{HasOnePathEach, IsConstant}
@@ -40,11 +40,11 @@ returns c =
           c.in_ok-ready.ensures.is);
       -- raised to the ends before it, then to what is heard, and then to the inputs
       is = record {
-        first = c.in-Some.first;
-        top = c.in-Some.ensures;
+        released = c.in-Some.released;
+        releases = c.in-Some.ensures;
         ended = c.after_ends-ended.result;
         ends = subst (λ n. IsRaised g (HasEndedOf g span.order.now f active span.node span.from n (process_count g))
-            c.in-Some.first c.after_ends-ended.result) c.place-at.ensures.place
+            c.in-Some.released c.after_ends-ended.result) c.place-at.ensures.place
             c.after_ends-ended.ensures;
         heard = c.in_ok-heard.heard;
         hears = subst (λ n. IsRaised g (HasHeardOf g span.order.now span.guards.now f active span.node span.from (n + 1)

@@ -1,5 +1,6 @@
--- Proof of `add`, which adds an item that a process sends: its times, its frozen time if it is frozen, and when the
--- slots of its node are free after it.
+-- Proof of `add`, which adds an item that a process sends: to the forest its times, and from when on the slots of its
+-- node are free after it, and to `frozen` its frozen time if it is frozen and ever goes. `active` says where the
+-- process is active.
 use Rattle.std.proofs.Common.{◌∙◌}
 use Rattle.cpg_expand.proofs.FreeRead.{has_put}
 use Rattle.cpg_expand.proofs.SentTrees.{sent_count, item_added}

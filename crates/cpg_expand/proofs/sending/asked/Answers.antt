@@ -1,5 +1,5 @@
--- Proof of `asked`, which returns the condition that an edge asks for, with the value that it wants; `None` if the
--- edge is live wherever its source is active.
+-- Proof of `asked`, which returns the condition that an edge asks for, with the value that it wants; `None` if the edge
+-- is live wherever its source is active.
 use Rattle.std.proofs.Common.{◌∙◌, sym}
 use Rattle.cpg_base.proofs.ConditionProcesses.{condition_of_below}
 use Rattle.cpg_expand.proofs.sending.asked.Goals as goal

@@ -1,5 +1,5 @@
--- Proof of `free_then`, which returns when the slots of an item's node are free after it, if an item waits for that;
--- otherwise any tree. `inside` is the forest as the code has it, list by list.
+-- Proof of `free_then`, which returns from when on the slots of an item's node are free after it, if some item that
+-- isn't frozen waits for that; otherwise any tree. `goes` says where the item goes, and `sent` has its times.
 use Rattle.std.proofs.Common.{arith, refl}
 use Rattle.cpg_base.specs.Bus.{round}
 use Rattle.cpg_base.specs.Graph.{home}
@@ -21,8 +21,7 @@ returns-clause-free c queued =
       ends = c.forest.inside.ends.items;
       ready = c.forest.inside.ready.items;
       free = c.forest.inside.free.items;
-      wide =
-          c.forest.inside.wide;
+      wide = c.forest.inside.wide;
     } in
     free_then_read g.faults g.faults c.round.result (round g) c.args.goes.now c.args.sent.now c.index-free.result.now
     (free_of g f (home g x)) c.in_ok-freed.freed refl c.round.ensures

@@ -1,10 +1,12 @@
--- Proof of `freed`, which returns when the slots are free after an item: a round after it where it goes, and as before
--- elsewhere.
+-- Proof of `freed`, which returns from when on the slots are free after an item: `round` after its time in `sent` where
+-- `goes` is true, and as `free` says elsewhere. That holds only if some item that isn't frozen waits for it; otherwise
+-- any tree is returned, since the right one can be far wider than a frozen item's row.
 use Rattle.std.proofs.Common.{◌≡◌, ◌∙◌, true, false, sym}
 use Rattle.cpg_tree.proofs.Readings.{later_pass, later_each, later_map}
 use Rattle.cpg_tree.specs.Read.{later_by}
 use Rattle.cpg_tree.specs.Variables.{is_variable}
-use Rattle.cpg_expand.proofs.GuardTrees.{each_of, free_valued, free_always}
+use Rattle.cpg_expand.proofs.GuardTrees.{each_of}
+use Rattle.cpg_expand.proofs.EndTrees.{free_valued, free_always}
 use Rattle.cpg_tree.proofs.GraphTrees.{same_tree}
 use Rattle.cpg_expand.proofs.sending.freed.Goals as goal
 
@@ -26,7 +28,7 @@ returns-clause-free c waited =
     (later_each c.args.round sent each)
     (later_pass c.args.round sent (is_variable g) c.requires.sent.known) c.in_ok-freed.ensures.is
 
--- the tree has the faults of the graph and tests variables of the graph alone
+-- the tree has the faults of the graph, and forks on the graph's variables alone
 pub returns-then-is_true-clause-tree : goal.returns-then-is_true-clause-tree
 returns-then-is_true-clause-tree c = same_tree c.args.problem.now c.args.sent.now c.in_ok-after.after
     c.requires.sent.faults c.in_ok-after.ensures.is.faults c.in_ok-after.ensures.each
@@ -38,7 +40,7 @@ returns-then-is_true-clause-free c waited = free_always c.args.problem.now c.arg
     c.args.free.now c.in_ok-after.after c.if-is_true.ensures c.requires.sent
     c.in_ok-after.ensures.is
 
--- the tree has the faults of the graph and tests variables of the graph alone
+-- the tree has the faults of the graph, and forks on the graph's variables alone
 pub returns-then-not-is_queued_for-clause-tree : goal.returns-then-not-is_queued_for-clause-tree
 returns-then-not-is_queued_for-clause-tree c = same_tree c.args.problem.now c.args.sent.now c.in_ok-after-2.after
     c.requires.sent.faults c.in_ok-after-2.ensures.is.faults c.in_ok-after-2.ensures.each

@@ -1,4 +1,5 @@
--- Proof of `goes`, which returns a tree that is true where an item is sent, given where its producer is active.
+-- Proof of `goes`, which returns a tree that is true where an item is sent, and false elsewhere. `active` says where
+-- its producer is active.
 use Rattle.std.proofs.Common.{◌∙◌, sym}
 use Rattle.cpg_tree.specs.Variables.{is_variable}
 use Rattle.cpg_tree.proofs.GraphTrees.{same_tree}

@@ -1,5 +1,5 @@
--- Proof of `latest_of`, which returns the latest time at which a frozen item would be sent if it weren't frozen;
--- `None` exactly if it never goes. `inside` is the forest as the code has it, list by list.
+-- Proof of `latest_of`, which returns the latest time at which a frozen item would be sent if it weren't frozen. `goes`
+-- says where it goes; `None` exactly if its producer has no end there.
 use Rattle.std.proofs.Common.{◌∙◌, ap, arith}
 use Rattle.cpg_base.specs.Graph.{home, producer}
 use Rattle.cpg_bus.specs.Share.{share_of}
@@ -20,8 +20,7 @@ returns c =
       ends = c.forest.inside.ends.items;
       ready = c.forest.inside.ready.items;
       free = c.forest.inside.free.items;
-      wide =
-          c.forest.inside.wide;
+      wide = c.forest.inside.wide;
     } in
     latest_read g c.args.course.now.order.now f c.share-share.result (share_of g (home g x)) c.args.goes.now
     c.index-end.result.now (ends_of g f (producer g x)) x c.latest_send.result

@@ -1,4 +1,5 @@
--- Proof of `live`, which returns a tree that is true where an edge is live, given where its source is active.
+-- Proof of `live`, which returns a tree that is true where an edge is live, and false elsewhere. `active` says where
+-- its source is active.
 use Rattle.std.proofs.Common.{◌∙◌, sym}
 use Rattle.cpg_tree.specs.Variables.{is_variable}
 use Rattle.cpg_tree.proofs.GraphTrees.{same_tree}

@@ -1,4 +1,6 @@
--- Proof of `send`, which adds the items that a process sends, in the order of its queue.
+-- Proof of `send`, which adds the items that a process sends, in the order of its queue: to the forest their times, and
+-- from when on the slots of its node are free after them, and to `frozen` the frozen times. `active` says where the
+-- process is active.
 use Rattle.std.proofs.Common.{◌≡◌, ℕ, ◌<◌, List, length, get_or, Contains, ap, subst, arith}
 use Rattle.std.proofs.lemmas.List.Elements.{Contains-get_or}
 use Rattle.cpg_bus.specs.Plan.{queue_of}

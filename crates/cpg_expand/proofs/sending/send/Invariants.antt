@@ -1,4 +1,5 @@
--- Loops of `send`, which adds the items that a process sends, in the order of its queue.
+-- The loop of `send`, which goes over the queue of the process and adds one item after another to the forest and to
+-- `frozen`.
 use Rattle.std.proofs.Common.{◌≡◌, length, take}
 use Rattle.cpg_base.specs.Graph.{item_count}
 use Rattle.cpg_bus.specs.Plan.{queue_of}

@@ -1,9 +1,11 @@
--- Proof of `tested`, which returns a tree that is true where `active` is and the condition has the value `wanted`.
+-- Proof of `tested`, which returns a tree that is true where `active` is and the condition has the value `wanted`, and
+-- false elsewhere.
 use Rattle.std.proofs.Common.{◌+◌, false, subst}
 use Rattle.cpg_base.specs.Scenario.{number_of_value}
 use Rattle.cpg_tree.specs.Tree.{IsConstant, IsNumber}
 use Rattle.cpg_tree.specs.Variables.{is_variable}
-use Rattle.cpg_expand.proofs.GuardTrees.{tested_valued, value_passes}
+use Rattle.cpg_expand.proofs.GuardTrees.{value_passes}
+use Rattle.cpg_expand.proofs.EndTrees.{tested_valued}
 use Rattle.cpg_tree.proofs.GraphTrees.{same_tree}
 use Rattle.cpg_expand.proofs.sending.tested.Goals as goal
 

@@ -1,9 +1,10 @@
--- Proof of `unfrozen_sent`, which returns a tree with the first free slot at `end` or later where an item goes, and no
--- time elsewhere.
+-- Proof of `unfrozen_sent`, which returns a tree with the times of an item: the first free slot at `end` or later where
+-- `goes` is true, and no time elsewhere. `share` says which slots its node has, `end` when its producer ends, and
+-- `free` from when on slots are free.
 use Rattle.std.proofs.Common.{None, subst}
 use Rattle.cpg_tree.specs.Tree.{IsConstant}
 use Rattle.cpg_tree.specs.Variables.{is_variable}
-use Rattle.cpg_expand.proofs.GuardTrees.{sent_valued, sent_always}
+use Rattle.cpg_expand.proofs.EndTrees.{sent_valued, sent_always}
 use Rattle.cpg_tree.proofs.GraphTrees.{same_tree}
 use Rattle.cpg_expand.proofs.sending.unfrozen_sent.Goals as goal
 
@@ -26,7 +27,7 @@ returns-clause-sent c = sent_valued c.args.problem.now c.args.share c.args.goes.
     c.in_ok-never.ensures.each
     (c.in_ok-never.ensures.pass (is_variable c.args.problem.now)) c.in_ok-sent.ensures.is
 
--- the tree has the faults of the graph and tests variables of the graph alone
+-- the tree has the faults of the graph, and forks on the graph's variables alone
 pub returns-then-is_true-clause-tree : goal.returns-then-is_true-clause-tree
 returns-then-is_true-clause-tree c = same_tree c.args.problem.now c.args.end.now c.in_ok-slots.slots
     c.requires.end.faults c.in_ok-slots.ensures.is.faults c.in_ok-slots.ensures.each

@@ -1,4 +1,6 @@
--- Proof of `unfrozen_start`, which returns the starts of a process that isn't frozen.
+-- Proof of `unfrozen_start`, which returns the starts of a process that isn't frozen; no time where it is inactive.
+-- `wait` says what it waits for on its node, `inputs` are the edges that lead to it, `guard` is its guard, and `active`
+-- says where it is active. `TooWide` names the forest's item if a tree on the way has too many leaves.
 use Rattle.std.proofs.Common.{subst}
 use Rattle.std.specs.Prelude.{IfErr}
 use Rattle.cpg_expand.specs.Forest.{ready_by}

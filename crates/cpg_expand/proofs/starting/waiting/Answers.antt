@@ -1,10 +1,11 @@
 -- Proof of `waiting`, which returns from when on a node is ready for a process and has heard what its guard tests.
--- `inside` is the forest as the code has it, list by list.
+-- `None` exactly if the guard tests nothing: then the process waits until its node is ready. `TooWide` names the
+-- forest's item if a tree on the way has too many leaves.
 use Rattle.std.proofs.Common.{◌≡◌, refl, ap, subst, inl, inr}
 use Rattle.cpg_expand.specs.Forest.{ForestState, ready_at, ready_by}
 use Rattle.cpg_expand.specs.Later.{IsLatest}
 use Rattle.cpg_expand.specs.declared.forest.Ready.{Ready}
-use Rattle.cpg_expand.proofs.GuardTrees.{wait_valued, ready_read}
+use Rattle.cpg_expand.proofs.EndTrees.{wait_valued, ready_read}
 use Rattle.cpg_expand.specs.Large.{IsLarge, IsLargeHeard, IsLargeWait}
 use Rattle.cpg_expand.specs.Waiting.{ready_of}
 use Rattle.cpg_expand.proofs.LargeShown.{handed_as, named_as}
@@ -24,8 +25,7 @@ returns-in_ok-few-in-Test-clause-wait c =
       ends = c.forest.inside.ends.items;
       ready = c.forest.inside.ready.items;
       free = c.forest.inside.free.items;
-      wide =
-          c.forest.inside.wide;
+      wide = c.forest.inside.wide;
     } in
     let same : c.index.result.now ≡ ready_at g f node = ready_read g f c.requires.forest inside c.forest.view_is
     c.index.result.now node node c.index.ensures refl c.requires.node in
@@ -62,8 +62,7 @@ returns-in_err-few-in-Test-clause-fault c =
       ends = c.forest.inside.ends.items;
       ready = c.forest.inside.ready.items;
       free = c.forest.inside.free.items;
-      wide =
-          c.forest.inside.wide;
+      wide = c.forest.inside.wide;
     } in
     -- the tree that is read is that of when the node is ready
     let same : c.index.result.now ≡ ready_at g f node = ready_read g f c.requires.forest inside c.forest.view_is

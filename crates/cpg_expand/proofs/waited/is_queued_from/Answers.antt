@@ -1,5 +1,5 @@
 -- Proof of `is_queued_from`, which says whether the node sends some item that isn't frozen for a process at the place
--- `at` or later.
+-- `at` of the order or later.
 use Rattle.std.proofs.Common.{rules}
 use Rattle.cpg_expand.proofs.ReadyMade.{none_goes_by, one_goes_by}
 use Rattle.cpg_expand.proofs.waited.is_queued_from.Goals as goal

@@ -1,5 +1,5 @@
--- Loops of `is_queued_from`, which says whether the node sends some item that isn't frozen for a process at the place
--- `at` or later.
+-- The loop of `is_queued_from`, which goes over all items until one waits for the node's slots: one that isn't frozen
+-- and that the node sends for a process at the place `at` or later.
 use Rattle.std.specs.Prelude.{ℕ, ◌≡◌, ◌≤◌, ◌<◌, true, false}
 use Rattle.cpg_base.specs.Graph.{home, is_frozen, is_sent, producer}
 use Rattle.cpg_base.specs.Order.{place}

@@ -1,4 +1,5 @@
--- Loops of `is_waited_for`, which says whether some process behind a given one is on the same node and isn't frozen.
+-- The loop of `is_waited_for`, which goes over all processes until one waits for the node: one that isn't frozen and
+-- stands on it behind the place `at`.
 use Rattle.std.specs.Prelude.{ℕ, ◌≡◌, ◌<◌, false}
 use Rattle.cpg_base.specs.Graph.{node_of, is_frozen}
 use Rattle.cpg_base.specs.Order.{place}

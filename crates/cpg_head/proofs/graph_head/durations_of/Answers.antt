@@ -1,4 +1,5 @@
--- Proof of `durations_of`, which returns how long the executions of a process last.
+-- Proof of `durations_of`, which returns how long an execution of a process lasts at most with 0, 1, .. faults, up
+-- to the most that the graph allows.
 use Rattle.cpg_base.specs.Duration.{duration}
 use Rattle.cpg_base.proofs.Lists.{map_below_push}
 use Rattle.cpg_head.proofs.graph_head.durations_of.Goals as goal

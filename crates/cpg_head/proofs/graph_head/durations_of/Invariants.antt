@@ -1,4 +1,5 @@
--- Loops of `durations_of`, which returns how long the executions of a process last.
+-- Loops of `durations_of`, which returns how long an execution of a process lasts at most with 0, 1, .. faults, up
+-- to the most that the graph allows.
 use Rattle.std.proofs.Common.{◌≡◌, map}
 use Rattle.cpg_base.specs.Numbers.{numbers_below}
 use Rattle.cpg_base.specs.Duration.{duration}

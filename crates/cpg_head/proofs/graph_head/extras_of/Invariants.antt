@@ -1,4 +1,4 @@
--- Loops of `extras_of`, which returns what version 2 adds for each process.
+-- Loops of `extras_of`, which returns what version 2 adds for each of these processes, in their order.
 use Rattle.std.proofs.Common.{◌≡◌, map, take}
 use Rattle.cpg_head.specs.GraphHead.{extra_of}
 use Rattle.cpg_head.proofs.graph_head.extras_of.Given as goal

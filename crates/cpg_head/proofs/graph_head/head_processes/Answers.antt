@@ -1,4 +1,4 @@
--- Proof of `head_processes`, which returns what a head says of each process, by number.
+-- Proof of `head_processes`, which returns what the head for a graph says of each process, by number.
 use Rattle.cpg_base.proofs.Lists.{map_below_push}
 use Rattle.cpg_head.specs.GraphHead.{head_process}
 use Rattle.cpg_head.proofs.graph_head.head_processes.Goals as goal

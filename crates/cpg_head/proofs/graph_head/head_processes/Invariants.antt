@@ -1,4 +1,4 @@
--- Loops of `head_processes`, which returns what a head says of each process, by number.
+-- Loops of `head_processes`, which returns what the head for a graph says of each process, by number.
 use Rattle.std.proofs.Common.{◌≡◌, map}
 use Rattle.cpg_base.specs.Numbers.{numbers_below}
 use Rattle.cpg_head.specs.GraphHead.{head_process}

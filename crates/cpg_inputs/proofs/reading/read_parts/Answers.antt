@@ -18,12 +18,13 @@ read_part-requires g c =
 pub returns-in_err-problem-clause-halt : goal.returns-in_err-problem-clause-halt
 returns-in_err-problem-clause-halt g c =
     let S = g.S.Shelf in
-    let past : List Fetch = (S.state c.args.shelf.now).history in
-    let mid : List Fetch = (S.state c.loop-pair.shelf).history in
-    let now : List Fetch = (S.state c.read_part.new.shelf).history in
+    -- the histories: when the function was called, before the file of this part, and after it
+    let at_start : List Fetch = (S.state c.args.shelf.now).history in
+    let before_file : List Fetch = (S.state c.loop-pair.shelf).history in
+    let after_file : List Fetch = (S.state c.read_part.new.shelf).history in
     let p = err_from_is_err_and c.from_residual.result c.from_residual.ensures.1 in
     rw (p.1, p.2) (stops_next c.args.pairs.now c.loop-pair.pair-index c.pair-item.result c.loop-pair-test.true
-    c.pair-item.is c.loop-pair.parts.items past mid now c.loop-pair.invariant.read
+    c.pair-item.is c.loop-pair.parts.items at_start before_file after_file c.loop-pair.invariant.read
     c.in_err-problem.field-0.0 (rw c.as_str.ensures at c.in_err-problem.ensures.halt))
 
 -- the file of the next part was read, and the part is added with its period
@@ -31,10 +32,10 @@ pub loop-pair-preserved : goal.loop-pair-preserved
 loop-pair-preserved g c =
     let S = g.S.Shelf in
     let before = c.loop-pair.invariant in
-    -- the histories at first, before this file and after it
-    let past : List Fetch = (S.state c.args.shelf.now).history in
-    let mid : List Fetch = (S.state c.loop-pair.shelf).history in
-    let now : List Fetch = (S.state c.read_part.new.shelf).history in
+    -- the histories: when the function was called, before the file of this part, and after it
+    let at_start : List Fetch = (S.state c.args.shelf.now).history in
+    let before_file : List Fetch = (S.state c.loop-pair.shelf).history in
+    let after_file : List Fetch = (S.state c.read_part.new.shelf).history in
     let pair = c.pair-item.result in
     -- the shelf was kept, may still be asked, has given the next file, and the parts have one period more
     record {
@@ -43,23 +44,25 @@ loop-pair-preserved g c =
       access = access_on (S.may_fetch c.args.shelf.now) (S.may_fetch c.loop-pair.shelf)
           (S.may_fetch c.read_part.new.shelf) before.access c.in_ok-problem.ensures.access;
       read = read_next c.args.pairs.now c.loop-pair.pair-index pair c.loop-pair-test.true c.pair-item.is
-          c.loop-pair.parts.items past mid now before.read c.in_ok-problem.problem c.add.new.parts.items
-          (rw c.as_str.ensures at c.in_ok-problem.ensures.graph) c.in_ok-add.ensures.added;
+          c.loop-pair.parts.items at_start before_file after_file before.read c.in_ok-problem.problem
+          c.add.new.parts.items (rw c.as_str.ensures at c.in_ok-problem.ensures.graph) c.in_ok-add.ensures.added;
       periods = periods_next c.args.pairs.now c.loop-pair.pair-index pair c.loop-pair-test.true c.pair-item.is
-          c.loop-pair.parts.items past mid now before.read c.in_ok-problem.problem
+          c.loop-pair.parts.items at_start before_file after_file before.read c.in_ok-problem.problem
           c.add.new.parts.items before.periods c.in_ok-add.ensures.added;
     }
 
--- the file of the part was read, but memory ran out as the part was added
+-- the file of the part was read, but memory ran out as the part was added; this counts as if the file had taken the
+-- memory
 pub returns-in_err-add-clause-halt : goal.returns-in_err-add-clause-halt
 returns-in_err-add-clause-halt g c =
     let S = g.S.Shelf in
-    let past : List Fetch = (S.state c.args.shelf.now).history in
-    let mid : List Fetch = (S.state c.loop-pair.shelf).history in
-    let now : List Fetch = (S.state c.read_part.new.shelf).history in
+    -- the histories: when the function was called, before the file of this part, and after it
+    let at_start : List Fetch = (S.state c.args.shelf.now).history in
+    let before_file : List Fetch = (S.state c.loop-pair.shelf).history in
+    let after_file : List Fetch = (S.state c.read_part.new.shelf).history in
     let p = err_from_is_err_and c.from_residual-in_err-add.result c.from_residual-in_err-add.ensures.1 in
     rw (p.1, p.2) (wants_next c.args.pairs.now c.loop-pair.pair-index c.pair-item.result c.loop-pair-test.true
-    c.pair-item.is c.loop-pair.parts.items past mid now c.loop-pair.invariant.read
+    c.pair-item.is c.loop-pair.parts.items at_start before_file after_file c.loop-pair.invariant.read
     c.in_ok-problem.problem c.in_err-add.field-0.0
     (rw c.as_str.ensures at c.in_ok-problem.ensures.graph) c.in_err-add.ensures.halt)
 

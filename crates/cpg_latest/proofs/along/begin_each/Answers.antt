@@ -1,4 +1,5 @@
--- Proof of `begin_each`: starts a process in each track.
+-- Proof of `begin_each`: starts a process in each course of each track in which it is active, and otherwise lets its
+-- node wait for what decides it.
 use Rattle.std.proofs.Common.{◌≡◌, ◌∙◌, Bool, List, length, get_or, refl, sym, ap, subst, arith}
 use Rattle.std.proofs.lemmas.List.{length-map}
 use Rattle.cpg_latest.specs.Course.{IsAsked, IsLane, outcomes_asked}

@@ -1,4 +1,5 @@
--- Loops of `begin_each`: starts a process in each track.
+-- Loops of `begin_each`: starts a process in each course of each track in which it is active, and otherwise lets its
+-- node wait for what decides it.
 use Rattle.std.proofs.Common.{length}
 use Rattle.cpg_latest.specs.Course.{AreHalf, outcomes_asked}
 use Rattle.cpg_latest.specs.Lanes.{CanBegin, HasSentTo}

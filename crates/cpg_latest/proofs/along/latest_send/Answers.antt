@@ -1,5 +1,5 @@
--- Proof of `latest_send`: the latest time of an item of a process over all tracks as if it were not frozen, and
--- `None` exactly if it is never active.
+-- Proof of `latest_send`: the latest time over all tracks at which a process could send an item if that were not
+-- frozen, and `None` exactly if the item is active in none.
 use Rattle.std.proofs.Common.{◌≡◌, ◌∙◌, ◌<◌, List, [], length, inl, inr, sym, ap, subst, arith}
 use Rattle.std.proofs.lemmas.Bool.{cases_Bool, true≢false}
 use Rattle.std.proofs.lemmas.List.{get_or_default, length-map}
@@ -65,10 +65,10 @@ pub send_time-time-requires-clause-early : goal.send_time-time-requires-clause-e
 send_time-time-requires-clause-early c on =
     let asked = c.args.asked.now in
     let a = c.index-asked-i.result in
-    let there : c.loop-i.i < length asked = omega
+    let inside : c.loop-i.i < length asked = omega
     (arith, c.loop-i-test.true, c.requires.lanes.count, length-map asked (λ (a : Asked). a.scenario.now.values)) in
     let values : track_at (outcomes_asked asked) c.loop-i.i ≡ a.scenario.now.values =
-    outcome_asked asked c.loop-i.i a there ∙ ap (λ (b : Asked). b.scenario.now.values) (sym c.index-asked-i.is) in
+    outcome_asked asked c.loop-i.i a inside ∙ ap (λ (b : Asked). b.scenario.now.values) (sym c.index-asked-i.is) in
     let t = subst (TellsSend c.args.setting.now.problem.now (track_at (outcomes_asked asked) c.loop-i.i) c.args.process)
     (sym c.index-lanes-i.is)
     (c.requires.lanes.each c.loop-i.i c.index-lanes-i.result
@@ -82,10 +82,10 @@ loop-i-preserved c =
     let asked = c.args.asked.now in
     let a = c.index-asked-i.result in
     -- the track at hand has the values that are asked, and its lane is the one that is read
-    let there : c.loop-i.i < length asked = omega
+    let inside : c.loop-i.i < length asked = omega
     (arith, c.loop-i-test.true, c.requires.lanes.count, length-map asked (λ (a : Asked). a.scenario.now.values)) in
     let values : track_at (outcomes_asked asked) c.loop-i.i ≡ a.scenario.now.values =
-    outcome_asked asked c.loop-i.i a there ∙ ap (λ (b : Asked). b.scenario.now.values) (sym c.index-asked-i.is) in
+    outcome_asked asked c.loop-i.i a inside ∙ ap (λ (b : Asked). b.scenario.now.values) (sym c.index-asked-i.is) in
     let lane : c.index-lanes-i.result ≡ lane_at c.args.lanes.now c.loop-i.i =
     c.index-lanes-i.is ∙ get_or_default c.args.lanes.now c.loop-i.i c.index-lanes-i.result [] c.loop-i-test.true in
     let acts_same = ap (λ v. active g v c.args.process) values in

@@ -1,5 +1,5 @@
--- Loops of `latest_send`: the latest time of an item of a process over all tracks as if it were not frozen, and
--- `None` exactly if it is never active.
+-- Loops of `latest_send`: the latest time over all tracks at which a process could send an item if that were not
+-- frozen, and `None` exactly if the item is active in none.
 use Rattle.cpg_latest.specs.Course.{outcomes_asked}
 use Rattle.cpg_latest.specs.Over.{IsLatestSend}
 use Rattle.cpg_latest.proofs.along.latest_send.Given as goal

@@ -1,5 +1,5 @@
 -- Proof of `latest_start`: the latest start of a process over all tracks as if it were not frozen, and `None` exactly
--- if it is never active.
+-- if it is active in none.
 use Rattle.std.proofs.Common.{◌≡◌, ◌∙◌, ◌<◌, Bool, true, List, [], length, inl, inr, sym, ap, subst, arith}
 use Rattle.std.proofs.lemmas.Bool.{cases_Bool, true≢false}
 use Rattle.std.proofs.lemmas.List.{get_or_default, length-map}
@@ -70,12 +70,12 @@ loop-i-preserved c =
     let asked = c.args.asked.now in
     let a = c.index-asked-i.result in
     -- the track at hand has the values that are asked, and its lane is the one that is read
-    let there : c.loop-i.i < length asked = omega
+    let inside : c.loop-i.i < length asked = omega
     (arith, c.loop-i-test.true, c.requires.lanes.count, length-map asked (λ (a : Asked). a.scenario.now.values)) in
-    let is = c.requires.asked c.loop-i.i a there in
+    let is = c.requires.asked c.loop-i.i a inside in
     let one = subst (IsAsked g c.args.setting.now.guards.now c.args.process) (sym c.index-asked-i.is) is in
     let values : track_at (outcomes_asked asked) c.loop-i.i ≡ a.scenario.now.values =
-    outcome_asked asked c.loop-i.i a there ∙ ap (λ (b : Asked). b.scenario.now.values) (sym c.index-asked-i.is) in
+    outcome_asked asked c.loop-i.i a inside ∙ ap (λ (b : Asked). b.scenario.now.values) (sym c.index-asked-i.is) in
     let lane : c.index-lanes-i.result ≡ lane_at c.args.lanes.now c.loop-i.i =
     c.index-lanes-i.is ∙ get_or_default c.args.lanes.now c.loop-i.i c.index-lanes-i.result [] c.loop-i-test.true in
     -- one track more: either the process is active in it, and its start counts, or it isn't

@@ -1,5 +1,5 @@
 -- Loops of `latest_start`: the latest start of a process over all tracks as if it were not frozen, and `None` exactly
--- if it is never active.
+-- if it is active in none.
 use Rattle.cpg_latest.specs.Course.{outcomes_asked}
 use Rattle.cpg_latest.specs.Over.{IsLatestStart}
 use Rattle.cpg_latest.proofs.along.latest_start.Given as goal

@@ -1,4 +1,5 @@
--- Proof of `send_all`: sends all that a process sends in each track.
+-- Proof of `send_all`: sends all items of a process in each track in which they are active, and sets the frozen times
+-- of those that are frozen.
 use Rattle.std.proofs.Common.{◌+◌, length, sym, ap, subst, arith}
 use Rattle.cpg_latest.specs.Course.{IsDone, outcomes_asked}
 use Rattle.cpg_latest.specs.Lanes.{AreSending}
@@ -16,7 +17,7 @@ settle_send-requires-clause-sending c =
     subst (AreSending c.args.setting.now (outcomes_asked c.args.asked.now) c.args.process c.loop-at.at c.loop-at.frozen)
     (sym c.as_slice.ensures.value) c.loop-at.invariant
 
--- there is still a frozen time, or none, for each item
+-- the list of frozen times still has a place for each item
 pub send_each-requires-clause-frozen : goal.send_each-requires-clause-frozen
 send_each-requires-clause-frozen c = c.settle_send.ensures.settled.count
 

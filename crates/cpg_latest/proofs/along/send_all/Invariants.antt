@@ -1,4 +1,5 @@
--- Loops of `send_all`: sends all that a process sends in each track.
+-- Loops of `send_all`: sends all items of a process in each track in which they are active, and sets the frozen times
+-- of those that are frozen.
 use Rattle.cpg_latest.specs.Course.{outcomes_asked}
 use Rattle.cpg_latest.specs.Lanes.{AreSending}
 use Rattle.cpg_latest.proofs.along.send_all.Given as goal

@@ -1,4 +1,5 @@
--- Proof of `send_each`: sends the item at a place of what a process sends in each track.
+-- Proof of `send_each`: sends the item at a place in the queue of a process, in each course of each track in which it
+-- is active.
 use Rattle.std.proofs.Common.{◌≡◌, ◌∙◌, ◌+◌, Bool, List, length, get_or, refl, sym, ap, subst, arith}
 use Rattle.std.proofs.lemmas.List.{length-map}
 use Rattle.cpg_latest.specs.Course.{IsAsked, IsLane, outcomes_asked}

@@ -1,4 +1,5 @@
--- Loops of `send_each`: sends the item at a place of what a process sends in each track.
+-- Loops of `send_each`: sends the item at a place in the queue of a process, in each course of each track in which it
+-- is active.
 use Rattle.std.proofs.Common.{◌+◌, length}
 use Rattle.cpg_latest.specs.Course.{AreHalf, outcomes_asked}
 use Rattle.cpg_latest.specs.Lanes.{HasSentTo}

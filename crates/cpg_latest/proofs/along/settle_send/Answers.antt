@@ -1,4 +1,4 @@
--- Proof of `settle_send`: sets the frozen time of the item at a place of what a process sends, if it is frozen and
+-- Proof of `settle_send`: sets the frozen time of the item at a place in the queue of a process, if it is frozen and
 -- active in some track.
 use Rattle.std.proofs.Common.{◌≡◌, ◌∙◌, ◌+◌, ◌<◌, length, get_or, Contains, None, refl, sym, ap, subst, arith}
 use Rattle.std.proofs.lemmas.List.Elements.{Contains-get_or}

@@ -1,9 +1,10 @@
--- Proof of `step`: goes on by one process: finds its latest times and those of what it sends in each track.
+-- Proof of `step`: finds the latest times of the start and the end of a process and of all that it sends in each track,
+-- and the frozen times of those that are frozen.
 use Rattle.std.proofs.Common.{◌∙◌, length, sym, ap, subst}
 use Rattle.cpg_base.specs.Order.{place}
 use Rattle.cpg_bus.specs.Plan.{queue_of}
 use Rattle.cpg_latest.specs.Course.{AreAsked, AreLanes, IsDone, outcomes_asked, outcomes_of}
-use Rattle.cpg_latest.specs.Lanes.{AreKnown, AreSending, CanBegin, HasSentTo}
+use Rattle.cpg_latest.specs.Lanes.{AreLanesBefore, AreSending, CanBegin, HasSentTo}
 use Rattle.cpg_latest.proofs.Found.{on_graph}
 use Rattle.cpg_order.specs.Track.{AreTracks}
 use Rattle.cpg_latest.proofs.NextStep.{can_begin, next_known}
@@ -16,7 +17,7 @@ settle_start-requires-clause-tracks c =
     subst (AreTracks c.args.setting.now.problem.now)
     (sym (ap outcomes_asked c.as_slice.ensures.value ∙ c.in_ok-asked.ensures.outcomes)) c.requires.tracks
 
--- `ask_each` has asked right, and the slice has what it returned
+-- each answer is what a track says of the process, as `ask_each` ensures, and the slice has these answers
 pub settle_start-requires-clause-asked : goal.settle_start-requires-clause-asked
 settle_start-requires-clause-asked c =
     subst (AreAsked c.args.setting.now.problem.now c.args.setting.now.guards.now c.args.process)
@@ -25,14 +26,14 @@ settle_start-requires-clause-asked c =
 -- what is known before the place of the process is known of the tracks that were asked
 pub settle_start-requires-clause-known : goal.settle_start-requires-clause-known
 settle_start-requires-clause-known c =
-    subst (λ ts. AreKnown c.args.setting.now ts
+    subst (λ ts. AreLanesBefore c.args.setting.now ts
     (place c.args.setting.now.order.now c.args.process) c.args.frozen.now c.as_slice-2.result.now)
     (sym (ap outcomes_asked c.as_slice.ensures.value ∙ c.in_ok-asked.ensures.outcomes))
-    (subst (AreKnown c.args.setting.now (outcomes_of c.args.tracks.now)
+    (subst (AreLanesBefore c.args.setting.now (outcomes_of c.args.tracks.now)
     (place c.args.setting.now.order.now c.args.process) c.args.frozen.now)
     (sym c.as_slice-2.ensures.value) c.requires.known)
 
--- there is still a frozen time, or none, for each item
+-- the list of frozen times still has a place for each item
 pub begin_each-requires-clause-frozen : goal.begin_each-requires-clause-frozen
 begin_each-requires-clause-frozen c = c.settle_start.ensures.settled.count
 
@@ -44,7 +45,7 @@ begin_each-requires-clause-early c =
     early_of g order c.requires.setting.topological c.requires.setting.admitted.1.limits
     (IsDone g order c.args.process 0) c.settle_start.new.frozen c.settle_start.ensures.settled
 
--- `ask_each` has asked right, and the slice has what it returned
+-- each answer is what a track says of the process, as `ask_each` ensures, and the slice has these answers
 pub begin_each-requires-clause-asked : goal.begin_each-requires-clause-asked
 begin_each-requires-clause-asked c =
     subst (AreAsked c.args.setting.now.problem.now c.args.setting.now.guards.now c.args.process)
@@ -66,7 +67,7 @@ send_all-requires-clause-tracks c =
     subst (AreTracks c.args.setting.now.problem.now)
     (sym (ap outcomes_asked c.as_slice-4.ensures.value ∙ c.in_ok-asked.ensures.outcomes)) c.requires.tracks
 
--- `ask_each` has asked right, and the slice has what it returned
+-- each answer is what a track says of the process, as `ask_each` ensures, and the slice has these answers
 pub send_all-requires-clause-asked : goal.send_all-requires-clause-asked
 send_all-requires-clause-asked c =
     subst (AreAsked c.args.setting.now.problem.now c.args.setting.now.guards.now c.args.process)

@@ -1,4 +1,4 @@
--- Proof of `ask_each`: what each track says of a process.
+-- Proof of `ask_each`: what each track says of a process, in the order of the tracks.
 use Rattle.std.proofs.Common.{◌∙◌, ap}
 use Rattle.cpg_base.specs.Scenario.{Scenario}
 use Rattle.cpg_latest.proofs.AskedTracks.{asked_more, outcomes_more}

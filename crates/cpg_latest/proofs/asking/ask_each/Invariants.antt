@@ -1,4 +1,4 @@
--- Loops of `ask_each`: what each track says of a process.
+-- Loops of `ask_each`: what each track says of a process, in the order of the tracks.
 use Rattle.std.proofs.Common.{◌≡◌, take}
 use Rattle.cpg_latest.specs.Course.{AreAsked, outcomes_asked, outcomes_of}
 use Rattle.cpg_latest.proofs.asking.ask_each.Given as goal

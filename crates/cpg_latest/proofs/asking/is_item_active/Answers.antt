@@ -1,4 +1,4 @@
--- Proof of `is_item_active`: whether an item that an active process may send is active: each broadcast is, and a
+-- Proof of `is_item_active`: whether an item in the queue of an active process is active: each broadcast is, and a
 -- message is if its edge is live.
 use Rattle.std.proofs.Common.{◌∙◌, ◌-◌, sym, ap, length, arith}
 use Rattle.cpg_base.specs.Activity.{live}

@@ -1,4 +1,4 @@
--- Proof of `is_live`: whether an edge is live.
+-- Proof of `is_live`: whether an edge is live in the outcome of a scenario, as the guards of the graph tell it.
 use Rattle.std.proofs.Common.{arith}
 use Rattle.cpg_rules.proofs.EdgeGuards.{length-edges}
 use Rattle.cpg_latest.proofs.asking.is_live.Goals as goal

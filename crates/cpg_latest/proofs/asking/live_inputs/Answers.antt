@@ -1,4 +1,4 @@
--- Proof of `live_inputs`: the inputs of a process that are live.
+-- Proof of `live_inputs`: the edges to a process that are live in the outcome of a scenario.
 use Rattle.std.proofs.Common.{get_or, Contains, subst}
 use Rattle.std.proofs.lemmas.List.Elements.{Contains-get_or}
 use Rattle.cpg_base.proofs.Inputs.{inputs_parts}

@@ -1,4 +1,4 @@
--- Loops of `live_inputs`: the inputs of a process that are live.
+-- Loops of `live_inputs`: the edges to a process that are live in the outcome of a scenario.
 use Rattle.std.proofs.Common.{◌≡◌, filter, take}
 use Rattle.cpg_base.specs.Activity.{live}
 use Rattle.cpg_latest.proofs.asking.live_inputs.Given as goal

@@ -1,4 +1,5 @@
--- Loops of `greatest_figures`: the greatest figures of these tracks.
+-- Loops of `greatest_figures`: the greatest excess and the greatest finish of these lanes, in their courses with all
+-- the faults.
 use Rattle.std.proofs.Common.{◌≡◌, map, take}
 use Rattle.cpg_base.specs.Numbers.{greatest}
 use Rattle.cpg_latest.specs.Lanes.{excess_of_course, finish_of, last_course}

@@ -1,4 +1,4 @@
--- Loops of `beginnings`: lanes of `count` tracks in which nothing is known.
+-- Loops of `beginnings`: a lane for each of `count` tracks, in whose courses nothing is known.
 use Rattle.std.proofs.Common.{◌≡◌, replicate}
 use Rattle.cpg_latest.specs.Lanes.{no_lane}
 use Rattle.cpg_latest.proofs.measuring.beginnings.Given as goal

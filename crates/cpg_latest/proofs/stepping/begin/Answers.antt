@@ -1,5 +1,5 @@
--- Proof of `begin`: starts a process if it is active, with a number of faults, and otherwise lets its node wait for
--- what decides it.
+-- Proof of `begin`: starts a process in the course with a number of faults and returns its latest end, if it is active;
+-- otherwise lets its node wait for what decides it and returns 0.
 use Rattle.std.proofs.Common.{◌≡◌, ◌∙◌, ◌<◌, max, false, length, sym, ap, ap₂, subst, inl, inr, refl, arith}
 use Rattle.cpg_base.specs.Activity.{active}
 use Rattle.cpg_base.specs.Graph.{node_of}

@@ -1,4 +1,5 @@
--- Proof of `send_item`: sends an active item.
+-- Proof of `send_item`: sends an active item of a process in a course: sets its time, and when the slots of the node
+-- are free after it.
 use Rattle.std.proofs.Common.{◌≡◌, ◌∙◌, max, ap₂, arith}
 use Rattle.cpg_base.proofs.Bounds.{round-le}
 use Rattle.cpg_latest.specs.Lanes.{send_at}

@@ -1,4 +1,5 @@
--- Proof of `heard`: when the node of a process has heard each condition that decides the process.
+-- Proof of `heard`: when the node of a process has heard in a course each condition that decides the process, or 0 if
+-- none does.
 use Rattle.std.proofs.Common.{◌∙◌, ap₂, map, Contains, subst}
 use Rattle.cpg_base.specs.Numbers.{greatest}
 use Rattle.cpg_base.specs.Graph.{node_of}

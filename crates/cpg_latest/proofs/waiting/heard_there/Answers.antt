@@ -1,4 +1,5 @@
--- Proof of `heard_there`: when a node has heard a condition.
+-- Proof of `heard_there`: when a node has heard a condition in a course: when its process ends or its broadcast
+-- arrives.
 use Rattle.std.proofs.Common.{◌≡◌, ◌∙◌, sym, ap, subst, length, arith}
 use Rattle.cpg_base.specs.Graph.{node_of, process_of}
 use Rattle.cpg_base.proofs.Items.{process_of_below}

@@ -1,4 +1,4 @@
--- Proof of `input_there`: when an input is there.
+-- Proof of `input_there`: when a live input is there in a course: when its message arrives or its source ends.
 use Rattle.std.proofs.Common.{◌≡◌, ◌∙◌, sym, ap, subst}
 use Rattle.cpg_base.specs.Graph.{node_of, source}
 use Rattle.cpg_bus.specs.Share.{HasSlot}

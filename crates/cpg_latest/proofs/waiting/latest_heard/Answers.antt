@@ -1,4 +1,4 @@
--- Proof of `latest_heard`: when a node has heard each of these conditions.
+-- Proof of `latest_heard`: when a node has heard each of these conditions in a course, or 0 if there are none.
 use Rattle.std.proofs.Common.{get_or}
 use Rattle.std.proofs.lemmas.List.Elements.{Contains-get_or}
 use Rattle.cpg_latest.proofs.waiting.latest_heard.Goals as goal

@@ -1,4 +1,4 @@
--- Loops of `latest_heard`: when a node has heard each of these conditions.
+-- Loops of `latest_heard`: when a node has heard each of these conditions in a course, or 0 if there are none.
 use Rattle.std.proofs.Common.{◌≡◌, map, take}
 use Rattle.cpg_base.specs.Numbers.{greatest}
 use Rattle.cpg_run.specs.Run.{heard_there}

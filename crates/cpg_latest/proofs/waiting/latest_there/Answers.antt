@@ -1,4 +1,4 @@
--- Proof of `latest_there`: when all of these inputs are there.
+-- Proof of `latest_there`: when all of these inputs are there in a course, or 0 if there are none.
 use Rattle.std.proofs.Common.{get_or}
 use Rattle.std.proofs.lemmas.List.Elements.{Contains-get_or}
 use Rattle.cpg_latest.proofs.waiting.latest_there.Goals as goal

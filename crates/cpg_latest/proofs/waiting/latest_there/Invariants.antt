@@ -1,4 +1,4 @@
--- Loops of `latest_there`: when all of these inputs are there.
+-- Loops of `latest_there`: when all of these inputs are there in a course, or 0 if there are none.
 use Rattle.std.proofs.Common.{◌≡◌, map, take}
 use Rattle.cpg_base.specs.Numbers.{greatest}
 use Rattle.cpg_run.specs.Run.{input_there}

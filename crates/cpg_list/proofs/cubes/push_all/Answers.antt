@@ -1,4 +1,4 @@
--- Proof of `push_all`: adds literals on variables above all others.
+-- Proof of `push_all`: adds to a cube literals on variables above its own, in their order.
 use Rattle.std.proofs.Common.{◌≡◌, ◌∙◌, ◌++◌, ◌∷◌, take, drop, get_or, suc, sym, ap, subst, append_assoc, drop-cons}
 use Rattle.std.proofs.lemmas.List.{take-append-drop}
 use Rattle.cpg_cube.specs.Cube.{IsRising}

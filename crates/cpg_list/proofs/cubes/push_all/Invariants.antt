@@ -1,4 +1,4 @@
--- Loops of `push_all`: adds literals on variables above all others.
+-- Loops of `push_all`: adds to a cube literals on variables above its own, in their order.
 use Rattle.std.proofs.Common.{◌≡◌, ◌++◌, take}
 use Rattle.cpg_list.proofs.cubes.push_all.Given as goal
 

@@ -1,4 +1,5 @@
--- Proof of `push_met`: adds the literals of two cubes, those on one variable met.
+-- Proof of `push_met`: adds to a cube the literals of two cubes in the order of their variables; of two literals on one
+-- variable it adds what both allow.
 use Rattle.std.proofs.Common.{◌≡◌, ◌∙◌, ◌++◌, ◌∷◌, [], List, length, refl, sym, ap, subst, arith}
 use Rattle.cpg_cube.specs.Cube.{IsRising}
 use Rattle.cpg_cube.specs.declared.literal.Literal.{Literal}

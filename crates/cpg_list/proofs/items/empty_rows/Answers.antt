@@ -1,4 +1,4 @@
--- Proof of `empty_rows`: a row without columns for each item.
+-- Proof of `empty_rows`: a row without columns for each item of a graph, by number.
 use Rattle.std.proofs.Common.{◌∙◌, ap, []}
 use Rattle.cpg_base.proofs.Lists.{map_below_push}
 use Rattle.cpg_table.specs.Table.{Row}

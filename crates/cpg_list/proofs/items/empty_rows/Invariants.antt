@@ -1,4 +1,4 @@
--- Loops of `empty_rows`: a row without columns for each item.
+-- Loops of `empty_rows`: a row without columns for each item of a graph, by number.
 use Rattle.std.proofs.Common.{◌≡◌, [], map}
 use Rattle.cpg_base.specs.Numbers.{numbers_below}
 use Rattle.cpg_list.proofs.items.empty_rows.Given as goal

@@ -1,4 +1,4 @@
--- Proof of `deciding`: the conditions that decide a process.
+-- Proof of `deciding`: the conditions that decide a process in a scenario.
 use Rattle.std.proofs.Common.{◌≡◌, sym, subst}
 use Rattle.cpg_base.specs.Graph.{condition_count}
 use Rattle.cpg_base.specs.Numbers.{numbers_below}

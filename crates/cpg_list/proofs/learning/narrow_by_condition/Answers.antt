@@ -1,4 +1,5 @@
--- Proof of `narrow_by_condition`: narrows a cube by what a node hears of a condition.
+-- Proof of `narrow_by_condition`: narrows a cube by the literals that a node hears with the broadcast of a condition;
+-- by none if the condition is its own.
 use Rattle.std.proofs.Common.{arith}
 use Rattle.cpg_base.proofs.Items.{process_of_below}
 use Rattle.cpg_list.proofs.learning.narrow_by_condition.Goals as goal

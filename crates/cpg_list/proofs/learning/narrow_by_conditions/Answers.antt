@@ -1,4 +1,5 @@
--- Proof of `narrow_by_conditions`: narrows a cube by what a node hears of conditions.
+-- Proof of `narrow_by_conditions`: narrows a cube by the literals that a node hears with the broadcasts of conditions,
+-- except its own.
 use Rattle.std.proofs.Common.{get_or, flat_map, subst}
 use Rattle.std.proofs.lemmas.List.{take_all}
 use Rattle.std.proofs.lemmas.List.Elements.{Contains-get_or}

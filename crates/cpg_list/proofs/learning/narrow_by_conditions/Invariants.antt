@@ -1,4 +1,5 @@
--- Loops of `narrow_by_conditions`: narrows a cube by what a node hears of conditions.
+-- Loops of `narrow_by_conditions`: narrows a cube by the literals that a node hears with the broadcasts of conditions,
+-- except its own.
 use Rattle.std.proofs.Common.{flat_map, take}
 use Rattle.cpg_list.specs.Learning.{heard_of}
 use Rattle.cpg_run.specs.Found.{columns_of_rows}

@@ -1,4 +1,4 @@
--- Proof of `narrow_by_decided`: narrows a cube by the values that decide a process.
+-- Proof of `narrow_by_decided`: narrows a cube by the values of the conditions that decide a process.
 use Rattle.std.proofs.Common.{ℕ, map}
 use Rattle.cpg_base.specs.Graph.{condition_count, value_variable}
 use Rattle.cpg_base.specs.Numbers.{numbers_below}

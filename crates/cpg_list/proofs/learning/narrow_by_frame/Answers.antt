@@ -1,4 +1,4 @@
--- Proof of `narrow_by_frame`: narrows a cube by the literals that the frame of an item carries.
+-- Proof of `narrow_by_frame`: narrows a cube by the literals that the frame of an item carries, if the item is sent.
 use Rattle.std.proofs.Common.{◌∙◌, sym, ap, subst}
 use Rattle.cpg_run.specs.Carried.{row_at}
 use Rattle.cpg_run.specs.Found.{columns_of_rows}

@@ -1,5 +1,5 @@
--- Proof of `narrow_by_heard`: narrows a cube by the literals that the broadcasts of the conditions that decide a
--- process carry.
+-- Proof of `narrow_by_heard`: narrows a cube by the literals that the node of a process hears with the broadcasts of
+-- the conditions that decide the process.
 use Rattle.std.proofs.Common.{flat_map, subst}
 use Rattle.cpg_base.specs.Graph.{condition_count}
 use Rattle.cpg_base.specs.Numbers.{numbers_below}

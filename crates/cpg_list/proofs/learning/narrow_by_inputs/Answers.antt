@@ -1,4 +1,4 @@
--- Proof of `narrow_by_inputs`: narrows a cube by the literals that inputs carry.
+-- Proof of `narrow_by_inputs`: narrows a cube by the literals that come with those of these edges that are messages.
 use Rattle.std.proofs.Common.{get_or, flat_map, subst}
 use Rattle.std.proofs.lemmas.List.{take_all}
 use Rattle.std.proofs.lemmas.List.Elements.{Contains-get_or}

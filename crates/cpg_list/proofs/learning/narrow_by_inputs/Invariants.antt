@@ -1,4 +1,4 @@
--- Loops of `narrow_by_inputs`: narrows a cube by the literals that inputs carry.
+-- Loops of `narrow_by_inputs`: narrows a cube by the literals that come with those of these edges that are messages.
 use Rattle.std.proofs.Common.{flat_map, take}
 use Rattle.cpg_list.specs.Learning.{received_by}
 use Rattle.cpg_run.specs.Found.{columns_of_rows}

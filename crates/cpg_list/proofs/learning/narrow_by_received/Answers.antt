@@ -1,4 +1,4 @@
--- Proof of `narrow_by_received`: narrows a cube by the literals that the messages to a process carry.
+-- Proof of `narrow_by_received`: narrows a cube by the literals that come with the messages to a process.
 use Rattle.std.proofs.Common.{Contains, flat_map, subst}
 use Rattle.cpg_base.proofs.Inputs.{inputs_parts}
 use Rattle.cpg_list.specs.Frames.{IsNarrowedIn, received_in}

@@ -1,4 +1,5 @@
--- Proof of `narrow_by_told`: narrows a cube by the column that matches, if there is one, at the time of the item.
+-- Proof of `narrow_by_told`: narrows a cube by the column of an item that matches in a scenario, if the item is sent
+-- there.
 use Rattle.std.proofs.Common.{◌≡◌, ◌∙◌, get_or, sym, ap, subst}
 use Rattle.std.specs.Option.{option_to_list}
 use Rattle.cpg_cube.specs.Cube.{matches}

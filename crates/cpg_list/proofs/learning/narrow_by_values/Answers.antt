@@ -1,4 +1,4 @@
--- Proof of `narrow_by_values`: narrows a cube by the values of conditions.
+-- Proof of `narrow_by_values`: narrows a cube by the values that these conditions have in a scenario.
 use Rattle.std.proofs.Common.{get_or, map, subst}
 use Rattle.std.proofs.lemmas.List.{take_all}
 use Rattle.std.proofs.lemmas.List.Elements.{Contains-get_or}

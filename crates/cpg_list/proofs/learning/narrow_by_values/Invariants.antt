@@ -1,4 +1,4 @@
--- Loops of `narrow_by_values`: narrows a cube by the values of conditions.
+-- Loops of `narrow_by_values`: narrows a cube by the values that these conditions have in a scenario.
 use Rattle.std.proofs.Common.{map, take}
 use Rattle.cpg_base.specs.Graph.{value_variable}
 use Rattle.cpg_run.specs.Carried.{number_known}

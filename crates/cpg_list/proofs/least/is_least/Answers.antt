@@ -1,4 +1,4 @@
--- Proof of `is_least`: whether a scenario is the least of a cube.
+-- Proof of `is_least`: whether a scenario is the least that a cube matches.
 use Rattle.std.proofs.Common.{◌∙◌, length, sym, ap, arith}
 use Rattle.std.proofs.lemmas.Bool.{both_ways, false≢true}
 use Rattle.cpg_base.specs.Scenario.{number_of}

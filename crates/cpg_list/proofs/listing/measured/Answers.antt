@@ -1,9 +1,10 @@
--- Proof of `measured`: the tables with the greatest finish and the greatest excess of all runs.
+-- Proof of `measured`: the tables and the frozen times of an order with the greatest finish and the greatest excess of
+-- all runs.
 use Rattle.cpg_run.proofs.BuiltTables.{found_tables_are_built}
 use Rattle.cpg_list.proofs.CodeMade.{timed_of}
 use Rattle.cpg_list.proofs.listing.measured.Goals as goal
 
--- the tables are written of found rows, and the finish and the excess are the greatest of all runs; by
+-- the tables are written from found rows, and the finish and the excess are the greatest of all runs; by
 -- `found_tables_are_built` that is all that a builder promises
 pub returns : goal.returns
 returns c =
@@ -26,7 +27,7 @@ returns c =
     c.problem-problem.ensures.admitted.limits
     (timed_of g urgency order c.args.admitted.now.guards c.args.frozen c.problem-problem.ensures.admitted
     c.requires.topological c.requires.tables.found.frozen_times).admitted
-    -- what was found of it: the tables are written of rows, and both figures are the greatest of the runs
+    -- what was found of it: the tables are written from rows, and both figures are the greatest of the runs
     (record {
       found = c.requires.tables.found;
       written = c.requires.tables.written;

@@ -1,4 +1,5 @@
--- Proof of `swept`: the tables, and the greatest finish and excess of all runs, given all scenarios.
+-- Proof of `swept`: the tables, the frozen times, and the greatest finish and excess of all runs, given all scenarios
+-- and the plan.
 use Rattle.std.proofs.Common.{ℕ, List, All, Contains, sym, subst}
 use Rattle.std.proofs.lemmas.List.Elements.{All-weaker, All-contains_itself}
 use Rattle.cpg_base.specs.Scenario.{Scenario, IsScenario}

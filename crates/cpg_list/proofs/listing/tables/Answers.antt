@@ -1,4 +1,4 @@
--- Proof of `tables`: the tables of the rows of all items, given all scenarios and their runs.
+-- Proof of `tables`: the tables of the rows of all items under an order, given all scenarios and their runs.
 use Rattle.std.proofs.Common.{ℕ, List, Option, sym, subst}
 use Rattle.cpg_base.specs.Graph.{Graph}
 use Rattle.cpg_table.specs.Table.{Row}
@@ -28,7 +28,7 @@ tables_of-requires-clause-rows c =
     (found_rows_fit g urgency order frozen rows c.problem-problem.ensures.admitted.limits timed.admitted found
     (none_too_wide g order c.requires.narrow)))
 
--- the rows of merged entries are found rows, and the tables are written of them
+-- the rows of merged entries are found rows, and the tables are written from them
 pub returns : goal.returns
 returns c =
     let g = c.args.admitted.now.graph in

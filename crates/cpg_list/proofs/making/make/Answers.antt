@@ -1,4 +1,5 @@
--- Proof of `make`: makes the rows of the process at a place and of what it sends.
+-- Proof of `make`: makes the rows of the start of the process at a place and of what it sends, and narrows what its
+-- node carries on and what its queue leaves.
 use Rattle.std.proofs.Common.{◌≡◌, ◌∙◌, ◌+◌, ◌<◌, ◌∷◌, [], ◌++◌, length, get_or, set, sym, ap, subst, arith}
 use Rattle.std.proofs.lemmas.List.{get_or_default}
 use Rattle.cpg_base.specs.Graph.{Graph, process_count, node_of}

@@ -1,4 +1,4 @@
--- Proof of `make_sends`: makes the rows of what a process sends.
+-- Proof of `make_sends`: makes the rows of what a process sends, and narrows what the queue of its node leaves.
 use Rattle.std.proofs.Common.{◌≡◌, ◌∙◌, ◌+◌, ◌<◌, ◌⊎◌, ◌∷◌, [], ◌++◌, List, length, get_or, take, Contains, sym, ap}
 use Rattle.std.proofs.Common.{subst, arith}
 use Rattle.std.proofs.lemmas.List.{take_all}
@@ -183,16 +183,16 @@ returns-clause-queue c =
     let top = c.requires.listed.topological in
     let l = c.requires.process in
     let rows = columns_of_rows c.loop-item.rows.items in
-    let before = sent_before g order (node_of g p) (place order p) in
+    let earlier_items = sent_before g order (node_of g p) (place order p) in
     -- the code goes over the queue of the process
     let all : c.queue-item-items.result.now ≡ queue_of g p =
     c.queue-item-items.ensures ∙ ap (λ (h : Graph). queue_of h p) c.problem.ensures.problem in
     -- the loop has gone over the whole queue
     let whole : take m (queue_of g p) ≡ queue_of g p =
     take_all m (queue_of g p) (omega (arith, ap length all, c.loop-item-test.false)) in
-    queued_members g.faults g order rows scenarios c.loop-item.queue (before ++ queue_of g p)
+    queued_members g.faults g order rows scenarios c.loop-item.queue (earlier_items ++ queue_of g p)
     (sent_before g order (node_of g p) (place order p + 1)) (all_to g order top p l) (all_from g order top p l)
-    (subst (λ ys. AreCubesOf g.faults scenarios (queued_by g order rows (before ++ ys)) c.loop-item.queue) whole
+    (subst (λ ys. AreCubesOf g.faults scenarios (queued_by g order rows (earlier_items ++ ys)) c.loop-item.queue) whole
     c.loop-item.invariant.queue)
 
 -- all items of the process are made, so all before the next place are

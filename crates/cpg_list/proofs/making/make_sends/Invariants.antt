@@ -1,4 +1,4 @@
--- Loops of `make_sends`: makes the rows of what a process sends.
+-- Loops of `make_sends`: makes the rows of what a process sends, and narrows what the queue of its node leaves.
 use Rattle.std.proofs.Common.{◌++◌, take}
 use Rattle.cpg_base.specs.Graph.{node_of}
 use Rattle.cpg_base.specs.Order.{place}

@@ -1,5 +1,5 @@
 -- Proof of `make_sends_after`: makes the rows of what a process sends, given what its node carries on up to the
--- process.
+-- process, and narrows what the queue of the node leaves.
 use Rattle.std.proofs.Common.{◌≡◌, ◌∙◌, true, false, sym, ap}
 use Rattle.cpg_base.specs.Graph.{Graph, process_at, is_frozen}
 use Rattle.cpg_run.specs.Found.{columns_of_rows}

@@ -1,4 +1,5 @@
--- Proof of `make_start`: makes the row of the start of a process.
+-- Proof of `make_start`: makes the row of the start of a process, and narrows for each scenario what its node carries
+-- on by what it carries on from this process.
 use Rattle.std.proofs.Common.{◌∷◌, [], ◌++◌, List, sym, subst, arith}
 use Rattle.cpg_base.specs.Graph.{item_count}
 use Rattle.cpg_base.specs.Scenario.{Scenario, IsScenario}
@@ -14,7 +15,7 @@ use Rattle.cpg_list.proofs.CodeQueue.{start_by, own_early}
 use Rattle.cpg_list.proofs.CodeSame.{passed_cubes}
 use Rattle.cpg_list.proofs.making.make_start.Goals as goal
 
--- the rows of all earlier items are made, so they have the times of each run
+-- the rows of the items from earlier processes are made, so they have the times of each run; they are read as a slice here
 pub start_entries-requires-clause-told : goal.start_entries-requires-clause-told
 start_entries-requires-clause-told c =
     let a = c.args.listed.now.admitted.now in
@@ -36,7 +37,7 @@ set_row-requires-clause-item c = omega (
   count_of c.args.rows.now.items (item_count c.args.listed.now.admitted.now.graph) c.requires.made.items,
 )
 
--- the entries of the start can be merged, as all earlier rows are made
+-- the entries of the start can be merged, as the rows of the items from earlier processes are made
 pub set_row-requires-clause-entries : goal.set_row-requires-clause-entries
 set_row-requires-clause-entries c =
     let a = c.args.listed.now.admitted.now in

@@ -1,5 +1,5 @@
--- Proof of `deciding_value`: the condition whose value decides whether an item that a process sends is sent, if there
--- is one.
+-- Proof of `deciding_value`: the condition whose value decides whether an item is sent once its process has ended, or
+-- `None` if it always is.
 use Rattle.std.proofs.Common.{◌≡◌, ◌∙◌, true, is_some, sym, ap, rules}
 use Rattle.cpg_base.specs.Graph.{item_at, edge_at, source, producer_of_item}
 use Rattle.cpg_base.specs.declared.item.Item.TheVariants.{Message}

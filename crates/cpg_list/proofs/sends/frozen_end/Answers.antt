@@ -1,4 +1,5 @@
--- Proof of `frozen_end`: what is carried at the end of a frozen process in a scenario.
+-- Proof of `frozen_end`: the cube of what is carried at the end of a frozen process in a scenario: what decides it, and
+-- its fault count.
 use Rattle.std.proofs.Common.{◌∷◌, [], ◌++◌, subst}
 use Rattle.cpg_base.specs.Graph.{Graph}
 use Rattle.cpg_run.specs.Carried.{decided, number_known}
@@ -14,13 +15,13 @@ returns c =
     let g = c.args.admitted.now.graph in
     let s = c.args.scenario.now in
     let p = c.args.process in
-    let first =
+    let by_decided =
     subst (λ (h : Graph). IsNarrowed h.faults (decided h s p) c.whole-cube.result c.narrow_by_decided.new.cube)
     c.problem-problem.ensures.problem c.in_ok-narrow_by_decided.ensures in
-    let second = subst (λ (h : Graph). IsNarrowed h.faults (number_known s p ∷ []) c.narrow_by_decided.new.cube
+    let by_count = subst (λ (h : Graph). IsNarrowed h.faults (number_known s p ∷ []) c.narrow_by_decided.new.cube
     c.narrow_to_number.new.cube) c.problem-problem.ensures.problem
     c.in_ok-narrow_to_number.ensures in
     from_whole g.faults
     (decided g s p ++ number_known s p ∷ []) c.whole-cube.result c.narrow_to_number.new.cube c.whole-cube.ensures
     (narrowed_then g.faults (decided g s p) (number_known s p ∷ []) c.whole-cube.result c.narrow_by_decided.new.cube
-    c.narrow_to_number.new.cube first second)
+    c.narrow_to_number.new.cube by_decided by_count)

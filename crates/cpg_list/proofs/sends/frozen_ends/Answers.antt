@@ -1,4 +1,4 @@
--- Proof of `frozen_ends`: what is carried at the ends of a frozen process.
+-- Proof of `frozen_ends`: for each scenario the cube of what is carried at the end of a frozen process.
 use Rattle.std.proofs.Common.{◌∙◌, ◌∷◌, [], ◌++◌, length, length-append, ap, arith}
 use Rattle.cpg_base.specs.Scenario.{Scenario}
 use Rattle.cpg_run.specs.Carried.{decided, number_known}

@@ -1,4 +1,4 @@
--- Loops of `frozen_ends`: what is carried at the ends of a frozen process.
+-- Loops of `frozen_ends`: for each scenario the cube of what is carried at the end of a frozen process.
 use Rattle.std.proofs.Common.{◌≡◌, ℕ, ◌<◌, ◌∷◌, [], ◌++◌, length, get_or}
 use Rattle.cpg_base.specs.Scenario.{Scenario}
 use Rattle.cpg_run.specs.Carried.{decided, number_known}

@@ -1,5 +1,5 @@
--- Proof of `narrow_by_sending`: narrows a cube by what decides a process, and by the value that decides whether an
--- item that it sends is sent.
+-- Proof of `narrow_by_sending`: narrows a cube by what decides a process, and by the value that decides whether an item
+-- is sent once it has ended.
 use Rattle.std.proofs.Common.{Contains, sym, subst}
 use Rattle.cpg_base.specs.Graph.{Graph}
 use Rattle.cpg_bus.specs.Plan.{queue_of}
@@ -19,10 +19,10 @@ returns c =
     let g = c.args.admitted.now.graph in
     let s = c.args.scenario.now in
     let e = c.problem-problem.ensures.problem in
-    let first = subst
+    let by_decided = subst
     (λ (h : Graph). IsNarrowed h.faults (decided h s c.args.process) c.args.cube.now c.narrow_by_decided.new.cube) e
     c.in_ok-narrow_by_decided.ensures in
-    let second = subst (λ (h : Graph). IsNarrowed h.faults (sent_by_value h s c.args.item) c.narrow_by_decided.new.cube
+    let by_value = subst (λ (h : Graph). IsNarrowed h.faults (sent_by_value h s c.args.item) c.narrow_by_decided.new.cube
     c.narrow_by_sent_value.new.cube) e c.in_ok-narrow_by_sent_value.ensures in
     narrowed_then g.faults (decided g s c.args.process) (sent_by_value g s c.args.item) c.args.cube.now
-    c.narrow_by_decided.new.cube c.narrow_by_sent_value.new.cube first second
+    c.narrow_by_decided.new.cube c.narrow_by_sent_value.new.cube by_decided by_value

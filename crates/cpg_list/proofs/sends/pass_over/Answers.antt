@@ -1,4 +1,5 @@
--- Proof of `pass_over`: narrows what the queue leaves by an item that isn't sent in the scenario.
+-- Proof of `pass_over`: narrows the cube of what the queue leaves by what decides that an item isn't sent in the
+-- scenario.
 use Rattle.std.proofs.Common.{◌≡◌, ◌∙◌, true, false, is_some, [], sym, ap, subst}
 use Rattle.cpg_base.specs.Graph.{Graph}
 use Rattle.cpg_base.specs.Activity.{active}

@@ -1,12 +1,12 @@
--- Proof of `send_entries`: the entries of an item that a process sends, for the scenarios that are the least of the
--- cubes carried there.
+-- Proof of `send_entries`: the entries of an item that a process sends, each in the least scenario of its cube; narrows
+-- for each scenario what the queue leaves.
 use Rattle.std.proofs.Common.{◌≡◌, ◌++◌, ◌∷◌, [], get_or, take, None, sym, subst, arith}
 use Rattle.std.proofs.lemmas.List.{take_all}
 use Rattle.cpg_order.specs.Queue.{queued_before}
 use Rattle.cpg_run.specs.Carried.{queued, carried_at_end}
 use Rattle.cpg_list.specs.Made.{queued_by, AreCubesOf, AreEndsOf}
 use Rattle.cpg_run.specs.Found.{columns_of_rows}
-use Rattle.cpg_list.specs.Narrowing.{IsKeptAt, IsNarrowed}
+use Rattle.cpg_list.specs.Narrowing.{IsEntryAt, IsNarrowed}
 use Rattle.cpg_run.specs.Rows.{IsCubeOf}
 use Rattle.cpg_list.proofs.CodeStarts.{timed_here, found_more, cube_here, none_done, all_done, one_done, flat_map_push}
 use Rattle.cpg_list.proofs.CodeSends.{carried_send, queued_is, end_here, queue_within}
@@ -19,13 +19,13 @@ loop-at-init c =
     let g = c.args.listed.now.admitted.now.graph in
     let order = c.args.listed.now.order.now in
     let rows = columns_of_rows c.args.rows.now in
-    let before = queued_before g order c.args.item in
+    let earlier_items = queued_before g order c.args.item in
     record {
       found = subst (AreEntriesAmong g order c.args.listed.now.frozen.now rows c.args.item [])
           (sym c.new-entries.ensures.items) (none_yet g order c.args.listed.now.frozen.now rows c.args.item);
-      carried = none_done g.faults c.args.listed.now.scenarios.now (queued_by g order rows before)
-          (queued_by g order rows (before ++ c.args.item ∷ [])) c.queue.inside.cubes.items
-          (subst (AreCubesOf g.faults c.args.listed.now.scenarios.now (queued_by g order rows before))
+      carried = none_done g.faults c.args.listed.now.scenarios.now (queued_by g order rows earlier_items)
+          (queued_by g order rows (earlier_items ++ c.args.item ∷ [])) c.queue.inside.cubes.items
+          (subst (AreCubesOf g.faults c.args.listed.now.scenarios.now (queued_by g order rows earlier_items))
           (sym c.queue.view_is) c.requires.queue);
     }
 
@@ -61,13 +61,13 @@ loop-at-preserved c =
     let s = c.index-scenarios-at.result in
     let t = c.index-runs-at.result in
     -- what the queue and the end of the process carry in the scenario
-    let before = queued_before g order x in
-    let queue = queued_by g order rows before s in
+    let earlier_items = queued_before g order x in
+    let queue = queued_by g order rows earlier_items s in
     let ends = carried_at_end g order rows s p in
     let cubes = c.loop-at.queue-inside.cubes.items in
     -- the cube of the queue for this scenario
-    let is = cube_here g.faults c.args.listed.now.scenarios.now (queued_by g order rows before)
-    (queued_by g order rows (before ++ x ∷ [])) c.loop-at.at cubes s c.index_mut.result.now c.loop-at-test.true
+    let is = cube_here g.faults c.args.listed.now.scenarios.now (queued_by g order rows earlier_items)
+    (queued_by g order rows (earlier_items ++ x ∷ [])) c.loop-at.at cubes s c.index_mut.result.now c.loop-at-test.true
     c.index-scenarios-at.is
     c.loop-at.invariant.carried c.index_mut.ensures.value in
     -- the cube of the end for this scenario
@@ -76,7 +76,7 @@ loop-at-preserved c =
     s c.index.result.now
     c.loop-at-test.true c.index-scenarios-at.is c.index.ensures in
     -- the entry is kept if the scenario is the least of what is carried at the send
-    let entry = subst (λ ls. IsKeptAt g s (get_or t.times x None) ls c.in_ok-entry.entry)
+    let entry = subst (λ ls. IsEntryAt g s (get_or t.times x None) ls c.in_ok-entry.entry)
     (sym (carried_send g order rows s p x c.requires.item)) (c.in_ok-entry.ensures.entry queue ends is end) in
     let left = subst (λ ls. IsNarrowed g.faults ls c.index_mut.result.now c.send_in.new.queue)
     (sym (queued_is g order rows s p x c.requires.item)) (c.in_ok-entry.ensures.queue ends end) in
@@ -88,11 +88,11 @@ loop-at-preserved c =
           c.loop-at-test.true c.index-scenarios-at.is c.index-runs-at.is c.loop-at.entries.items
           c.push_entry.new.entries.items c.loop-at.invariant.found c.in_ok-entry.entry entry
           c.in_ok-push_entry.ensures;
-      carried = one_done g.faults c.args.listed.now.scenarios.now (queued_by g order rows before)
-          (queued_by g order rows (before ++ x ∷ [])) c.loop-at.at cubes s c.send_in.new.queue c.loop-at-test.true
+      carried = one_done g.faults c.args.listed.now.scenarios.now (queued_by g order rows earlier_items)
+          (queued_by g order rows (earlier_items ++ x ∷ [])) c.loop-at.at cubes s c.send_in.new.queue c.loop-at-test.true
           c.loop-at.invariant.carried
           c.index-scenarios-at.is (subst (λ ls. IsCubeOf g.faults ls c.send_in.new.queue)
-          (flat_map_push (queued g order rows s) before x) (left.by queue is));
+          (flat_map_push (queued g order rows s) earlier_items x) (left.by queue is));
     }
 
 -- the loop has seen all scenarios, so the entries are all of the item
@@ -113,7 +113,7 @@ returns-clause-queue c =
     let g = c.args.listed.now.admitted.now.graph in
     let order = c.args.listed.now.order.now in
     let rows = columns_of_rows c.args.rows.now in
-    let before = queued_before g order c.args.item in
-    all_done g.faults c.args.listed.now.scenarios.now (queued_by g order rows before)
-    (queued_by g order rows (before ++ c.args.item ∷ [])) c.loop-at.at c.loop-at.queue-inside.cubes.items
+    let earlier_items = queued_before g order c.args.item in
+    all_done g.faults c.args.listed.now.scenarios.now (queued_by g order rows earlier_items)
+    (queued_by g order rows (earlier_items ++ c.args.item ∷ [])) c.loop-at.at c.loop-at.queue-inside.cubes.items
     c.loop-at-test.false c.loop-at.invariant.carried

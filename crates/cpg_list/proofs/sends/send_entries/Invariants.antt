@@ -1,5 +1,5 @@
--- Loops of `send_entries`: the entries of an item that a process sends, for the scenarios that are the least of the
--- cubes carried there.
+-- Loops of `send_entries`: the entries of an item that a process sends, each in the least scenario of its cube; narrows
+-- for each scenario what the queue leaves.
 use Rattle.std.proofs.Common.{◌++◌, ◌∷◌, [], take}
 use Rattle.cpg_order.specs.Queue.{queued_before}
 use Rattle.cpg_list.specs.Made.{queued_by, AreCubesUpTo}

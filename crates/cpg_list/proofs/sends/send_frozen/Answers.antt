@@ -1,10 +1,10 @@
--- Proof of `send_frozen`: the entry of a frozen message that is sent in the scenario, if that is the least of the
--- cube carried there.
+-- Proof of `send_frozen`: the entry of a frozen message that is sent in the scenario, or `None` if the scenario isn't
+-- the least of its cube; narrows what the queue leaves.
 use Rattle.std.proofs.Common.{◌≡◌, ◌∙◌, ◌++◌, true, sym, ap, subst}
 use Rattle.cpg_base.specs.Graph.{Graph, item_at}
 use Rattle.cpg_base.specs.Activity.{active}
 use Rattle.cpg_run.specs.Carried.{decided, sent_by_value}
-use Rattle.cpg_list.specs.Narrowing.{IsNarrowed, IsLeastEntry, IsKeptOf}
+use Rattle.cpg_list.specs.Narrowing.{IsNarrowed, IsEntryWith, IsEntryOf}
 use Rattle.cpg_list.proofs.CodeStarts.{kept_of, from_whole}
 use Rattle.cpg_list.proofs.CodeSends.{queue_by, left_frozen, sends_frozen}
 use Rattle.cpg_run.proofs.SameSends.{producer_active}
@@ -20,10 +20,10 @@ returns-clause-entry c queue ends =
     let literals = decided g s p ++ sent_by_value g s c.args.item in
     let is = from_whole g.faults literals c.whole-cube.result c.narrow_by_sending.new.cube c.whole-cube.ensures
     c.in_ok-narrow_by_sending.ensures in
-    subst (λ ls. IsKeptOf g s c.args.time ls c.in_ok-entry.entry)
+    subst (λ ls. IsEntryOf g s c.args.time ls c.in_ok-entry.entry)
     (sym (sends_frozen g s p c.args.item (queue_by g p c.args.item c.requires.item) ends queue c.requires.frozen))
     (kept_of g s c.args.time literals c.narrow_by_sending.new.cube is c.in_ok-entry.entry
-    (subst (λ (h : Graph). IsLeastEntry h s c.args.time c.narrow_by_sending.new.cube c.in_ok-entry.entry)
+    (subst (λ (h : Graph). IsEntryWith h s c.args.time c.narrow_by_sending.new.cube c.in_ok-entry.entry)
     c.problem.ensures.problem c.in_ok-entry.ensures))
 
 -- the cube of the queue is narrowed by the same literals; a frozen message leaves no more

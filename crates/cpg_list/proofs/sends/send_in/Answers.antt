@@ -1,12 +1,12 @@
--- Proof of `send_in`: the entry of an item that a process sends in a scenario, if it is active there and the scenario
--- is the least of the cube carried there.
+-- Proof of `send_in`: the entry of an item in a scenario, or `None` if it isn't sent there or the scenario isn't the
+-- least of its cube; narrows what the queue leaves.
 use Rattle.std.proofs.Common.{◌≡◌, ◌∙◌, ◌<◌, Contains, true, is_some, sym, ap, subst}
 use Rattle.cpg_base.specs.Graph.{Graph, item_count, item_at}
 use Rattle.cpg_base.specs.Activity.{active, item_active}
 use Rattle.cpg_bus.specs.Plan.{queue_of}
 use Rattle.cpg_run.specs.Carried.{decided}
 use Rattle.cpg_list.specs.Learning.{Within, send_after, queued_after}
-use Rattle.cpg_list.specs.Narrowing.{IsNarrowed, IsKeptOf, IsKeptAt}
+use Rattle.cpg_list.specs.Narrowing.{IsNarrowed, IsEntryOf, IsEntryAt}
 use Rattle.cpg_run.specs.Rows.{IsCubeOf}
 use Rattle.cpg_list.proofs.CodeSends.{queue_by, queue_within}
 use Rattle.cpg_run.proofs.SameSends.{producer_active}
@@ -28,7 +28,7 @@ pub returns-then-is_frozen-clause-entry : goal.returns-then-is_frozen-clause-ent
 returns-then-is_frozen-clause-entry c queue ends is_queue is_end =
     let g = c.args.admitted.now.graph in
     let s = c.args.scenario.now in
-    subst (λ o. IsKeptAt g s o (send_after g s c.args.sending.item queue ends) c.in_ok-entry.entry)
+    subst (λ o. IsEntryAt g s o (send_after g s c.args.sending.item queue ends) c.in_ok-entry.entry)
     (sym c.in-Some.is ∙ c.time.ensures) (c.in_ok-entry.ensures.entry queue ends)
 
 -- an item that isn't frozen: as it has a time, it and its process are active, so the cube of the end is known; the entry has
@@ -44,9 +44,9 @@ returns-clause-entry c queue ends is_queue is_end =
     let on : active g s.values p ≡ true =
     ap (active g s.values) (sym (queue_by g p x c.requires.item)) ∙ producer_active g s.values (item_at g x) acts in
     let found = subst (λ (h : Graph). IsCubeOf h.faults queue c.args.queue.now → IsCubeOf h.faults ends c.args.end.now →
-    IsKeptOf h s c.in-Some.time (send_after h s x queue ends) c.in_ok-entry-2.entry) c.problem-problem.ensures.problem
+    IsEntryOf h s c.in-Some.time (send_after h s x queue ends) c.in_ok-entry-2.entry) c.problem-problem.ensures.problem
     (c.in_ok-entry-2.ensures.entry queue ends) in
-    subst (λ o. IsKeptAt g s o (send_after g s x queue ends) c.in_ok-entry-2.entry) (sym c.in-Some.is ∙ c.time.ensures)
+    subst (λ o. IsEntryAt g s o (send_after g s x queue ends) c.in_ok-entry-2.entry) (sym c.in-Some.is ∙ c.time.ensures)
     (found is_queue (is_end.cube on))
 
 -- an item that isn't frozen: as it has a time, it and its process are active, and it leaves what is carried at the end

@@ -1,10 +1,10 @@
--- Proof of `send_plain`: the entry of an item that is sent in the scenario, if that is the least of the cube carried
--- there.
+-- Proof of `send_plain`: the entry of an item that isn't frozen and is sent in the scenario, or `None` if the scenario
+-- isn't the least of its cube; narrows what the queue leaves.
 use Rattle.std.proofs.Common.{◌≡◌, ◌∙◌, ◌++◌, true, sym, ap, subst}
 use Rattle.cpg_base.specs.Graph.{item_at}
 use Rattle.cpg_base.specs.Activity.{active}
 use Rattle.cpg_run.specs.Carried.{decided, sent_by_value}
-use Rattle.cpg_list.specs.Narrowing.{IsNarrowed, IsKeptOf}
+use Rattle.cpg_list.specs.Narrowing.{IsNarrowed, IsEntryOf}
 use Rattle.cpg_list.proofs.CodeCubes.{narrowed_then}
 use Rattle.cpg_list.proofs.CodeStarts.{kept_of}
 use Rattle.cpg_list.proofs.CodeSends.{queue_by, left_plain, sends_plain, end_with_value}
@@ -19,11 +19,11 @@ returns-clause-entry c queue ends is_queue is_ends =
     let s = c.args.scenario.now in
     let p = c.args.sending.process in
     let x = c.args.sending.item in
-    let first = (c.in_ok-narrow_by_cube.ensures g.faults ends is_ends).by queue is_queue in
-    let both = c.in_ok-narrow_by_sent_value.ensures.by (queue ++ ends) first in
-    subst (λ ls. IsKeptOf g s c.args.time ls c.in_ok-entry.entry)
+    let by_end = (c.in_ok-narrow_by_cube.ensures g.faults ends is_ends).by queue is_queue in
+    let by_value = c.in_ok-narrow_by_sent_value.ensures.by (queue ++ ends) by_end in
+    subst (λ ls. IsEntryOf g s c.args.time ls c.in_ok-entry.entry)
     (sym (sends_plain g s p x (queue_by g p x c.requires.item) ends queue c.requires.plain))
-    (kept_of g s c.args.time (queue ++ ends ++ sent_by_value g s x) c.narrow_by_sent_value.new.cube both
+    (kept_of g s c.args.time (queue ++ ends ++ sent_by_value g s x) c.narrow_by_sent_value.new.cube by_value
     c.in_ok-entry.entry c.in_ok-entry.ensures)
 
 -- the queue is narrowed by the producer's end and the value that decides the sending

@@ -1,5 +1,5 @@
--- Proof of `frozen_start`: the entry of the start of a frozen process, if the scenario is the least of the cube of
--- what decides the process.
+-- Proof of `frozen_start`: the entry of the start of a frozen process, or `None` if the scenario isn't the least of the
+-- cube of what decides the process.
 use Rattle.cpg_run.specs.Carried.{decided}
 use Rattle.cpg_list.proofs.CodeStarts.{kept_of, from_whole}
 use Rattle.cpg_list.proofs.starts.frozen_start.Goals as goal

@@ -1,12 +1,12 @@
--- Proof of `start_entries`: the entries of the start of a process, for the scenarios that are the least of the cubes
--- carried there.
+-- Proof of `start_entries`: the entries of the start of a process, each in the least scenario of its cube; narrows for
+-- each scenario what the node carries on.
 use Rattle.std.proofs.Common.{◌≡◌, ◌++◌, ◌∷◌, [], get_or, take, None, sym, subst, arith}
 use Rattle.std.proofs.lemmas.List.{take_all}
 use Rattle.cpg_base.specs.Order.{before_on_node}
 use Rattle.cpg_run.specs.Carried.{passed}
 use Rattle.cpg_list.specs.Made.{passed_by, AreCubesOf}
 use Rattle.cpg_run.specs.Found.{columns_of_rows}
-use Rattle.cpg_list.specs.Narrowing.{IsKeptAt}
+use Rattle.cpg_list.specs.Narrowing.{IsEntryAt}
 use Rattle.cpg_run.specs.Rows.{IsCubeOf}
 use Rattle.cpg_run.proofs.CarriedBefore.{hears_earlier, receives_earlier}
 use Rattle.cpg_list.proofs.CodeStarts.{timed_if_active, run_at, scenario_at, carried_start, none_done, all_done}
@@ -19,14 +19,14 @@ pub loop-at-init : goal.loop-at-init
 loop-at-init c =
     let g = c.args.listed.now.admitted.now.graph in
     let rows = columns_of_rows c.args.rows.now in
-    let before = before_on_node g c.args.listed.now.order.now c.args.process in
+    let earlier = before_on_node g c.args.listed.now.order.now c.args.process in
     record {
       found = subst (AreEntriesAmong g c.args.listed.now.order.now c.args.listed.now.frozen.now rows c.args.process [])
           (sym c.new-entries.ensures.items)
           (none_yet g c.args.listed.now.order.now c.args.listed.now.frozen.now rows c.args.process);
-      carried = none_done g.faults c.args.listed.now.scenarios.now (passed_by g rows before)
-          (passed_by g rows (before ++ c.args.process ∷ [])) c.known.inside.cubes.items
-          (subst (AreCubesOf g.faults c.args.listed.now.scenarios.now (passed_by g rows before))
+      carried = none_done g.faults c.args.listed.now.scenarios.now (passed_by g rows earlier)
+          (passed_by g rows (earlier ++ c.args.process ∷ [])) c.known.inside.cubes.items
+          (subst (AreCubesOf g.faults c.args.listed.now.scenarios.now (passed_by g rows earlier))
           (sym c.known.view_is) c.requires.known);
     }
 
@@ -76,16 +76,16 @@ loop-at-preserved c =
     let s = c.index-scenarios-at.result in
     let t = c.index-runs-at.result in
     -- what the processes before on the node pass on in the scenario
-    let before = before_on_node g order p in
-    let earlier = passed_by g rows before s in
+    let earlier_processes = before_on_node g order p in
+    let earlier = passed_by g rows earlier_processes s in
     let cubes = c.loop-at.known-inside.cubes.items in
     -- the cube of that for this scenario
-    let is = cube_here g.faults c.args.listed.now.scenarios.now (passed_by g rows before)
-    (passed_by g rows (before ++ p ∷ [])) c.loop-at.at cubes s c.index_mut.result.now c.loop-at-test.true
+    let is = cube_here g.faults c.args.listed.now.scenarios.now (passed_by g rows earlier_processes)
+    (passed_by g rows (earlier_processes ++ p ∷ [])) c.loop-at.at cubes s c.index_mut.result.now c.loop-at-test.true
     c.index-scenarios-at.is
     c.loop-at.invariant.carried c.index_mut.ensures.value in
     -- the entry is kept if the scenario is the least of what is carried at the start
-    let entry = subst (λ ls. IsKeptAt g s (get_or t.times p None) ls c.in_ok-entry.entry)
+    let entry = subst (λ ls. IsEntryAt g s (get_or t.times p None) ls c.in_ok-entry.entry)
     (sym (carried_start g order rows s p c.requires.process)) (c.in_ok-entry.ensures.entry earlier is) in
     -- the entries with this one, and the cubes with what the process passes on
     record {
@@ -95,11 +95,11 @@ loop-at-preserved c =
           c.loop-at-test.true c.index-scenarios-at.is c.index-runs-at.is c.loop-at.entries.items
           c.push_entry.new.entries.items c.loop-at.invariant.found c.in_ok-entry.entry entry
           c.in_ok-push_entry.ensures;
-      carried = one_done g.faults c.args.listed.now.scenarios.now (passed_by g rows before)
-          (passed_by g rows (before ++ p ∷ [])) c.loop-at.at cubes s c.start_in.new.cube c.loop-at-test.true
+      carried = one_done g.faults c.args.listed.now.scenarios.now (passed_by g rows earlier_processes)
+          (passed_by g rows (earlier_processes ++ p ∷ [])) c.loop-at.at cubes s c.start_in.new.cube c.loop-at-test.true
           c.loop-at.invariant.carried
           c.index-scenarios-at.is (subst (λ ls. IsCubeOf g.faults ls c.start_in.new.cube)
-          (flat_map_push (passed g rows s) before p) (c.in_ok-entry.ensures.carried.by earlier is));
+          (flat_map_push (passed g rows s) earlier_processes p) (c.in_ok-entry.ensures.carried.by earlier is));
     }
 
 -- the loop has seen all scenarios, so the entries are all of the start
@@ -120,7 +120,7 @@ pub returns-clause-known : goal.returns-clause-known
 returns-clause-known c =
     let g = c.args.listed.now.admitted.now.graph in
     let rows = columns_of_rows c.args.rows.now in
-    let before = before_on_node g c.args.listed.now.order.now c.args.process in
-    all_done g.faults c.args.listed.now.scenarios.now (passed_by g rows before) (passed_by g rows
-    (before ++ c.args.process ∷ [])) c.loop-at.at c.loop-at.known-inside.cubes.items c.loop-at-test.false
+    let earlier = before_on_node g c.args.listed.now.order.now c.args.process in
+    all_done g.faults c.args.listed.now.scenarios.now (passed_by g rows earlier) (passed_by g rows
+    (earlier ++ c.args.process ∷ [])) c.loop-at.at c.loop-at.known-inside.cubes.items c.loop-at-test.false
     c.loop-at.invariant.carried

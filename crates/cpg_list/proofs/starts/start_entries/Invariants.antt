@@ -1,5 +1,5 @@
--- Loops of `start_entries`: the entries of the start of a process, for the scenarios that are the least of the cubes
--- carried there.
+-- Loops of `start_entries`: the entries of the start of a process, each in the least scenario of its cube; narrows for
+-- each scenario what the node carries on.
 use Rattle.std.proofs.Common.{◌++◌, ◌∷◌, [], take}
 use Rattle.cpg_base.specs.Order.{before_on_node}
 use Rattle.cpg_list.specs.Made.{passed_by, AreCubesUpTo}

@@ -1,5 +1,5 @@
--- Proof of `start_in`: the entry of the start of a process in a scenario, if it is active there and the scenario is
--- the least of the cube carried there.
+-- Proof of `start_in`: the entry of the start of a process in a scenario, or `None` if it is inactive or the scenario
+-- isn't the least of its cube; narrows what the node carries on.
 use Rattle.std.proofs.Common.{◌≡◌, ◌∙◌, ℕ, ◌++◌, ◌∷◌, [], true, false, is_some, Contains, sym, ap, subst}
 use Rattle.cpg_base.specs.Graph.{Graph, inputs, broadcast_item, message_item}
 use Rattle.cpg_base.specs.Activity.{active}
@@ -7,7 +7,7 @@ use Rattle.cpg_order.specs.Deciding.{deciding}
 use Rattle.cpg_run.specs.Carried.{decided, heard, number_known}
 use Rattle.cpg_list.specs.Learning.{RowTells, start_after, received_unless_frozen}
 use Rattle.cpg_run.specs.Found.{columns_of_rows}
-use Rattle.cpg_list.specs.Narrowing.{IsNarrowed, IsKeptOf, IsKeptAt}
+use Rattle.cpg_list.specs.Narrowing.{IsNarrowed, IsEntryOf, IsEntryAt}
 use Rattle.cpg_run.specs.Rows.{IsCubeOf}
 use Rattle.cpg_list.proofs.CodeCubes.{narrowed_then}
 use Rattle.cpg_list.proofs.CodeStarts.{passed_idle, passed_active, process_active}
@@ -36,9 +36,9 @@ returns-in_default-clause-carried c =
     let rows = columns_of_rows c.args.frames.now.rows.now in
     let e = c.requires.graph in
     -- the cube is narrowed by what decides the process, and then by what its node hears
-    let first = subst (λ (h : Graph). IsNarrowed h.faults (decided h s p) c.args.cube.now c.narrow_by_decided.new.cube)
+    let by_decided = subst (λ (h : Graph). IsNarrowed h.faults (decided h s p) c.args.cube.now c.narrow_by_decided.new.cube)
     e c.in_ok-narrow_by_decided.ensures in
-    let second = subst
+    let by_heard = subst
     (λ (h : Graph). IsNarrowed h.faults (heard h rows s p) c.narrow_by_decided.new.cube c.narrow_by_heard.new.cube)
     e c.in_ok-narrow_by_heard.ensures in
     -- the run has no time for the process, so it is inactive
@@ -47,7 +47,7 @@ returns-in_default-clause-carried c =
     ∙ ap is_some (sym c.time.ensures ∙ c.in_default.is) in
     subst (λ ls. IsNarrowed g.faults ls c.args.cube.now c.narrow_by_heard.new.cube) (sym (passed_idle g rows s p off))
     (narrowed_then g.faults (decided g s p)
-    (heard g rows s p) c.args.cube.now c.narrow_by_decided.new.cube c.narrow_by_heard.new.cube first second)
+    (heard g rows s p) c.args.cube.now c.narrow_by_decided.new.cube c.narrow_by_heard.new.cube by_decided by_heard)
 
 -- the process is active and starts at its time, frozen or not
 pub returns-clause-entry : goal.returns-clause-entry
@@ -58,19 +58,19 @@ returns-clause-entry c earlier is =
     let rows = columns_of_rows c.args.frames.now.rows.now in
     let e = c.requires.graph in
     -- the cube is narrowed by what decides the process, and then by what its node hears
-    let first = subst (λ (h : Graph). IsNarrowed h.faults (decided h s p) c.args.cube.now c.narrow_by_decided.new.cube)
+    let by_decided = subst (λ (h : Graph). IsNarrowed h.faults (decided h s p) c.args.cube.now c.narrow_by_decided.new.cube)
     e c.in_ok-narrow_by_decided.ensures in
-    let second = subst
+    let by_heard = subst
     (λ (h : Graph). IsNarrowed h.faults (heard h rows s p) c.narrow_by_decided.new.cube c.narrow_by_heard.new.cube)
     e c.in_ok-narrow_by_heard.ensures in
     -- so it is the cube of what was passed on before, what decides the process and what is heard
-    let before = second.by (earlier ++ decided g s p) (first.by earlier is) in
+    let is_cube = by_heard.by (earlier ++ decided g s p) (by_decided.by earlier is) in
     let found = subst
     (λ (h : Graph). IsCubeOf h.faults (earlier ++ decided h s p ++ heard h rows s p) c.narrow_by_heard.new.cube →
-    IsKeptOf h s c.in-Some.time (start_after h rows s p earlier) c.in_ok-entry.entry) e
+    IsEntryOf h s c.in-Some.time (start_after h rows s p earlier) c.in_ok-entry.entry) e
     (c.in_ok-entry.ensures.entry earlier) in
-    subst (λ o. IsKeptAt g s o (start_after g rows s p earlier) c.in_ok-entry.entry)
-    (sym c.in-Some.is ∙ c.time.ensures) (found before)
+    subst (λ o. IsEntryAt g s o (start_after g rows s p earlier) c.in_ok-entry.entry)
+    (sym c.in-Some.is ∙ c.time.ensures) (found is_cube)
 
 -- the process is active, so it also passes on its count and, unless it is frozen, what it receives
 pub returns-clause-carried : goal.returns-clause-carried
@@ -82,14 +82,14 @@ returns-clause-carried c =
     let e = c.requires.graph in
     -- the cube is narrowed by what decides the process, by what is heard, by what is received, and by its count
     -- the cube was narrowed by what decides p, and then by what the broadcasts told of that
-    let first = subst (λ (h : Graph). IsNarrowed h.faults (decided h s p) c.args.cube.now c.narrow_by_decided.new.cube)
+    let by_decided = subst (λ (h : Graph). IsNarrowed h.faults (decided h s p) c.args.cube.now c.narrow_by_decided.new.cube)
     e c.in_ok-narrow_by_decided.ensures in
-    let second = subst
+    let by_heard = subst
     (λ (h : Graph). IsNarrowed h.faults (heard h rows s p) c.narrow_by_decided.new.cube c.narrow_by_heard.new.cube)
     e c.in_ok-narrow_by_heard.ensures in
-    let third = subst (λ (h : Graph). IsNarrowed h.faults (received_unless_frozen h rows s p) c.narrow_by_heard.new.cube
+    let by_received = subst (λ (h : Graph). IsNarrowed h.faults (received_unless_frozen h rows s p) c.narrow_by_heard.new.cube
     c.started.new.cube) e c.in_ok-entry.ensures.carried in
-    let fourth = subst
+    let by_count = subst
     (λ (h : Graph). IsNarrowed h.faults (number_known s p ∷ []) c.started.new.cube c.narrow_to_number.new.cube) e
     c.in_ok-narrow_to_number.ensures in
     -- the process is active, since it has a time
@@ -101,6 +101,6 @@ returns-clause-carried c =
     (narrowed_then g.faults (decided g s p ++ heard g rows s p) (received_unless_frozen g rows s p
     ++ number_known s p ∷ []) c.args.cube.now c.narrow_by_heard.new.cube c.narrow_to_number.new.cube
     (narrowed_then g.faults (decided g s p)
-    (heard g rows s p) c.args.cube.now c.narrow_by_decided.new.cube c.narrow_by_heard.new.cube first second)
+    (heard g rows s p) c.args.cube.now c.narrow_by_decided.new.cube c.narrow_by_heard.new.cube by_decided by_heard)
     (narrowed_then g.faults (received_unless_frozen g rows s p)
-    (number_known s p ∷ []) c.narrow_by_heard.new.cube c.started.new.cube c.narrow_to_number.new.cube third fourth))
+    (number_known s p ∷ []) c.narrow_by_heard.new.cube c.started.new.cube c.narrow_to_number.new.cube by_received by_count))

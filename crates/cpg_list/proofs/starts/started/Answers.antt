@@ -1,10 +1,10 @@
--- Proof of `started`: the entry of the start of an active process, if the scenario is the least of the cube carried
--- there.
+-- Proof of `started`: the entry of the start of an active process, or `None` if the scenario isn't the least of its
+-- cube; narrows the cube by what the messages to the process told, unless it is frozen.
 use Rattle.std.proofs.Common.{◌≡◌, ◌∙◌, ◌++◌, false, sym, subst}
 use Rattle.cpg_base.specs.Graph.{process_at}
 use Rattle.cpg_run.specs.Carried.{decided, heard, received}
 use Rattle.cpg_run.specs.Found.{columns_of_rows}
-use Rattle.cpg_list.specs.Narrowing.{IsKeptOf}
+use Rattle.cpg_list.specs.Narrowing.{IsEntryOf}
 use Rattle.cpg_list.proofs.CodeStarts.{kept_of, frozen_start, start_plain}
 use Rattle.cpg_list.proofs.starts.started.Goals as goal
 
@@ -15,9 +15,9 @@ returns-clause-entry c earlier is =
     let s = c.args.frames.now.scenario.now in
     let p = c.args.process in
     let rows = columns_of_rows c.args.frames.now.rows.now in
-    let before = earlier ++ decided g s p ++ heard g rows s p in
+    let literals = earlier ++ decided g s p ++ heard g rows s p in
     let plain : (process_at g p).frozen ≡ false =
     sym (c.is_frozen.ensures ∙ frozen_start g p c.requires.process) ∙ c.if-is_frozen.false in
-    subst (λ ls. IsKeptOf g s c.args.time ls c.in_ok-entry-2.entry) (sym (start_plain g rows s p earlier plain))
-    (kept_of g s c.args.time (before ++ received g rows s p) c.narrow_by_received.new.cube
-    (c.in_ok-narrow_by_received.ensures.by before is) c.in_ok-entry-2.entry c.in_ok-entry-2.ensures)
+    subst (λ ls. IsEntryOf g s c.args.time ls c.in_ok-entry-2.entry) (sym (start_plain g rows s p earlier plain))
+    (kept_of g s c.args.time (literals ++ received g rows s p) c.narrow_by_received.new.cube
+    (c.in_ok-narrow_by_received.ensures.by literals is) c.in_ok-entry-2.entry c.in_ok-entry-2.ensures)

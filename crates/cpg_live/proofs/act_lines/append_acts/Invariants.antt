@@ -1,4 +1,4 @@
--- Loops of `append_acts`: appends the lines of acts.
+-- Loops of `append_acts`: appends the lines of acts, one after another.
 use Rattle.std.proofs.Common.{◌≡◌, ◌+◌, ◌*◌, ◌≤◌, ◌++◌, drop, length}
 use Rattle.std.specs.Vec.{vec_len, vec_capacity}
 use Rattle.cpg_live.specs.declared.act_lines.TheConstants.{MOST_LINE}

@@ -1,4 +1,4 @@
--- Loops of `condition_name`: what the process of a condition is called, and nothing if there is no such condition.
+-- Loops of `condition_name`: the name of the process of a condition; empty if there is no such condition.
 use Rattle.std.proofs.Common.{◌≡◌, [], drop, filter, get_or, map}
 use Rattle.cpg_head.specs.declared.head_parts.HeadProcess.{HeadProcess}
 use Rattle.cpg_label.specs.Labels.{condition_name, head_labels}

@@ -1,4 +1,4 @@
--- Proof of `first_line`: the first line of some bytes, and the bytes after its line feed.
+-- Proof of `first_line`: the first line of some bytes, and the bytes after its line feed, if it has one; otherwise none.
 use Rattle.cpg_log.proofs.LineLaws.{lines_parted, lines_whole}
 use Rattle.cpg_log.proofs.lines.first_line.Goals as goal
 

@@ -1,4 +1,4 @@
--- Proof of `parted`: the bytes before the first byte of a kind, and those after it, or `None` if there is none.
+-- Proof of `parted`: the bytes before the first byte that is `byte`, and those after it, or `None` if there is none.
 use Rattle.std.proofs.Common.{◌∙◌, sym}
 use Rattle.cpg_log.proofs.LineLaws.{not_there, parted_at, rest_of}
 use Rattle.cpg_log.proofs.lines.parted.Goals as goal

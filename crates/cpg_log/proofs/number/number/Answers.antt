@@ -1,4 +1,5 @@
--- Proof of `number`: the number below 2^60 of some digits, if they are those of a time.
+-- Proof of `number`: the number below 2^60 whose decimal digits these are, if they are those of one; for other bytes any
+-- number below 2^60, or `None`.
 use Rattle.std.proofs.Common.{ℕ, ◌≡◌, ◌<◌, ◌^◌, List, Some, Result, Ok, Err, arith, sym, ap, ◌∙◌, subst}
 use Rattle.std.specs.Fmt.{decimal}
 use Rattle.std.specs.Str.{IsUtf8}

@@ -1,4 +1,4 @@
--- Proof of `read_log`: the log that a file spells.
+-- Proof of `read_log`: the log that a file spells, or the number of the first line that makes it none.
 use Rattle.std.proofs.Common.{◌≡◌, Err, rules, sym, subst}
 use Rattle.cpg_log.specs.Lines.{lines}
 use Rattle.cpg_log.specs.Reading.{IsBadLine}

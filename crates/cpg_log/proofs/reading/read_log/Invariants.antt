@@ -1,4 +1,4 @@
--- Loops of `read_log`: the log that a file spells.
+-- Loops of `read_log`: the log that a file spells, or the number of the first line that makes it none.
 use Rattle.std.proofs.Common.{◌≡◌, ◌++◌, length}
 use Rattle.cpg_log.specs.Lines.{lines}
 use Rattle.cpg_log.specs.Log.{IsLog, log_lines}

@@ -1,4 +1,4 @@
--- Proof of `text_of`: the text of an item.
+-- Proof of `text_of`: the text of an item, out of those of all items.
 use Rattle.std.proofs.Common.{◌∙◌, ap, arith, string_bytes}
 use Rattle.cpg_log.proofs.TextLaws.{texts_long, text_at}
 use Rattle.cpg_log.proofs.texts.text_of.Goals as goal

@@ -10,10 +10,10 @@ pub returns : goal.returns
 returns c =
     let columns = c.args.columns.now in
     let differing = c.in_ok-differing.differing.items in
-    let told = c.as_slice-2.result.now in
+    let amounts = c.as_slice-2.result.now in
     let is : map (λ (b : Bor Column). b.now) c.in_ok-chosen.chosen.items ≡ filter (is_candidate differing) columns =
     c.in_ok-chosen.ensures ∙
     ap (λ (ds : List Bool). filter (is_candidate ds) columns) c.as_slice-4.ensures.value in
     subst (HoldCandidates columns) (sym is)
-    (both_chosen told differing columns c.in_ok-differing.ensures.long (subst (AreTold told differing)
+    (both_chosen amounts differing columns c.in_ok-differing.ensures.long (subst (AreTold amounts differing)
     (c.as_slice-3.ensures.value ∙ c.in_ok-kinds.ensures) c.in_ok-differing.ensures.told))

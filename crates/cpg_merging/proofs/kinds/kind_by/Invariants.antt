@@ -4,7 +4,7 @@ use Rattle.cpg_merging.specs.Demands.{low_of}
 use Rattle.cpg_merging.specs.Kinds.{variable_of}
 use Rattle.cpg_merging.proofs.kinds.kind_by.Given as goal
 
--- after each literal, the two sums are those of the variables and of the lower ends of the literals so far, modulo
+-- after each literal, the two sums are those of the variables and of the lows of the literals so far, modulo
 -- 256
 abbrev pub invariant-loop-literal : goal.invariant-loop-literal
 invariant-loop-literal l = record {

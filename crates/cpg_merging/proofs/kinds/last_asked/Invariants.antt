@@ -5,4 +5,4 @@ use Rattle.cpg_merging.proofs.kinds.last_asked.Given as goal
 
 -- the list keeps one amount for each place
 abbrev pub invariant-loop-kind : goal.invariant-loop-kind
-invariant-loop-kind l = length l.told.items ≡ l.count
+invariant-loop-kind l = length l.amounts.items ≡ l.count

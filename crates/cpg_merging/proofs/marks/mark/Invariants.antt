@@ -5,7 +5,7 @@ use Rattle.cpg_merging.specs.Totals.{HasNoPartner, IsMarked}
 use Rattle.cpg_merging.proofs.marks.mark.Given as goal
 
 -- `kept`: what was marked stays marked. `marked`: each literal is among those that are left, or its variable is
--- marked, or no sum is that of the column with the literal changed
+-- marked, or no total is that of the column with the literal changed
 abbrev pub invariant-loop-block : goal.invariant-loop-block
 invariant-loop-block l = record {
   kept : (v : ℕ) → IsMarked l.fn.marks v → IsMarked l.marks v;

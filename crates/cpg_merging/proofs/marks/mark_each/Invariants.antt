@@ -5,7 +5,7 @@ use Rattle.cpg_cube.specs.declared.literal.Literal.{Literal}
 use Rattle.cpg_merging.specs.Totals.{HasNoPartner, IsMarked}
 use Rattle.cpg_merging.proofs.marks.mark_each.Given as goal
 
--- `kept`: what was marked stays marked. `marked`: for each literal so far, its variable is marked, or no sum is that
+-- `kept`: what was marked stays marked. `marked`: for each literal so far, its variable is marked, or no total is that
 -- of the column with the literal changed
 abbrev pub invariant-loop-literal : goal.invariant-loop-literal
 invariant-loop-literal l = record {

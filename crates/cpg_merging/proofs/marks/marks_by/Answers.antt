@@ -1,4 +1,4 @@
--- Proof of `marks_by`, which returns at which variables some column may follow one whose total is among the sums, by
+-- Proof of `marks_by`, which returns at which variables some column may follow one whose total is among these, by
 -- number.
 use Rattle.std.proofs.Common.{Bor, List, Contains, get_or, arith, subst}
 use Rattle.cpg_cube.specs.declared.column.Column.{Column}

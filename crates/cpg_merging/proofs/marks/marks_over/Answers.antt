@@ -6,7 +6,7 @@ use Rattle.cpg_merging.specs.Totals.{total_of, DoNotFall}
 use Rattle.cpg_merging.proofs.MergingTotals.{marked_sorted}
 use Rattle.cpg_merging.proofs.marks.marks_over.Goals as goal
 
--- the sums are sorted, and the sieve marks each of them
+-- the totals are sorted, and the sieve marks each of them
 pub marks_by-requires-clause-sums : goal.marks_by-requires-clause-sums
 marks_by-requires-clause-sums c = record {
   up = subst DoNotFall (sym c.as_slice-3.ensures.value)
@@ -15,7 +15,7 @@ marks_by-requires-clause-sums c = record {
   marked = search rules;
 }
 
--- marks by the sorted sums are marks by the sums
+-- marks by the sorted totals are marks by the totals
 pub returns : goal.returns
 returns c = marked_sorted (map (λ b. b.now) c.args.columns.now) c.marks_by.result c.as_slice-3.result.now
     (subst (IsPermutation (map total_of (map (λ b. b.now) c.args.columns.now))) (sym c.as_slice-3.ensures.value)

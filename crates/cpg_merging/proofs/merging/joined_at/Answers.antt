@@ -17,8 +17,8 @@ returns-then-not-marked-variable-clause-passed c =
     (c.requires.marked v c.requires.known (λ on. true≢false (sym on ∙ c.if-not-marked-variable.true)))
 
 -- as many columns as before are left, so they are the same in some order, and the marks still hold
-pub returns-then-len-before-clause-marked : goal.returns-then-len-before-clause-marked
-returns-then-len-before-clause-marked c =
+pub returns-then-len-count-clause-marked : goal.returns-then-len-count-clause-marked
+returns-then-len-count-clause-marked c =
     let old = c.args.marked.listing.columns in
     let new = c.in_ok-columns.columns in
     let m : length old.items ≡ vec_len old = search rules in

@@ -5,7 +5,7 @@ use Rattle.cpg_merging.specs.Totals.{AreMarked}
 use Rattle.cpg_merging.proofs.merging.joined_over.Given as goal
 
 -- `passed`: the columns got fewer, or none touch at the variables so far. `marked`: no two touch at a variable that
--- isn't marked. `sorted`: columns known to be sorted are those of before
+-- isn't marked. `sorted`: columns known to be sorted are those given
 abbrev pub invariant-loop-variable : goal.invariant-loop-variable
 invariant-loop-variable l = record {
   passed : IsPassed l.problem

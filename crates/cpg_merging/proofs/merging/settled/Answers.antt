@@ -20,8 +20,8 @@ loop-marked-init c = record {
 }
 
 -- as many columns as before are left, so they are settled
-pub returns-then-len-before-clause-settled : goal.returns-then-len-before-clause-settled
-returns-then-len-before-clause-settled c =
+pub returns-then-len-count-clause-settled : goal.returns-then-len-count-clause-settled
+returns-then-len-count-clause-settled c =
     let g = c.args.problem.now in
     let old = c.loop-marked.marked.listing.columns in
     let new = c.in_ok-marked-2.marked.listing.columns in
@@ -43,7 +43,7 @@ loop-marked-smaller c =
     let m : length old.items ≡ vec_len old = search rules in
     let n : length new.items ≡ vec_len new = search rules in
     let less : length new.items < length old.items = fewer_else g
-    (IsVariable g) old.items new.items c.in_ok-marked-2.ensures.passed (λ e. c.if-len-before.false (omega arith)) in
+    (IsVariable g) old.items new.items c.in_ok-marked-2.ensures.passed (λ e. c.if-len-count.false (omega arith)) in
     omega arith
 
 -- the columns of this round are a join of those before it, so also of those given, and the round left marks that still
@@ -60,6 +60,6 @@ loop-marked-preserved c = record {
 }
 
 -- columns known to be sorted now were so before this turn, and then before the loop
-pub returns-then-len-before-clause-sorted : goal.returns-then-len-before-clause-sorted
-returns-then-len-before-clause-sorted c = sorted_through c.args.listing c.loop-marked.marked.listing
+pub returns-then-len-count-clause-sorted : goal.returns-then-len-count-clause-sorted
+returns-then-len-count-clause-sorted c = sorted_through c.args.listing c.loop-marked.marked.listing
     c.in_ok-marked-2.marked.listing c.loop-marked.invariant.sorted c.in_ok-marked-2.ensures.sorted

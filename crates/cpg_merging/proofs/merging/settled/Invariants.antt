@@ -4,8 +4,8 @@ use Rattle.cpg_merging.specs.Merging.{IsShorn, IsJoinOf, IsSortedAs}
 use Rattle.cpg_merging.specs.Totals.{AreMarked}
 use Rattle.cpg_merging.proofs.merging.settled.Given as goal
 
--- `good`, `joins`: the columns are shorn and a join of those of before. `sorted`: columns known to be sorted are
--- those of before. `marked`: no two columns of one time touch at a variable that isn't marked
+-- `good`, `joins`: the columns are shorn and a join of those given. `sorted`: columns known to be sorted are those
+-- given. `marked`: no two columns of one time touch at a variable that isn't marked
 abbrev pub invariant-loop-marked : goal.invariant-loop-marked
 invariant-loop-marked l = record {
   good : IsShorn l.problem l.marked.listing.columns.items;

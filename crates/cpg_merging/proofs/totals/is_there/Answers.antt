@@ -4,7 +4,7 @@ use Rattle.std.specs.Bool.{OnFalse}
 use Rattle.cpg_merging.proofs.MergingTotals.{not_there}
 use Rattle.cpg_merging.proofs.totals.is_there.Goals as goal
 
--- the sums are sorted, so a number that the binary search doesn't find isn't among them
+-- the totals are sorted, so a number that the binary search doesn't find isn't among them
 pub returns : goal.returns
 returns c =
     subst (λ (b : Bool). OnFalse b (Contains c.args.sums.sorted.now c.args.number → ⊥)) (sym c.is_ok.ensures.value)

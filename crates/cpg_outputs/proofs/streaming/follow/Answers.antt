@@ -21,6 +21,7 @@ returns-in-Ok-clause-whole g c =
     let past = (g.S.Shelf.state c.args.shelf.now).history in
     let now = (g.O.Sink.state c.args.out.now).taken in
     let history = (g.S.Shelf.state c.fetch.new.self).history in
+    -- what `follow_rest` answers of a stream that the follower is along
     on_match_ok _ _ c.follow_rest.result (c.follow_rest.ensures.along now name past
     (subst (IsAlong name past history now now) (sym c.requires.opened)
     (along_open name past history now f.head f.table c.in-Ok.ensures.history)))
@@ -33,6 +34,7 @@ returns-in-Ok-clause-broken g c =
     let past = (g.S.Shelf.state c.args.shelf.now).history in
     let now = (g.O.Sink.state c.args.out.now).taken in
     let history = (g.S.Shelf.state c.fetch.new.self).history in
+    -- what `follow_rest` answers of a stream that the follower is along
     on_match_err _ _ c.follow_rest.result (c.follow_rest.ensures.along now name past
     (subst (IsAlong name past history now now) (sym c.requires.opened)
     (along_open name past history now f.head f.table c.in-Ok.ensures.history)))
@@ -54,11 +56,14 @@ returns-in-Ok-clause-fetched g c =
     let mid = g.S.Shelf.state c.fetch.new.self in
     let new = g.S.Shelf.state c.follow_rest.new.shelf in
     let out = g.O.Sink.state c.args.out.now in
+    -- the follower is along the stream from its first byte
     let start = subst (IsAlong name old.history mid.history out.taken out.taken) (sym c.requires.opened)
     (along_open name old.history mid.history out.taken f.head f.table c.in-Ok.ensures.history) in
+    -- one fetch is added, that of the stream
     let one = fetch_of (Completes f.head f.table) (λ broken s. Breaks f.head f.table s broken) name old.history
     new.history out.taken out (g.O.Sink.state c.follow_rest.new.out) c.follow_rest.result
     (c.follow_rest.ensures.along out.taken name old.history start) in
+    -- the names stay as they are
     let names : SameNames old new = λ n. c.follow_rest.ensures.names n ∙ c.in-Ok.ensures.names n in
     fetched_one old new names one.0 one.1 (c.follow_rest.ensures.rest
     (fetch_rest old mid c.in-Ok.ensures.names name c.in-Ok.ensures.history c.in-Ok.ensures.started))

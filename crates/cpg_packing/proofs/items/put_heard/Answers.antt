@@ -1,3 +1,4 @@
+-- Proof of `put_heard`, which puts the rows of items at a node that hears them, each later by the sender's slot.
 use Rattle.std.proofs.Common.{ℕ, ◌<◌, ◌∙◌, length, arith, ap, subst, sym}
 use Rattle.std.specs.Prelude.{slice_index_or}
 use Rattle.std.proofs.lemmas.Result.{err_from_is_err_and}
@@ -22,6 +23,7 @@ loop-item-preserved g c =
     let rows = c.args.rows.now in
     let h = c.args.problem.now in
     let i = c.loop-item.item-index in
+    -- the item, which has a row
     let x : ℕ = slice_index_or c.args.items.now i 0 in
     let within : x < length rows = omega (arith, c.requires.items i 0 c.loop-item-test.true, c.requires.long) in
     record {
@@ -40,6 +42,7 @@ returns-in_err-put_row-clause-put g c =
     let rows = c.args.rows.now in
     let h = c.args.problem.now in
     let i = c.loop-item.item-index in
+    -- the item, which has a row
     let x : ℕ = slice_index_or c.args.items.now i 0 in
     let within : x < length rows = omega (arith, c.requires.items i 0 c.loop-item-test.true, c.requires.long) in
     let p = err_from_is_err_and c.from_residual.result c.from_residual.ensures.1 in

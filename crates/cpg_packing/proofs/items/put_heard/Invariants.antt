@@ -1,3 +1,4 @@
+-- Loops of `put_heard`, which puts the rows of items at a node that hears them, each later by the sender's slot.
 use Rattle.std.proofs.Common.{◌≡◌, [], take}
 use Rattle.std.specs.List.{flat_map}
 use Rattle.cpg_codec.specs.Writing.{IsPut}

@@ -1,3 +1,4 @@
+-- Proof of `put_node`, which puts the rows of what a node starts, then of what it sends, then of what it hears.
 use Rattle.std.proofs.Common.{◌++◌}
 use Rattle.std.specs.List.{flat_map}
 use Rattle.std.proofs.lemmas.Result.{err_from_is_err_and}

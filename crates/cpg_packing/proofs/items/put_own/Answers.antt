@@ -1,3 +1,4 @@
+-- Proof of `put_own`, which puts the rows of items that a node starts or sends, as they are.
 use Rattle.std.proofs.Common.{ℕ, ◌<◌, ◌∙◌, length, arith}
 use Rattle.std.specs.Prelude.{slice_index_or}
 use Rattle.std.proofs.lemmas.Result.{err_from_is_err_and}
@@ -12,6 +13,7 @@ pub loop-item-preserved : goal.loop-item-preserved
 loop-item-preserved g c =
     let rows = c.args.rows.now in
     let i = c.loop-item.item-index in
+    -- the item, which has a row
     let x : ℕ = slice_index_or c.args.items.now i 0 in
     let within : x < length rows = c.requires.items i 0 c.loop-item-test.true in
     record {
@@ -27,6 +29,7 @@ pub returns-in_err-put_row-clause-put : goal.returns-in_err-put_row-clause-put
 returns-in_err-put_row-clause-put g c =
     let rows = c.args.rows.now in
     let i = c.loop-item.item-index in
+    -- the item, which has a row
     let x : ℕ = slice_index_or c.args.items.now i 0 in
     let within : x < length rows = c.requires.items i 0 c.loop-item-test.true in
     let p = err_from_is_err_and c.from_residual.result c.from_residual.ensures.1 in

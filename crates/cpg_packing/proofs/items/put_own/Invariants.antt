@@ -1,3 +1,4 @@
+-- Loops of `put_own`, which puts the rows of items that a node starts or sends, as they are.
 use Rattle.std.proofs.Common.{◌≡◌, [], take}
 use Rattle.std.specs.List.{flat_map}
 use Rattle.cpg_codec.specs.Writing.{IsPut}

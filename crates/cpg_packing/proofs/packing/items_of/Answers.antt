@@ -1,3 +1,4 @@
+-- Proof of `items_of`, which returns for each of the first `count` nodes what it starts, sends and hears.
 use Rattle.cpg_table.specs.Items.{lists_of}
 use Rattle.cpg_packing.proofs.MoreItems.{map_more}
 use Rattle.cpg_packing.proofs.packing.items_of.Goals as goal

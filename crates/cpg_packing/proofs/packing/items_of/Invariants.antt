@@ -1,3 +1,4 @@
+-- Loops of `items_of`, which returns for each of the first `count` nodes what it starts, sends and hears.
 use Rattle.std.proofs.Common.{◌≡◌, map}
 use Rattle.cpg_base.specs.Numbers.{numbers_below}
 use Rattle.cpg_table.specs.Items.{lists_of}

@@ -1,3 +1,4 @@
+-- Proof of `put_all`, which puts the head of a graph, and then the rows of each node.
 use Rattle.std.proofs.Common.{◌∙◌, All, subst, sym}
 use Rattle.std.specs.List.{flat_map}
 use Rattle.std.proofs.lemmas.Result.{err_from_is_err_and}

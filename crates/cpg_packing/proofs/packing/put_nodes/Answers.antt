@@ -1,3 +1,4 @@
+-- Proof of `put_nodes`, which puts the rows of each node, one after another.
 use Rattle.std.proofs.Common.{subst, sym}
 use Rattle.std.proofs.lemmas.Result.{err_from_is_err_and}
 use Rattle.cpg_codec.proofs.Puts.{Puts-failed, item_fails}

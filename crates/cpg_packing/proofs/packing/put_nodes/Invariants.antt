@@ -1,3 +1,4 @@
+-- Loops of `put_nodes`, which puts the rows of each node, one after another.
 use Rattle.std.proofs.Common.{◌≡◌, [], take}
 use Rattle.std.specs.List.{flat_map}
 use Rattle.cpg_codec.specs.Writing.{IsPut}

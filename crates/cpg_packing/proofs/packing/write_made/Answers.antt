@@ -1,3 +1,4 @@
+-- Proof of `write_made`, which writes the pack of rows: the spelling of the tables that have them.
 use Rattle.cpg_table.proofs.NodeRows.{long}
 use Rattle.cpg_packing.proofs.Fitting.{packable_rows}
 use Rattle.cpg_packing.proofs.packing.write_made.Goals as goal

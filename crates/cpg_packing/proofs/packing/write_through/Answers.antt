@@ -1,3 +1,4 @@
+-- Proof of `write_through`, which writes the head and the rows of each node through an empty buffer.
 use Rattle.cpg_packing.specs.PackBytes.{pack_bytes}
 use Rattle.cpg_codec.proofs.Puts.{rest_fails}
 use Rattle.cpg_packing.proofs.packing.write_through.Goals as goal

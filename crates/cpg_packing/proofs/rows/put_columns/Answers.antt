@@ -1,3 +1,4 @@
+-- Proof of `put_columns`, which puts the columns of a row, each later by a delay: from a list, or from a tree.
 use Rattle.std.proofs.Common.{ℕ, sym, subst}
 use Rattle.cpg_tree.specs.Decision.{HasCuts}
 use Rattle.cpg_tree.proofs.PathLaws.{good_cuts}

@@ -1,3 +1,4 @@
+-- Proof of `put_later`, which puts columns, one after another, each later by a delay.
 use Rattle.std.proofs.Common.{◌∙◌}
 use Rattle.std.proofs.lemmas.Result.{err_from_is_err_and}
 use Rattle.cpg_codec.specs.Spelling.{column_bytes}

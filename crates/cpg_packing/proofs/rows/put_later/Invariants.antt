@@ -1,3 +1,4 @@
+-- Loops of `put_later`, which puts columns, one after another, each later by a delay.
 use Rattle.std.proofs.Common.{◌≡◌, [], take}
 use Rattle.std.specs.List.{flat_map}
 use Rattle.cpg_codec.specs.Writing.{IsPut}

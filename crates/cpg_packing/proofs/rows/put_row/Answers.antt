@@ -1,3 +1,4 @@
+-- Proof of `put_row`, which puts a row: how many columns it has, and then these, each later by a delay.
 use Rattle.std.proofs.Common.{length, subst}
 use Rattle.std.specs.Int.{w16, to_be_bytes}
 use Rattle.std.proofs.lemmas.Result.{err_from_is_err_and}

@@ -1,3 +1,5 @@
+-- Proof of `put_paths`, which puts the columns that the tree has below a path, each later by a delay: the time of each is
+-- a leaf, and its cube is the path to there.
 use Rattle.std.proofs.Common.{ℕ, [], Option, Some, arith, refl, subst}
 use Rattle.std.proofs.lemmas.Result.{err_from_is_err_and}
 use Rattle.cpg_codec.specs.Writing.{IsPut, Puts}
@@ -13,6 +15,7 @@ use Rattle.cpg_packing.proofs.walking.+put_paths.Goals as goal
 -- a cut is below the greatest number of its variable, so the number above it fits a byte
 pub overflow_add-upper : goal.overflow_add-upper
 overflow_add-upper g t c =
+    -- the tree is a fork, and its two sides are those of the cut
     let shows = c.in-Cut.ensures.shows in
     let cuts = c.requires.cuts (Fork c.in-Cut.variable c.in-Cut.cut shows.0 shows.1) shows.4 in
     omega (arith, cut_fits c.args.k c.in-Cut.variable c.in-Cut.cut c.ranges.k.fits cuts.1)
@@ -34,6 +37,7 @@ put_column-requires g t c =
 -- the side below has fewer items, its cuts leave numbers above them, and its columns on from the narrowed path fit
 pub put_paths-requires : goal.put_paths-requires
 put_paths-requires g t c κs within =
+    -- the tree is a fork, and its two sides are those of the cut
     let shows = c.in-Cut.ensures.shows in
     let v = c.in-Cut.variable in
     let cut = c.in-Cut.cut in
@@ -63,6 +67,7 @@ put_paths-requires g t c κs within =
 -- the same for the side above, on from the exchanged path
 pub put_paths-requires-in-Cut : goal.put_paths-requires-in-Cut
 put_paths-requires-in-Cut g t c κs within =
+    -- the tree is a fork, and its two sides are those of the cut
     let shows = c.in-Cut.ensures.shows in
     let v = c.in-Cut.variable in
     let cut = c.in-Cut.cut in
@@ -108,6 +113,7 @@ returns-in_default-clause-put g t c n are =
 -- the tree is a leaf with a time, and of its one column a proper prefix was taken
 pub returns-in_err-put_column-in-Value-clause-put : goal.returns-in_err-put_column-in-Value-clause-put
 returns-in_err-put_column-in-Value-clause-put g t c n are =
+    -- the call failed
     let p = err_from_is_err_and c.from_residual.result c.from_residual.ensures.1 in
     puts_failed_as _ _ _ _ _ _ c.from_residual.result p.0 p.1
     (one_piece (delayed c.args.delay) c.args.k c.args.path.now c.args.items.now n are c.in-Some.time
@@ -117,10 +123,12 @@ returns-in_err-put_column-in-Value-clause-put g t c n are =
 -- the sink took only a proper prefix of the side below, with which both begin
 pub returns-in_err-put_paths-in-Cut-clause-put : goal.returns-in_err-put_paths-in-Cut-clause-put
 returns-in_err-put_paths-in-Cut-clause-put g t c n are =
+    -- the tree is a fork, and its two sides are those of the cut
     let shows = c.in-Cut.ensures.shows in
     let v = c.in-Cut.variable in
     let cut = c.in-Cut.cut in
     let k = c.args.k in
+    -- the call failed
     let p = err_from_is_err_and c.from_residual-in_err-put_paths-in-Cut.result
     c.from_residual-in_err-put_paths-in-Cut.ensures.1 in
     subst (Puts _ _ _ _ c.from_residual-in_err-put_paths-in-Cut.result)
@@ -134,16 +142,20 @@ returns-in_err-put_paths-in-Cut-clause-put g t c n are =
 -- one of both
 pub returns-in_err-put_paths-in-Cut-2-clause-put : goal.returns-in_err-put_paths-in-Cut-2-clause-put
 returns-in_err-put_paths-in-Cut-2-clause-put g t c n are =
+    -- the tree is a fork, and its two sides are those of the cut
     let shows = c.in-Cut.ensures.shows in
     let v = c.in-Cut.variable in
     let cut = c.in-Cut.cut in
     let k = c.args.k in
+    -- the bytes of the two sides
     let first = bytes_from k c.args.delay (narrowed_by (up_to v cut) c.args.path.now) shows.0 in
     let second = bytes_from k c.args.delay (narrowed_by (above k v cut) c.args.path.now) shows.1 in
+    -- the path is as before, but for the range above the cut
     let path = above_back k v cut c.top.result c.top.ensures c.narrow-step.result c.args.path.now c.narrow-step.new.self
     c.put_paths.new.path c.exchange.new.self c.narrow-step.ensures.undo
     c.in_ok-put_paths-in-Cut.ensures.path _ refl c.exchange.ensures.narrowed in
     let r = c.from_residual-in_err-put_paths-in-Cut-2 in
+    -- the call failed
     let p = err_from_is_err_and r.result r.ensures.1 in
     subst (Puts _ _ _ _ r.result)
     (both_pieces (delayed c.args.delay) k c.args.path.now c.args.items.now n are v cut shows.0 shows.1 shows.4)
@@ -155,12 +167,15 @@ returns-in_err-put_paths-in-Cut-2-clause-put g t c n are =
 -- both sides are put one after the other, and the columns of a fork are those of both
 pub returns-in_ok-put_paths-in-Cut-2-clause-put : goal.returns-in_ok-put_paths-in-Cut-2-clause-put
 returns-in_ok-put_paths-in-Cut-2-clause-put g t c n are =
+    -- the tree is a fork, and its two sides are those of the cut
     let shows = c.in-Cut.ensures.shows in
     let v = c.in-Cut.variable in
     let cut = c.in-Cut.cut in
     let k = c.args.k in
+    -- the bytes of the two sides
     let first = bytes_from k c.args.delay (narrowed_by (up_to v cut) c.args.path.now) shows.0 in
     let second = bytes_from k c.args.delay (narrowed_by (above k v cut) c.args.path.now) shows.1 in
+    -- the path is as before, but for the range above the cut
     let path = above_back k v cut c.top.result c.top.ensures c.narrow-step.result c.args.path.now c.narrow-step.new.self
     c.put_paths.new.path c.exchange.new.self c.narrow-step.ensures.undo
     c.in_ok-put_paths-in-Cut.ensures.path _ refl c.exchange.ensures.narrowed in

@@ -1,3 +1,4 @@
+-- The recursion of `put_paths`, which puts the columns that the tree has below a path, each later by a delay.
 use Rattle.std.proofs.Common.{length}
 use Rattle.cpg_packing.proofs.walking.+put_paths.Given as goal
 

@@ -1,4 +1,4 @@
--- Proof of `rows`, which returns the elements that the tables of a list say, in order.
+-- Proof of `rows`, which returns the elements that the tables of one of the lists say, in their order.
 use Rattle.std.proofs.Common.{◌∙◌, sym}
 use Rattle.std.proofs.lemmas.Result.{err_from_is_err_and}
 use Rattle.toml.specs.Data.{Members}

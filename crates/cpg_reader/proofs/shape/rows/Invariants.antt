@@ -1,4 +1,4 @@
--- Loops of `rows`, which returns the elements that the tables of a list say, in order.
+-- Loops of `rows`, which returns the elements that the tables of one of the lists say, in their order.
 use Rattle.std.proofs.Common.{◌≡◌, drop}
 use Rattle.toml.specs.View.{table_view}
 use Rattle.cpg_reader.specs.Reading.{each}

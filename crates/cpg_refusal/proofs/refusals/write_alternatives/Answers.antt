@@ -1,4 +1,4 @@
--- Proof of `write_alternatives`: writes the refusal of a join with two live inputs.
+-- Proof of `write_alternatives`: writes that a join has two live inputs, and in which scenario.
 use Rattle.std.proofs.Common.{◌++◌, ◌∙◌, ap, codes, string_bytes}
 use Rattle.std.proofs.lemmas.List.{append_assoc}
 use Rattle.cpg_refusal.specs.Lines.{case_text}

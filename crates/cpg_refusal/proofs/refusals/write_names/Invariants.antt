@@ -1,4 +1,4 @@
--- Loops of `write_names`: writes the names of the processes of a cycle.
+-- Loops of `write_names`: writes the names of the processes of a walk, each after a space.
 use Rattle.std.proofs.Common.{◌≡◌, ◌++◌, codes, drop, flat_map, string_bytes}
 use Rattle.cpg_base.specs.Called.{name_of}
 use Rattle.cpg_refusal.proofs.refusals.write_names.Given as goal

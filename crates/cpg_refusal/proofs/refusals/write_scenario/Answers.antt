@@ -1,4 +1,4 @@
--- Proof of `write_scenario`: writes the refusal of a scenario file by its cause.
+-- Proof of `write_scenario`: writes that a scenario file is none, and why.
 use Rattle.std.proofs.Common.{◌≡◌, ◌++◌, codes, string_bytes, subst}
 use Rattle.std.specs.Prelude.{OnOk}
 use Rattle.cpg_refusal.proofs.refusals.write_scenario.Goals as goal

@@ -82,8 +82,8 @@ build_listed_fork-build_listed_above-requires t c =
     )
 
 -- each side has added its tree behind what was there
-pub build_listed_fork-fork_of-requires : goal.build_listed_fork-fork_of-requires
-build_listed_fork-fork_of-requires t c =
+pub build_listed_fork-plain_fork-requires : goal.build_listed_fork-plain_fork-requires
+build_listed_fork-plain_fork-requires t c =
     let cubes : List (List Literal) = map (λ (b : Bor (List Literal)). b.now) c.args.cubes.now in
     let low = at_some (λ to.
     AddsSliceTree cubes c.args.k c.close_above-old_high.new.self c.args.place to c.args.growth.now
@@ -121,7 +121,7 @@ build_listed_fork-returns t c =
     let is_over = over_again space again over v cut back c.close_below-old_low.ensures.is in
     let goes_over = goes_again space again over v cut back c.close_below-old_low.ensures.lies in
     -- the side above has added its tree, behind that of the side below
-    let new : TreeGrowth = record { items = c.fork_of.new.out; left = c.build_listed_above.new.growth.left } in
+    let new : TreeGrowth = record { items = c.plain_fork.new.out; left = c.build_listed_above.new.growth.left } in
     let same_over : c.build_listed_above.new.space ≡ over = at_some (λ to. c.build_listed_above.new.space ≡ over)
     c.in_ok-above.above c.in-Some-above.to c.in-Some-above.is c.in_ok-above.ensures.same in
     let high = at_some (λ to.
@@ -135,7 +135,7 @@ build_listed_fork-returns t c =
           c.requires.ranges c.requires.open c.close_above-old_high.ensures.is is_over
           c.close_above-old_high.ensures.lies goes_over
           c.len-start.result c.len-middle.result c.args.growth.now c.build_listed.new.growth
-          c.build_listed_above.new.growth new c.in_ok-fork_of.ensures.made refl
+          c.build_listed_above.new.growth new c.in_ok-plain_fork.ensures.made refl
           (c.len-start.ensures ∙ c.args.growth.now.items.ok.0)
           (c.len-middle.ensures ∙ c.build_listed.new.growth.items.ok.0) low high;
       same = below_again again over c.build_listed_above.new.space c.reopen_below.new.self v same_over

@@ -12,9 +12,11 @@ loop-at-preserved c = own_more c.args.k c.args.space.now c.args.literals.now c.l
 
 -- the next literal parts the space: the literals before it say which scenarios are in the space
 pub returns-in-Parts : goal.returns-in-Parts
-returns-in-Parts c =
-    (c.in-Parts.ensures.0, own_on c.args.k c.args.space.now (take c.loop-at.at c.args.literals.now) c.in-Parts.cut.variable
-    c.loop-at.invariant)
+returns-in-Parts c = (
+  c.in-Parts.ensures.0,
+  own_on c.args.k c.args.space.now (take c.loop-at.at c.args.literals.now) c.in-Parts.cut.variable
+      c.loop-at.invariant,
+)
 
 -- at the end all literals say which scenarios are in the space
 pub returns : goal.returns

@@ -42,8 +42,8 @@ build_forked_places-close_below-old_low-requires t c =
     record { below = is_open.below; above = is_open.above }
 
 -- each side has added its tree behind what was there
-pub build_forked_places-fork_of-requires : goal.build_forked_places-fork_of-requires
-build_forked_places-fork_of-requires t c =
+pub build_forked_places-plain_fork-requires : goal.build_forked_places-plain_fork-requires
+build_forked_places-plain_fork-requires t c =
     let first = c.len-start.ensures ∙ c.args.growth.now.items.ok.0 in
     let second = c.len-middle.ensures ∙ c.build_place_tree.new.growth.items.ok.0 in
     let low = OnTrue_at c.if-not-has_below.false c.in_ok-has_below.ensures.added in
@@ -82,7 +82,7 @@ build_forked_places-returns t c =
     let high = places_of c.in_ok-sides.sides.high.items in
     let all = places_of c.args.hints.items in
     let rest : TreeGrowth = record { items = c.args.growth.now.items; left = c.left_after-growth.result } in
-    let new : TreeGrowth = record { items = c.fork_of.new.out; left = c.build_place_tree-2.new.growth.left } in
+    let new : TreeGrowth = record { items = c.plain_fork.new.out; left = c.build_place_tree-2.new.growth.left } in
     let same_over : c.build_place_tree-2.new.space ≡ over =
     OnTrue_at c.if-not-has_above.false c.in_ok-has_above.ensures.same in
     let keeps_below : KeepsWhere cubes (λ s. number_of s v ≤ cut) all low =
@@ -97,7 +97,7 @@ build_forked_places-returns t c =
       added = place_tree_parted cubes space under over all low high v cut c.len-start.result c.len-middle.result
           c.args.growth.now rest c.build_place_tree.new.growth
           c.build_place_tree-2.new.growth new
-          c.in_ok-fork_of.ensures.made refl c.left_after-growth.ensures refl
+          c.in_ok-plain_fork.ensures.made refl c.left_after-growth.ensures refl
           (c.len-start.ensures ∙ c.args.growth.now.items.ok.0)
           (c.len-middle.ensures ∙ c.build_place_tree.new.growth.items.ok.0) keeps_below keeps_above
           (OnTrue_at c.if-not-has_below.false c.in_ok-has_below.ensures.added)

@@ -87,8 +87,8 @@ build_forked_slice-close_below-old_low-requires t c =
     record { below = is_open.below; above = is_open.above }
 
 -- each side has added its tree behind what was there
-pub build_forked_slice-fork_of-requires : goal.build_forked_slice-fork_of-requires
-build_forked_slice-fork_of-requires t c =
+pub build_forked_slice-plain_fork-requires : goal.build_forked_slice-plain_fork-requires
+build_forked_slice-plain_fork-requires t c =
     let first = c.len-start.ensures ∙ c.args.growth.now.items.ok.0 in
     let second = c.len-middle.ensures ∙ c.build_slice_tree.new.growth.items.ok.0 in
     let low = OnTrue_at c.if-not-has_below.false c.in_ok-has_below.ensures.added in
@@ -116,7 +116,7 @@ build_forked_slice-returns t c =
     let is_over = over_again space again over v cut back c.close_below-old_low.ensures.is in
     let goes_over = goes_again space again over v cut back c.close_below-old_low.ensures.lies in
     let cubes : List (List Literal) = map (λ (b : Bor (List Literal)). b.now) c.args.cubes.now in
-    let new : TreeGrowth = record { items = c.fork_of.new.out; left = c.build_slice_tree-2.new.growth.left } in
+    let new : TreeGrowth = record { items = c.plain_fork.new.out; left = c.build_slice_tree-2.new.growth.left } in
     let same_over : c.build_slice_tree-2.new.space ≡ over =
     OnTrue_at c.if-not-has_above.false c.in_ok-has_above.ensures.same in
     -- each side leaves the path as it was entered
@@ -134,7 +134,7 @@ build_forked_slice-returns t c =
           c.in-Some.ensures c.close_above-old_high.ensures.is is_over
           c.close_above-old_high.ensures.lies goes_over
           c.len-start.result c.len-middle.result c.args.growth.now c.build_slice_tree.new.growth
-          c.build_slice_tree-2.new.growth new c.in_ok-fork_of.ensures.made refl
+          c.build_slice_tree-2.new.growth new c.in_ok-plain_fork.ensures.made refl
           (c.len-start.ensures ∙ c.args.growth.now.items.ok.0)
           (c.len-middle.ensures ∙ c.build_slice_tree.new.growth.items.ok.0)
           (OnTrue_at c.if-not-has_below.false c.in_ok-has_below.ensures.added)

@@ -12,7 +12,7 @@ use Rattle.cpg_scenario.proofs.Budget.{scenario_is, budget_broken, budget_kept}
 use Rattle.std.proofs.lemmas.Int.{to_z-of_z}
 use Rattle.cpg_scenario.proofs.reading.set_faults.Goals as goal
 
--- this count is below 0 or above the rest of the fault number, so the budget isn't kept
+-- this count is below 0 or above what is left of the budget, so the budget isn't kept
 pub returns-in_default-clause-kept : goal.returns-in_default-clause-kept
 returns-in_default-clause-kept c =
     let more = c.loop-process-test.true in
@@ -22,7 +22,7 @@ returns-in_default-clause-kept c =
     (subst (λ z. (is_natural z ≡ false) ⊎ (c.loop-process.left < natural z))
     (to_z-of_z w64 c.count_given.result (search rules)) c.in_default.ensures.none))
 
--- one more process has its count, which is taken from the rest of the fault number
+-- one more process has its count, which is taken from what is left of the budget
 pub loop-process-preserved : goal.loop-process-preserved
 loop-process-preserved c =
     let more = c.loop-process-test.true in
@@ -32,7 +32,7 @@ loop-process-preserved c =
     ≡ pos c.in-Some.count = sym c.count_given.ensures ∙
     sym (to_z-of_z w64 c.count_given.result (search rules)) ∙ c.in-Some.ensures.some.0 in
     let counted : count c.loop-process.process ≡ c.in-Some.count = ap natural is in
-    -- the counts so far are natural, within the fault number, and filled in; no value is changed
+    -- the counts so far are natural, within the budget, and filled in; no value is changed
     record {
       natural = below_next (λ q. is_natural (count_given c.args.problem.now (table_view c.args.document.now) q) ≡ true)
           c.loop-process.process c.loop-process.invariant.natural (ap is_natural is);
@@ -47,7 +47,7 @@ loop-process-preserved c =
       values = ap (λ (s : Scenario). s.values) c.set_fault.ensures ∙ c.loop-process.invariant.values;
     }
 
--- all counts have been within the rest of the fault number, so the budget is kept
+-- all counts have been within what was left of the budget, so the budget is kept
 pub returns-clause-kept : goal.returns-clause-kept
 returns-clause-kept c =
     let done = c.loop-process-test.false in

@@ -7,8 +7,8 @@ use Rattle.cpg_scenario.specs.File.{count_given, count_of, is_natural}
 use Rattle.cpg_scenario.proofs.Filling.{FilledTo}
 use Rattle.cpg_scenario.proofs.reading.set_faults.Given as goal
 
--- `natural`: the counts so far aren't below 0. `total`: they and `left` together are the fault number. `filled`: the
--- processes so far have their counts in the scenario. `values`: its values are as before.
+-- `natural`: the counts so far aren't below 0. `total`: they and `left` together are the budget. `filled`: the processes
+-- so far have their counts in the scenario. `values`: its values are as before.
 abbrev pub invariant-loop-process : goal.invariant-loop-process
 invariant-loop-process l = record {
   natural : (q : ℕ) → q < l.process → is_natural (count_given l.problem (table_view l.document) q) ≡ true;

@@ -1,4 +1,4 @@
--- Proof of `set_lengths`, which sets each length that is given, where all are the longest before.
+-- Proof of `set_lengths`, which sets each length that is given; before, each is the longest of its process.
 use Rattle.std.proofs.Common.{ℕ, ◌+◌, ◌≡◌, true, List, length, get_or, sym, ap, ap₂, subst, ◌∙◌, arith}
 use Rattle.std.proofs.lemmas.List.{length-map, get_or-set_other}
 use Rattle.std.proofs.lemmas.List.FromFn.{length-range_with_len}

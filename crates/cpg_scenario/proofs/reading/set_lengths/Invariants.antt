@@ -1,4 +1,4 @@
--- Loops of `set_lengths`, which sets each length that is given, where all are the longest before.
+-- Loops of `set_lengths`, which sets each length that is given; before, each is the longest of its process.
 use Rattle.std.proofs.Common.{ℕ, ◌<◌, ◌≤◌, ◌≡◌, true, get_or}
 use Rattle.toml.specs.View.{table_view}
 use Rattle.cpg_base.specs.Graph.{process_count}

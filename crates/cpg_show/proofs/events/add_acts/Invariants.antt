@@ -1,4 +1,4 @@
--- Loops of `add_acts`: adds the starts and sends of a node.
+-- Loops of `add_acts`: adds the starts and sends of a node as events.
 use Rattle.std.proofs.Common.{◌≡◌, ◌++◌, drop, map}
 use Rattle.cpg_show.specs.TraceEvents.{event_of_act}
 use Rattle.cpg_show.proofs.events.add_acts.Given as goal

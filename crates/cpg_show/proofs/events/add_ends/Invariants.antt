@@ -1,4 +1,4 @@
--- Loops of `add_ends`: adds the ends of a node.
+-- Loops of `add_ends`: adds the ends of a node's executions as events.
 use Rattle.std.proofs.Common.{◌≡◌, ◌++◌, drop, map}
 use Rattle.cpg_show.specs.TraceEvents.{event_of_end}
 use Rattle.cpg_show.proofs.events.add_ends.Given as goal

@@ -1,4 +1,4 @@
--- Proof of `events_in_order`: all events in the order of a trace.
+-- Proof of `events_in_order`: the events of all nodes in the order of a trace: by time, by node, then by kind and number.
 use Rattle.std.proofs.Common.{IsPermutation, subst}
 use Rattle.cpg_show.proofs.TraceOrder.{in_order}
 use Rattle.cpg_show.proofs.events.events_in_order.Goals as goal

@@ -1,4 +1,4 @@
--- Proof of `gathered`: all events, node by node.
+-- Proof of `gathered`: the events of all nodes, node by node: its starts and sends, and then its ends.
 use Rattle.std.proofs.Common.{◌++◌, All, ap, arith, length, map, subst, sym, ◌∙◌}
 use Rattle.cpg_show.specs.TraceEvents.{IsActWithin, event_of_act, event_of_end}
 use Rattle.cpg_show.proofs.TraceSteps.{one_node}

@@ -1,4 +1,4 @@
--- Loops of `gathered`: all events, node by node.
+-- Loops of `gathered`: the events of all nodes, node by node: its starts and sends, and then its ends.
 use Rattle.std.proofs.Common.{◌≡◌, flat_map}
 use Rattle.cpg_base.specs.Numbers.{numbers_below}
 use Rattle.cpg_show.specs.TraceEvents.{node_events}

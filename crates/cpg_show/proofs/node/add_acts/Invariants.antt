@@ -1,4 +1,4 @@
--- Loops of `add_acts`: adds rows of what a node starts or sends.
+-- Loops of `add_acts`: adds a part for each row of what a node starts or sends.
 use Rattle.std.proofs.Common.{◌≡◌, ◌++◌, flat_map, take}
 use Rattle.cpg_show.specs.NodeText.{act_row}
 use Rattle.cpg_show.specs.Sheet.{part_text}

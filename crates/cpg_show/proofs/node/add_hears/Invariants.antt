@@ -1,4 +1,4 @@
--- Loops of `add_hears`: adds rows of what a node hears.
+-- Loops of `add_hears`: adds a part for each row of what a node hears.
 use Rattle.std.proofs.Common.{◌≡◌, ◌++◌, flat_map, take}
 use Rattle.cpg_show.specs.NodeText.{hear_row}
 use Rattle.cpg_show.specs.Sheet.{part_text}

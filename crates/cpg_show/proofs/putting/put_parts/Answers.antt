@@ -1,4 +1,4 @@
--- Proof of `put_parts`, which puts the line of a time and a text, part by part.
+-- Proof of `put_parts`, which puts the line of a column, its time and the text of its literals, part by part.
 use Rattle.std.proofs.Common.{◌++◌, codes, decimal}
 use Rattle.std.proofs.lemmas.Result.{err_from_is_err_and}
 use Rattle.cpg_codec.proofs.Puts.{Puts-then, Puts-first}

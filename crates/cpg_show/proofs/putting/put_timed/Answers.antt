@@ -1,4 +1,4 @@
--- Proof of `put_timed`, which puts the line of a time and a text, without its end.
+-- Proof of `put_timed`, which puts the line of a column without its end: its time, and the text of its literals.
 use Rattle.std.proofs.Common.{◌++◌, codes, decimal}
 use Rattle.std.proofs.lemmas.Result.{err_from_is_err_and}
 use Rattle.cpg_codec.proofs.Puts.{Puts-then, Puts-first}

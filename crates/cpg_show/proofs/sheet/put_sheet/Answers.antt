@@ -16,5 +16,5 @@ returns-in_err-put_text-clause-put g c =
 -- the front is put, so what becomes of the parts becomes of the sheet
 pub returns-clause-put : goal.returns-clause-put
 returns-clause-put g c = Puts-then _ _ _ _ _ _ (string_bytes c.args.sheet.now.front)
-    (flat_map (part_text c.args.sheet.now.labels) c.args.sheet.now.parts.items) c.put_parts.result
-    (rw c.as_str.ensures.value at c.in_ok-put_text.ensures.put) (rw c.as_slice.ensures.value at c.put_parts.ensures.put)
+    (flat_map (part_text c.args.sheet.now.labels) c.args.sheet.now.parts.items) c.put_sheet_parts.result
+    (rw c.as_str.ensures.value at c.in_ok-put_text.ensures.put) (rw c.as_slice.ensures.value at c.put_sheet_parts.ensures.put)

@@ -1,4 +1,4 @@
--- Proof of `finish`: the greatest of the ends that all nodes have come to, in time units, and 0 if there is none.
+-- Proof of `finish`: the greatest planned end that any node has come to, in time units; 0 if there is none.
 use Rattle.std.proofs.Common.{ap, fold, map, max, ◌∙◌}
 use Rattle.cpg_show.proofs.TraceSteps.{one_finish}
 use Rattle.cpg_show.proofs.trace.finish.Goals as goal

@@ -1,4 +1,4 @@
--- Loops of `finish`: the greatest of the ends that all nodes have come to, in time units, and 0 if there is none.
+-- Loops of `finish`: the greatest planned end that any node has come to, in time units; 0 if there is none.
 use Rattle.std.proofs.Common.{◌≡◌, flat_map}
 use Rattle.cpg_base.specs.Numbers.{greatest, numbers_below}
 use Rattle.cpg_show.specs.TraceText.{end_times}

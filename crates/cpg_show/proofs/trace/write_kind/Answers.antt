@@ -1,4 +1,4 @@
--- Proof of `write_kind`: writes what a node did.
+-- Proof of `write_kind`: writes what a node did, without the time and the node.
 use Rattle.std.proofs.Common.{subst, arith}
 use Rattle.cpg_show.specs.TraceEvents.{IsKindWithin}
 use Rattle.cpg_show.proofs.trace.write_kind.Goals as goal

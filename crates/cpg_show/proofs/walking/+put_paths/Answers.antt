@@ -15,6 +15,7 @@ use Rattle.cpg_show.proofs.walking.+put_paths.Goals as goal
 -- a cut leaves a number of its variable above it, which fits a byte
 pub overflow_add-upper : goal.overflow_add-upper
 overflow_add-upper g t c =
+    -- the tree is a fork, and its two sides are those of the cut
     let shows = c.in-Cut.ensures.shows in
     let cuts = c.requires.cuts (Fork c.in-Cut.variable c.in-Cut.cut shows.0 shows.1) shows.4 in
     omega (arith, cut_fits c.args.k c.in-Cut.variable c.in-Cut.cut c.ranges.k.fits cuts.1)
@@ -22,6 +23,7 @@ overflow_add-upper g t c =
 -- the side below has fewer items, and its cuts leave numbers above them as those of the whole do
 pub put_paths-requires : goal.put_paths-requires
 put_paths-requires g t c κs within =
+    -- the tree is a fork, and its two sides are those of the cut
     let shows = c.in-Cut.ensures.shows in
     let cuts = c.requires.cuts (Fork c.in-Cut.variable c.in-Cut.cut shows.0 shows.1) shows.4 in (
       omega (arith, c.decreases, c.in-Cut.ensures.less.0),
@@ -40,6 +42,7 @@ put_paths-requires g t c κs within =
 -- the same for the side above
 pub put_paths-requires-in-Cut : goal.put_paths-requires-in-Cut
 put_paths-requires-in-Cut g t c κs within =
+    -- the tree is a fork, and its two sides are those of the cut
     let shows = c.in-Cut.ensures.shows in
     let cuts = c.requires.cuts (Fork c.in-Cut.variable c.in-Cut.cut shows.0 shows.1) shows.4 in (
       omega (arith, c.decreases, c.in-Cut.ensures.less.1),
@@ -72,11 +75,13 @@ returns-in-Value-Some-clause-put g t c n are =
 -- the sink took only a proper prefix of the lines of the side below, with which those of both begin
 pub returns-in_err-put_paths-in-Cut-clause-put : goal.returns-in_err-put_paths-in-Cut-clause-put
 returns-in_err-put_paths-in-Cut-clause-put g t c n are =
+    -- the tree is a fork, and its two sides are those of the cut
     let shows = c.in-Cut.ensures.shows in
     let v = c.in-Cut.variable in
     let cut = c.in-Cut.cut in
     let k = c.args.k in
     let f = column_line c.args.labels.now in
+    -- the call failed
     let p = err_from_is_err_and c.from_residual.result c.from_residual.ensures.1 in
     subst (Puts _ _ _ _ c.from_residual.result)
     (both_pieces f k c.args.path.now c.args.items.now n are v cut shows.0 shows.1 shows.4)
@@ -88,15 +93,18 @@ returns-in_err-put_paths-in-Cut-clause-put g t c n are =
 -- one of both
 pub returns-in_err-put_paths-in-Cut-2-clause-put : goal.returns-in_err-put_paths-in-Cut-2-clause-put
 returns-in_err-put_paths-in-Cut-2-clause-put g t c n are =
+    -- the tree is a fork, and its two sides are those of the cut
     let shows = c.in-Cut.ensures.shows in
     let v = c.in-Cut.variable in
     let cut = c.in-Cut.cut in
     let k = c.args.k in
     let f = column_line c.args.labels.now in
+    -- the path is as before, but for the range above the cut
     let path = above_back k v cut c.top.result c.top.ensures c.narrow-step.result c.args.path.now c.narrow-step.new.self
     c.put_paths.new.path c.exchange.new.self c.narrow-step.ensures.undo
     c.in_ok-put_paths-in-Cut.ensures.path _ refl c.exchange.ensures.narrowed in
     let r = c.from_residual-in_err-put_paths-in-Cut-2 in
+    -- the call failed
     let p = err_from_is_err_and r.result r.ensures.1 in
     subst (Puts _ _ _ _ r.result)
     (both_pieces f k c.args.path.now c.args.items.now n are v cut shows.0 shows.1 shows.4)
@@ -109,11 +117,13 @@ returns-in_err-put_paths-in-Cut-2-clause-put g t c n are =
 -- the lines of a fork are those of the side below and then those of the side above, on from the exchanged path
 pub returns-in_ok-put_paths-in-Cut-2-clause-put : goal.returns-in_ok-put_paths-in-Cut-2-clause-put
 returns-in_ok-put_paths-in-Cut-2-clause-put g t c n are =
+    -- the tree is a fork, and its two sides are those of the cut
     let shows = c.in-Cut.ensures.shows in
     let v = c.in-Cut.variable in
     let cut = c.in-Cut.cut in
     let k = c.args.k in
     let f = column_line c.args.labels.now in
+    -- the path is as before, but for the range above the cut
     let path = above_back k v cut c.top.result c.top.ensures c.narrow-step.result c.args.path.now c.narrow-step.new.self
     c.put_paths.new.path c.exchange.new.self c.narrow-step.ensures.undo
     c.in_ok-put_paths-in-Cut.ensures.path _ refl c.exchange.ensures.narrowed in

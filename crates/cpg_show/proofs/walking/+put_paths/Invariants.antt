@@ -1,4 +1,4 @@
--- Loops of `put_paths`, which puts the lines of the columns that the tree has below a path: the time of each is a
+-- The recursion of `put_paths`, which puts the lines of the columns that the tree has below a path: the time of each is a
 -- leaf, and its cube is the path to there.
 use Rattle.std.proofs.Common.{length}
 use Rattle.cpg_show.proofs.walking.+put_paths.Given as goal

@@ -4,6 +4,6 @@ use Rattle.std.proofs.Common.{◌≡◌, ◌+◌, drop}
 use Rattle.cpg_table.specs.Lawful.{column_count}
 use Rattle.cpg_table.proofs.column_counts.count_columns.Given as goal
 
--- `count` and the columns of the rows left are the count before and the columns of all rows
+-- `count` and the columns of the rows left are `earlier` and the columns of all rows
 abbrev pub invariant-loop-row : goal.invariant-loop-row
-invariant-loop-row l = l.count + column_count (drop l.row-index l.rows) ≡ l.before + column_count l.rows
+invariant-loop-row l = l.count + column_count (drop l.row-index l.rows) ≡ l.earlier + column_count l.rows

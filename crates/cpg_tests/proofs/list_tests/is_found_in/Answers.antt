@@ -1,4 +1,4 @@
--- Proof of `is_found_in`: whether all that is computed over these scenarios is this.
+-- Proof of `is_found_in`: whether all that is computed over these scenarios is `want`.
 use Rattle.std.proofs.Common.{Contains}
 use Rattle.std.proofs.lemmas.List.Elements.{All-weaker, All-contains_itself}
 use Rattle.cpg_base.specs.Scenario.{IsScenario}

@@ -3,6 +3,6 @@
 use Rattle.std.proofs.Common.{◌≡◌}
 use Rattle.cpg_tests.proofs.tree_tests.ends_of_last.Given as goal
 
--- the tree of the readiness is one for two faults still
+-- the tree of the ends so far is still one for two faults
 abbrev pub invariant-loop-process : goal.invariant-loop-process
 invariant-loop-process l = l.ready.faults ≡ 2

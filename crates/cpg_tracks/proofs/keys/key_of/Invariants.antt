@@ -2,7 +2,7 @@
 -- predecessor.
 use Rattle.std.proofs.Common.{◌≡◌, take}
 use Rattle.cpg_base.specs.Graph.{inputs}
-use Rattle.cpg_tracks.specs.Keys.{key_over}
+use Rattle.cpg_tracks.specs.Tracks.{key_over}
 use Rattle.cpg_tracks.proofs.keys.key_of.Given as goal
 
 -- `key` is the key of the process if it had only the inputs so far

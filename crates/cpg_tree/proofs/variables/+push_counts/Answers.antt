@@ -24,9 +24,9 @@ returns-then-first-k-clause-made t c = adds_last c.args.process c.args.first c.a
 -- the first count is added as a leaf, the higher counts behind it, and then a fork of the two
 pub returns-clause-made : goal.returns-clause-made
 returns-clause-made t c =
-    of_answer c.fork_of.result _ _ c.fork_of.ensures.made
+    of_answer c.plain_fork.result _ _ c.plain_fork.ensures.made
     (λ u forks. adds_counts c.len-start.result c.len-middle.result c.args.process c.args.first c.args.k
-    c.args.out.now.items c.push-2.new.self.items c.push_counts.new.out.items c.fork_of.new.out.items
+    c.args.out.now.items c.push-2.new.self.items c.push_counts.new.out.items c.plain_fork.new.out.items
     c.requires.process (before c.args.first c.args.k c.requires.first c.if-first-k.false) c.in_ok-push-2.ensures.items
     c.in_ok-push_counts.ensures.made
     (c.len-start.ensures ∙ c.args.out.now.ok.0) (c.len-middle.ensures ∙ c.push-2.new.self.ok.0) forks)

@@ -49,15 +49,15 @@ narrow_to_first-requires-in-Some-upper_step t c =
 -- the leaf has the number, so its cube is the first
 pub returns-in-Value-clause-some : goal.returns-in-Value-clause-some
 returns-in-Value-clause-some t c = on_true c.is_some.result (λ on n are.
-    leaf_first c.args.wanted c.args.k c.args.cube.now c.in-Value.time n
-    (flat-same n (Leaf c.in-Value.time) (sym are ∙ c.in-Value.ensures.shows))
+    leaf_first c.args.wanted c.args.k c.args.cube.now c.in-Value.number n
+    (flat-same n (Leaf c.in-Value.number) (sym are ∙ c.in-Value.ensures.shows))
     (sym (c.is_some.ensures ∙ ap is_some c.if_wanted.ensures) ∙ on))
 
 -- the leaf's value isn't the number, so its only column, if it has one, isn't either
 pub returns-in-Value-clause-none : goal.returns-in-Value-clause-none
 returns-in-Value-clause-none t c = on_false c.is_some.result (λ off n are.
-    leaf_none c.args.wanted c.args.k c.args.cube.now c.in-Value.time n
-    (flat-same n (Leaf c.in-Value.time) (sym are ∙ c.in-Value.ensures.shows))
+    leaf_none c.args.wanted c.args.k c.args.cube.now c.in-Value.number n
+    (flat-same n (Leaf c.in-Value.number) (sym are ∙ c.in-Value.ensures.shows))
     (sym (c.is_some.ensures ∙ ap is_some c.if_wanted.ensures) ∙ off))
 
 -- the side below has a column with the number, and the fork's columns begin with those of that side

@@ -32,7 +32,7 @@ returns-clause-is g c =
     let are = all_added c.new-items.result.items c.greater_where.new.out.items r.0 c.new-items.ensures.items r.1 in
     -- z is an answer to x and y if it is what the function makes of the greater of their numbers
     let answers : g.row.T.Denot → g.row.U.Denot → g.row.V.Denot → Type 0 = λ x y z. g.F.Fn.post c.args.made.now
-    (max (g.R.Reading.number c.args.read.now x) (g.S.Reading.number c.args.also.now y), tt) z in
+    (max (g.R.Reading.number c.args.read.now x) (g.S.Reading.number c.args.other_reading.now y), tt) z in
     subst (IsJoinWhere answers c.args.none c.args.chooser.now c.args.tree.now c.args.other.now)
     (sym (c.of.ensures.is r.0 are))
     (where_seen n.0 a.0 b.0 r.0 c.args.chooser.now c.args.tree.now c.args.other.now (c.items.ensures.paths n.0 n.1)
@@ -66,7 +66,7 @@ greater_where-requires-clause-own g c =
       n.1,
       c.split_at.ensures.front ∙ ap (take c.len-forks.result) c.deref.ensures.value
           ∙ first_bounds (g.R.Reading.number c.args.read.now)
-          (g.S.Reading.number c.args.also.now) n.0 m.0 c.in_ok-bounds.bounds.items
+          (g.S.Reading.number c.args.other_reading.now) n.0 m.0 c.in_ok-bounds.bounds.items
           c.push_bounds.new.bounds.items c.push_bounds-2.new.bounds.items c.len-forks.result
           c.in_ok-bounds.ensures.items (c.in_ok-push_bounds.ensures.bounds n.0 n.1)
           (c.in_ok-push_bounds-2.ensures.bounds m.0 m.1) (c.len-forks.ensures ∙ c.push_bounds.new.bounds.ok.0),
@@ -81,7 +81,7 @@ greater_where-requires-clause-others g c =
       m.1,
       c.split_at.ensures.back ∙ ap (drop c.len-forks.result) c.deref.ensures.value
           ∙ second_bounds (g.R.Reading.number c.args.read.now)
-          (g.S.Reading.number c.args.also.now) n.0 m.0 c.in_ok-bounds.bounds.items
+          (g.S.Reading.number c.args.other_reading.now) n.0 m.0 c.in_ok-bounds.bounds.items
           c.push_bounds.new.bounds.items c.push_bounds-2.new.bounds.items c.len-forks.result
           c.in_ok-bounds.ensures.items (c.in_ok-push_bounds.ensures.bounds n.0 n.1)
           (c.in_ok-push_bounds-2.ensures.bounds m.0 m.1) (c.len-forks.ensures ∙ c.push_bounds.new.bounds.ok.0),

@@ -2,7 +2,7 @@
 -- two spaces.
 use Rattle.std.proofs.Common.{arith, ℕ, ◌≡◌, ◌<◌, ◌≤◌, ◌∙◌, length, max, ap, sym, subst}
 use Rattle.cpg_base.specs.Scenario.{Scenario, number_of}
-use Rattle.cpg_tree_times.specs.Asked.{AreBothOpen, IsInner, IsWay, IsInBothSpaces, SpacePair, lowered, raised_back}
+use Rattle.cpg_tree_times.specs.Asked.{AreBothOpen, IsInner, IsWay, IsInBothSpaces, SpacePair, with_highs, with_lows}
 use Rattle.cpg_tree_times.specs.Bounds.{IsBounded}
 use Rattle.cpg_tree.specs.Space.{above_cut}
 use Rattle.cpg_tree.specs.TreeNode.{TreeNode, Leaf, Fork}
@@ -81,7 +81,7 @@ returns-in_ok-greater_by-in-Above-clause-made g t c n m are others =
     let part = c.bounded_part-other.ensures.part m others in
     -- no scenario is lost, and the spaces can be put back
     let way : IsInner spaces (λ s. c.in-Cut.cut < number_of s c.in-Cut.variable) inner ×
-    (raised_back inner c.in-Cut.variable c.in-Above.lows ≡ spaces) =
+    (with_lows inner c.in-Cut.variable c.in-Above.lows ≡ spaces) =
     subst (IsWay spaces inner c.in-Cut.variable c.in-Cut.cut) c.in-Above.is c.way.ensures in
     added_above (λ (x : g.row.T.Denot) (y : g.row.U.Denot) (z : g.row.V.Denot).
     makes (max (number x) (other_number y)) z) spaces c.in-Cut.variable c.in-Cut.cut shows.0 shows.1 n
@@ -103,7 +103,7 @@ returns-in_ok-greater_by-in-Below-clause-made g t c n m are others =
     let part = c.bounded_part-other.ensures.part m others in
     -- no scenario is lost, and the spaces can be put back
     let way : IsInner spaces (λ s. number_of s c.in-Cut.variable ≤ c.in-Cut.cut) inner ×
-    (lowered inner c.in-Cut.variable c.in-Below.highs ≡ spaces) =
+    (with_highs inner c.in-Cut.variable c.in-Below.highs ≡ spaces) =
     subst (IsWay spaces inner c.in-Cut.variable c.in-Cut.cut) c.in-Below.is c.way.ensures in
     added_below (λ (x : g.row.T.Denot) (y : g.row.U.Denot) (z : g.row.V.Denot).
     makes (max (number x) (other_number y)) z) spaces c.in-Cut.variable c.in-Cut.cut shows.0 shows.1 n
@@ -359,7 +359,7 @@ returns-in_ok-greater_by-in-Both-2-clause-back g t c =
     subst (IsWay spaces met c.in-Cut.variable c.in-Cut.cut) c.in-Both.is c.way.ensures in
     of_answer c.fork.result _ _ c.fork.ensures.long
     (λ u h. c.reopen_below-in-Both.ensures
-    ∙ ap (λ (q : SpacePair). raised_back q c.in-Cut.variable c.close_below-lows.result)
+    ∙ ap (λ (q : SpacePair). with_lows q c.in-Cut.variable c.close_below-lows.result)
     c.in_ok-greater_by-in-Both-2.ensures.back
     ∙ c.close_below-lows.ensures.back
     ∙ both_opened met c.close_above-highs.new.self c.greater_by-in-Both.new.spaces c.reopen_above-in-Both.new.self

@@ -32,7 +32,7 @@ returns-clause-is g c =
     c.faults-faults.result c.faults-faults.ensures r.0 c.of.result (c.of.ensures.is r.0 are)
     (λ (x : g.row.T.Denot) (y : g.row.U.Denot) (z : g.row.V.Denot). g.F.Fn.post c.args.made.now (
       max
-          (g.R.Reading.number c.args.read.now x) (g.S.Reading.number c.args.also.now y),
+          (g.R.Reading.number c.args.read.now x) (g.S.Reading.number c.args.other_reading.now y),
       tt,
     ) z) c.requires.same
     c.whole-space.result c.whole-space.ensures.is c.whole-space.ensures.lies r.2.fit r.2.made

@@ -4,4 +4,4 @@ use Rattle.cpg_violation.proofs.apart.+may_meet.Given as goal
 
 -- each call leaves out the first literal of at least one of the two lists
 abbrev pub decreases-may_meet : goal.decreases-may_meet
-decreases-may_meet l = length l.first.now + length l.second.now
+decreases-may_meet l = length l.literals.now + length l.others.now

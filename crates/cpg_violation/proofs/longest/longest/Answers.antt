@@ -13,6 +13,7 @@ returns-clause-most c s law lies =
     let p = c.args.process in
     let few = c.faults-faults.ensures.within.few_processes in
     let short : p < 128 = omega (arith, few, c.requires) in
+    -- the scenario gives the process at most the faults that the space allows
     let faults : fault_of s p ≤ c.min.result =
     omega (
       arith,

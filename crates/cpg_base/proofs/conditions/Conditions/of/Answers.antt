@@ -1,4 +1,4 @@
--- Proof of `Conditions::of`: returns the conditions of this many processes with these edges, and `None` exactly if
+-- Proof of `Conditions::of`: returns the conditions of `processes` processes with these edges, and `None` exactly if
 -- there are more than 32.
 use Rattle.std.proofs.Common.{◌≡◌, ◌∙◌, ◌∷◌, [], sym, ap, false, get_or, length, filter, length-append, arith}
 use Rattle.cpg_base.specs.Numbers.{numbers_below}

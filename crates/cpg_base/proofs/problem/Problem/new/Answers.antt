@@ -60,7 +60,7 @@ invariant_of-result c =
       found,
     )
 
--- so the graph is within the limits as it is seen
+-- the graph is within the limits, as its parts passed their test and its conditions are few enough
 pub returns-clause-within : goal.returns-clause-within
 returns-clause-within c =
     let g = graph_of c.args.faults c.args.deadline c.args.nodes.items c.args.slots.items c.args.processes.items

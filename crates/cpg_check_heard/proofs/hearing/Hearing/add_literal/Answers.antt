@@ -1,5 +1,5 @@
--- Proof of `Hearing::add_literal`: adds to `bounds` those of a column's literal that the node's own ends leave open
--- where the column matches, at its time.
+-- Proof of `Hearing::add_literal`: adds to `bounds` the bounds of a column's literal that the node's own ends leave
+-- open where the column matches, at its time.
 use Rattle.std.proofs.Common.{◌||◌, ◌∙◌, not, ap, sym}
 use Rattle.std.proofs.Math.Bool.{or-false}
 use Rattle.cpg_base.proofs.Lists.{from_all}
@@ -27,7 +27,7 @@ returns-then-has_ended-clause-unheard c = λ s law m.
     (from_all (holds s) c.args.column.now.cube l m c.requires.literal) in
     sym (ap (λ x. old || x) heard ∙ or-false old)
 
--- the literal is unheard exactly if its low or its high is untold, and the two calls took account of one each
+-- the literal is unheard exactly if its low or its high is untold, and one of the two calls is for each of them
 pub returns-clause-unheard : goal.returns-clause-unheard
 returns-clause-unheard c = λ s law m.
     let g = c.args.self.now.admitted.now.graph in
@@ -35,13 +35,13 @@ returns-clause-unheard c = λ s law m.
     let node = c.args.node in
     let time = c.args.column.now.time in
     let l = c.args.literal.now in
-    -- what each call says of its bound
-    let one = rw c.low_of.ensures at c.in_ok-add_open.ensures.untold s law m in
-    let two = rw c.high_of.ensures at c.in_ok-add_open-2.ensures.untold s law m in
+    -- what the call for the low says of `bounds`, and what the call for the high does
+    let with_low = rw c.low_of.ensures at c.in_ok-add_open.ensures.untold s law m in
+    let with_high = rw c.high_of.ensures at c.in_ok-add_open-2.ensures.untold s law m in
     literal_more (is_one_untold g tables node time c.args.bounds.now.items s)
     (is_one_untold g tables node time c.add_open.new.bounds.items s)
     (is_one_untold g tables node time c.add_open-2.new.bounds.items s)
     (not (is_told g tables node time (low_of l) s)) (not (is_told g tables node time (high_of l) s))
-    (is_literal_unheard g tables node time s l) one two
+    (is_literal_unheard g tables node time s l) with_low with_high
     (not_both (is_told g tables node time (low_of l) s) (is_told g tables node time (high_of l) s)
     ∙ ap not (sym (heard_is g.faults (facts g tables node s time) l)))

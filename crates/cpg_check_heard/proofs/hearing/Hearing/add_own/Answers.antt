@@ -1,5 +1,5 @@
--- Proof of `Hearing::add_own`: adds to `told`, where `cube` matches, the parts of cubes in which the node's own ends
--- tell a bound by a time.
+-- Proof of `Hearing::add_own`: adds to `told` cubes such that, where `cube` matches, one of the added ones does exactly
+-- where an end on the node tells a bound by a time.
 use Rattle.std.proofs.Common.{◌≡◌, ◌<◌, ◌==◌, ◌&&◌, ◌||◌, ◌∙◌, [], arith, sym, ap, subst, eq-eqb}
 use Rattle.std.specs.List.{list_any}
 use Rattle.cpg_base.specs.Graph.{item_count, node_of, process_count, process_of_variable}
@@ -18,18 +18,20 @@ add_row-requires-clause-can c =
     let g = c.args.self.now.admitted.now.graph in
     let tables = c.args.self.now.tables.now.nodes in
     let p = c.process_of_variable-process.result in
-    let t = c.index-row.result.now in
-    let own : p < process_count g =
+    let row = c.index-row.result.now in
+    -- the process of the variable, and its row
+    let process_below : p < process_count g =
     rw c.problem-problem.ensures.problem at c.process_of_variable-process.ensures.within in
     let below : p < item_count g = omega arith in
     let is = row_at g tables
-    (item_count g) c.args.self.now.telling_rows.items p t c.requires.hearing.telling_rows below c.index-row.ensures in
+    (item_count g) c.args.self.now.telling_rows.items p row c.requires.hearing.telling_rows below c.index-row.ensures in
+    -- it is the bound's process
     let here : p ≡ process_of_variable g (variable_of c.args.bound) =
     rw (← c.problem-problem.ensures.problem, ← c.variable.ensures) c.process_of_variable-process.ensures.process in
     rw (
       c.problem-problem.ensures.problem,
       is.means,
-    ) (own_can g tables c.args.time c.args.bound (record { values = []; faults = [] }) p own (sym here))
+    ) (own_can g tables c.args.time c.args.bound (record { values = []; faults = [] }) p process_below (sym here))
 
 -- the columns of the process's row are on variables of the graph
 pub add_row-requires-clause-columns : goal.add_row-requires-clause-columns
@@ -37,13 +39,14 @@ add_row-requires-clause-columns c =
     let g = c.args.self.now.admitted.now.graph in
     let tables = c.args.self.now.tables.now.nodes in
     let p = c.process_of_variable-process.result in
-    let t = c.index-row.result.now in
-    let own : p < process_count g =
+    let row = c.index-row.result.now in
+    -- the process of the variable, and its row
+    let process_below : p < process_count g =
     rw c.problem-problem.ensures.problem at c.process_of_variable-process.ensures.within in
     let below : p < item_count g = omega arith in
     let is = row_at g tables
-    (item_count g) c.args.self.now.telling_rows.items p t c.requires.hearing.telling_rows below c.index-row.ensures in
-    rw (c.problem-problem.ensures.problem, is.row.all)
+    (item_count g) c.args.self.now.telling_rows.items p row c.requires.hearing.telling_rows below c.index-row.ensures in
+    rw (c.problem-problem.ensures.problem, is.sieved.all)
     (columns_known c.requires.hearing.admitted tables c.requires.hearing.tables p)
 
 -- the telling row at the process's number has the sieved row of the process
@@ -52,13 +55,14 @@ add_row-requires-clause-row c =
     let g = c.args.self.now.admitted.now.graph in
     let tables = c.args.self.now.tables.now.nodes in
     let p = c.process_of_variable-process.result in
-    let t = c.index-row.result.now in
-    let own : p < process_count g =
+    let row = c.index-row.result.now in
+    -- the process of the variable, and its row
+    let process_below : p < process_count g =
     rw c.problem-problem.ensures.problem at c.process_of_variable-process.ensures.within in
     let below : p < item_count g = omega arith in
     let is = row_at g tables
-    (item_count g) c.args.self.now.telling_rows.items p t c.requires.hearing.telling_rows below c.index-row.ensures in
-    subst (λ columns. IsSievedRow columns t.row.now) (sym is.row.all) is.row
+    (item_count g) c.args.self.now.telling_rows.items p row c.requires.hearing.telling_rows below c.index-row.ensures in
+    subst (λ columns. IsSievedRow columns row.sieved.now) (sym is.sieved.all) is.sieved
 
 -- the process is on the node, so its row tells all that the node's own ends tell
 pub returns-clause-told : goal.returns-clause-told
@@ -66,13 +70,13 @@ returns-clause-told c =
     let g = c.args.self.now.admitted.now.graph in
     let tables = c.args.self.now.tables.now.nodes in
     let p = c.process_of_variable-process.result in
-    let t = c.index-row.result.now in
+    let row = c.index-row.result.now in
     -- the process of the variable, and its row
-    let own : p < process_count g =
+    let process_below : p < process_count g =
     rw c.problem-problem.ensures.problem at c.process_of_variable-process.ensures.within in
     let below : p < item_count g = omega arith in
     let is = row_at g tables
-    (item_count g) c.args.self.now.telling_rows.items p t c.requires.hearing.telling_rows below c.index-row.ensures in
+    (item_count g) c.args.self.now.telling_rows.items p row c.requires.hearing.telling_rows below c.index-row.ensures in
     -- it is the bound's process, and runs on the node
     let here : p ≡ process_of_variable g (variable_of c.args.bound) =
     rw (← c.problem-problem.ensures.problem, ← c.variable.ensures) c.process_of_variable-process.ensures.process in
@@ -81,7 +85,7 @@ returns-clause-told c =
     -- so what the node's own ends tell is what this row tells
     λ s i m.
     let tells = item_tells g tables c.args.time c.args.bound s in
-    rw (c.problem-problem.ensures.problem, is.means, is.row.all) at c.in_ok-add_row.ensures.told s i m
+    rw (c.problem-problem.ensures.problem, is.means, is.sieved.all) at c.in_ok-add_row.ensures.told s i m
     ∙ ap (λ a. list_any (λ b. matches b s) c.args.told.now.items || a)
     (sym (ap (λ q. (node_of g q == c.args.node) && tells q) (sym here)
     ∙ ap (λ a. a && tells p) (eq-eqb (node_of g p) c.args.node home)))

@@ -34,10 +34,11 @@ add_row-requires c =
     let x = get_or c.args.items.now c.loop-item.item-index 0 in
     let below : x < item_count g =
     heard_below g c.args.node x (c.requires.items c.loop-item.item-index 0 c.loop-item-test.true) in
-    let t = c.index-row.result.now in
+    let row = c.index-row.result.now in
+    -- the row that was looked up is the item's
     let is = row_at g c.args.self.now.tables.now.nodes
-    (item_count g) c.args.self.now.telling_rows.items x t c.requires.hearing.telling_rows below c.index-row.ensures in
-    subst (λ columns. IsSievedRow columns t.row.now) (sym is.row.all) is.row
+    (item_count g) c.args.self.now.telling_rows.items x row c.requires.hearing.telling_rows below c.index-row.ensures in
+    subst (λ columns. IsSievedRow columns row.sieved.now) (sym is.sieved.all) is.sieved
 
 -- with the next item's row, the columns tell what the rows of one item more tell
 pub loop-item-preserved : goal.loop-item-preserved
@@ -49,13 +50,14 @@ loop-item-preserved c =
     (c.requires.items c.loop-item.item-index 0 c.loop-item-test.true) in
     let below : x < item_count g = numbers-Contains (item_count g) x parts.0 in
     let tables = c.args.self.now.tables.now.nodes in
-    let t = c.index-row.result.now in
+    let row = c.index-row.result.now in
+    -- the row that was looked up is the item's
     let is = row_at g tables
-    (item_count g) c.args.self.now.telling_rows.items x t c.requires.hearing.telling_rows below c.index-row.ensures in
+    (item_count g) c.args.self.now.telling_rows.items x row c.requires.hearing.telling_rows below c.index-row.ensures in
     -- the row's columns have variables of the graph alone, and can tell each bound
-    let known : All (λ (d : Column). IsKnown g d.cube) t.row.now.columns.now =
-    rw is.row.all (columns_known c.requires.hearing.admitted tables c.requires.hearing.tables x) in
-    let can : (b : LiteralBound) → CanTell g b t.means = λ b.
+    let known : All (λ (d : Column). IsKnown g d.cube) row.sieved.now.columns.now =
+    rw is.sieved.all (columns_known c.requires.hearing.admitted tables c.requires.hearing.tables x) in
+    let can : (b : LiteralBound) → CanTell g b row.means = λ b.
     rw is.means (heard_can g tables c.args.time b (record { values = []; faults = [] }) x c.args.node parts.1) in
     -- with the row, the columns tell a bound where the rows of one item more do
     record {
@@ -64,5 +66,5 @@ loop-item-preserved c =
           row_more (item_tells g tables c.args.time b s) c.args.items.now c.loop-item.item-index 0 c.loop-item-test.true
           false (do_tell g c.args.time b c.loop-item.arrivals.items s)
           (do_tell g c.args.time b c.add_row.new.arrivals.items s) (c.loop-item.invariant.told b s m)
-          (rw (is.means, is.row.all) at c.in_ok-add_row.ensures.told g b s m);
+          (rw (is.means, is.sieved.all) at c.in_ok-add_row.ensures.told g b s m);
     }

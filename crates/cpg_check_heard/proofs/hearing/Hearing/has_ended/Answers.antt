@@ -17,7 +17,7 @@ returns c =
     let p = c.process_of_variable-process.result in
     let t = c.index.result.now in
     -- the process of the variable, and its row
-    let own : p < process_count g =
+    let process_below : p < process_count g =
     rw c.problem-problem.ensures.problem at c.process_of_variable-process.ensures.within in
     let below : p < item_count g = omega arith in
     let is = row_at g tables
@@ -31,7 +31,7 @@ returns c =
     let longest : c.duration-longest.result ≡ duration g p g.faults =
     rw (← c.problem-problem.ensures.problem) (rw c.faults.ensures.faults at c.duration-longest.ensures.duration) in
     -- even that, from the row's last column on, has ended by the time
-    ended_by g tables c.args.node c.args.variable c.args.time t.row.now.last c.duration-longest.result
+    ended_by g tables c.args.node c.args.variable c.args.time t.sieved.now.last c.duration-longest.result
     c.has_come.result c.has_come.ensures.is (subst (λ q. node_of g q ≡ c.args.node) here home)
     (subst (λ q. c.duration-longest.result ≡ duration g q g.faults) here longest)
-    (subst (λ q. All (λ (d : Column). d.time ≤ t.row.now.last) (columns_of tables q)) here is.row.last)
+    (subst (λ q. All (λ (d : Column). d.time ≤ t.sieved.now.last) (columns_of tables q)) here is.sieved.last)

@@ -1,5 +1,5 @@
--- Proof of `passes`: whether the test passes at a place of the other item and one of the item itself, in all scenarios
--- of a space.
+-- Proof of `BeforePairTest::passes`: whether the test passes at a place of the other item and one of the item itself,
+-- in all scenarios of a space.
 use Rattle.std.proofs.Common.{ℕ, Option, subst, sym}
 use Rattle.std.specs.Prelude.{IfSome}
 use Rattle.cpg_cube.specs.declared.column.Column.{Column}

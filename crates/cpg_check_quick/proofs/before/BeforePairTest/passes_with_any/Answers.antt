@@ -1,4 +1,5 @@
--- Proof of `passes_with_any`: whether the test passes at a place of the other item whatever the item's own place is.
+-- Proof of `BeforePairTest::passes_with_any`: whether the test passes at a place of the other item whatever the item's
+-- own place is.
 use Rattle.std.proofs.Common.{inl, ℕ, Option, subst, sym}
 use Rattle.std.specs.Prelude.{IfSome}
 use Rattle.cpg_cube.specs.declared.column.Column.{Column}

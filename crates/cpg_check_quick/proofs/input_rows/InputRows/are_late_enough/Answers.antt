@@ -20,7 +20,7 @@ loop-column-preserved c =
           (OnTrue_at c.if-not-are_there.false c.are_there.ensures tables w rules) k;
     })
 
--- the loop has gone over all columns, so it holds of each
+-- the loop has gone over all columns, so what its invariant says of those so far holds of each
 pub returns : goal.returns
 returns c =
     λ tables w rules. each_all (IsLateEnough c.args.self.now.admitted.now.graph tables c.args.edges.now c.args.release)

@@ -1,5 +1,5 @@
--- Proof of `InputRows::others`: those of these inputs of a process that `is_from_before` doesn't show to be there by
--- every column of the process.
+-- Proof of `InputRows::others`: those of these inputs of a process that aren't known to come from the same node by a
+-- source that is always over before the process begins, as `is_from_before` finds out.
 use Rattle.std.proofs.Common.{◌<◌, Contains, get_or, subst, sym}
 use Rattle.std.proofs.lemmas.Bool.{OnTrue_at}
 use Rattle.std.proofs.lemmas.List.{take_all}
@@ -32,7 +32,7 @@ loop-edge-preserved c = rw c.in_ok-push.ensures.items (record {
       (λ d j. c.loop-edge.invariant.known tables d w j) e k;
 })
 
--- the loop has gone over all inputs, so it holds of each
+-- the loop has gone over all inputs, so what its invariant says of those so far holds of each
 pub returns-clause-known : goal.returns-clause-known
 returns-clause-known c = λ tables e w k. c.loop-edge.invariant.known tables e w
     (subst (λ xs. Contains xs e) (sym (take_all c.loop-edge.edge-index c.args.edges.now c.loop-edge-test.false)) k)

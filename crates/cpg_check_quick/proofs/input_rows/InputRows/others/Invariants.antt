@@ -1,5 +1,5 @@
--- Loops of `InputRows::others`: those of these inputs of a process that `is_from_before` doesn't show to be there by
--- every column of the process.
+-- Loops of `InputRows::others`: those of these inputs of a process that aren't known to come from the same node by a
+-- source that is always over before the process begins, as `is_from_before` finds out.
 use Rattle.std.proofs.Common.{ℕ, ◌<◌, ◌⊎◌, List, All, Contains, take}
 use Rattle.cpg_base.specs.Graph.{edge_count}
 use Rattle.cpg_table.specs.Table.{NodeTable}

@@ -16,7 +16,7 @@ loop-literal-preserved c =
     (c.loop-literal.invariant tables s sequences law lies)
     (OnTrue_at c.if-not-is_own_over.false c.is_own_over.ensures tables s sequences law lies)
 
--- the loop has gone over all literals, so it holds of each
+-- the loop has gone over all literals, so what its invariant says of those so far holds of each
 pub returns : goal.returns
 returns c = λ tables s sequences law lies.
     each_all (λ (m : Literal). IsOwnOver c.args.self.now.admitted.now.graph tables

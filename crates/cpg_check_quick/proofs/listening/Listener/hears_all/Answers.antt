@@ -17,7 +17,7 @@ loop-column-preserved c =
     (subst (λ (cs : List Column). Contains cs c.column-item.result) all
     (c.loop-column.column-index, c.loop-column-test.true, sym c.column-item.is)))
 
--- the loop has gone over all columns, so it holds of each
+-- the loop has gone over all columns, so what its invariant says of those so far holds of each
 pub returns : goal.returns
 returns c =
     λ tables x is rules all. each_all (IsAllHeard c.args.self.now.admitted.now.graph tables c.args.self.now.node)

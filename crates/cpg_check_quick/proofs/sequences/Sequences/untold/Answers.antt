@@ -31,7 +31,7 @@ loop-item-preserved c = λ g tables lasts are. rw c.in_ok-push.ensures.items
     (known_push lasts g tables c.args.other c.loop-item.left.items c.args.items.now c.loop-item.item-index
     c.loop-item-test.true (c.loop-item.invariant g tables lasts are))
 
--- the loop has gone over all items, so it holds of each
+-- the loop has gone over all items, so what its invariant says of those so far holds of each
 pub returns : goal.returns
 returns c = λ g tables lasts are. each_all (Known lasts g tables c.args.other c.loop-item.left.items) c.args.items.now
     c.loop-item.item-index c.loop-item-test.false

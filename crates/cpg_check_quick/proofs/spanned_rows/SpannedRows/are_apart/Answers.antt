@@ -18,7 +18,7 @@ loop-column-preserved c = λ g tables lasts x s are is law.
     (c.loop-column.invariant g tables lasts x s are is law)
     (OnTrue_at c.if-not-are_apart_at.false c.are_apart_at.ensures g tables lasts x s are is law)
 
--- the loop has gone over all columns, so it holds of each
+-- the loop has gone over all columns, so what its invariant says of those so far holds of each
 pub returns : goal.returns
 returns c = λ g tables lasts x are is.
     apart_all lasts g tables x c.args.other.now.columns.now c.args.items.now is.columns (λ s law.

@@ -20,7 +20,7 @@ loop-item-preserved c =
     c.deref.ensures.value c.in-Some.ensures.lookup.3.0 c.in-Some.ensures.lookup.1) is law
     lies)
 
--- the loop has gone over all items, so it holds of each
+-- the loop has gone over all items, so what its invariant says of those so far holds of each
 pub returns : goal.returns
 returns c =
     λ g tables lasts x s are is law lies. each_all (λ y. IsApartAt tables (lasts y s) y (lasts x s) c.args.time s)

@@ -19,7 +19,7 @@ loop-item-preserved c =
     (row_at are (get_or c.args.items.now c.loop-item.item-index 0) c.in-Some.row.now c.deref.result.now
     c.deref.ensures.value c.in-Some.ensures.lookup.3.0 c.in-Some.ensures.lookup.1) is law)
 
--- the loop has gone over all items, so it holds of each
+-- the loop has gone over all items, so what its invariant says of those so far holds of each
 pub returns : goal.returns
 returns c = λ g tables lasts x s are is law. each_all (λ y. IsApartAt tables (lasts y s) y (lasts x s) c.args.time s)
     c.args.items.now c.loop-item.item-index c.loop-item-test.false

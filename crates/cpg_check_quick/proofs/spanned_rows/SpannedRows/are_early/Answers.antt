@@ -18,7 +18,7 @@ loop-item-preserved c = λ g tables lasts s are law. All-more (λ y. IsOverBy ta
     (row_at are (get_or c.args.items.now c.loop-item.item-index 0) c.in-Some.row.now c.deref.result.now
     c.deref.ensures.value c.in-Some.ensures.lookup.3.0 c.in-Some.ensures.lookup.1) law)
 
--- the loop has gone over all items, so it holds of each
+-- the loop has gone over all items, so what its invariant says of those so far holds of each
 pub returns : goal.returns
 returns c = λ g tables lasts s are law. each_all (λ y. IsOverBy tables (lasts y s) y c.args.time s) c.args.items.now
     c.loop-item.item-index c.loop-item-test.false

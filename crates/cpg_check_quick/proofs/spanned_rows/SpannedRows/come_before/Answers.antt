@@ -19,7 +19,7 @@ loop-column-preserved c = λ g tables lasts s are law.
     (c.loop-column.invariant g tables lasts s are law)
     (OnTrue_at c.if-not-are_over_at.false c.are_over_at.ensures g tables lasts s are law)
 
--- the loop has gone over all columns, so it holds of each
+-- the loop has gone over all columns, so what its invariant says of those so far holds of each
 pub returns : goal.returns
 returns c = λ g tables lasts x are same. over_all lasts g tables x c.args.columns.now c.args.items.now same (λ s law.
     each_all

@@ -18,7 +18,7 @@ loop-item-preserved c = λ g tables lasts long x are is there.
     (row_at are item c.in-Some.one.now c.deref.result.now c.deref.ensures.value c.in-Some.ensures.lookup.3.0
     c.in-Some.ensures.lookup.1) is there)
 
--- the loop has gone over all items, so it holds of each
+-- the loop has gone over all items, so what its invariant says of those so far holds of each
 pub returns : goal.returns
 returns c = λ g tables lasts long x are is there.
     each_all (λ y. IsOver lasts g tables y x) c.args.items.now c.loop-item.item-index c.loop-item-test.false

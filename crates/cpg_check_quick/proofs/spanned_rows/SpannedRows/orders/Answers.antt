@@ -1,4 +1,5 @@
--- Proof of `SpannedRows::orders`: for each of these groups of items what `in_sequence` answers.
+-- Proof of `SpannedRows::orders`: for each of these groups of items an order in which each item is over before
+-- each later one; empty if none is known.
 use Rattle.cpg_check_quick.proofs.OrderLaws.{orders_more}
 use Rattle.cpg_check_quick.proofs.spanned_rows.SpannedRows.orders.Goals as goal
 

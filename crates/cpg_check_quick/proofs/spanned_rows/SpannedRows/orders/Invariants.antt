@@ -1,4 +1,5 @@
--- Loops of `SpannedRows::orders`: for each of these groups of items what `in_sequence` answers.
+-- Loops of `SpannedRows::orders`: for each of these groups of items an order in which each item is over before
+-- each later one; empty if none is known.
 use Rattle.std.proofs.Common.{ℕ, List, All}
 use Rattle.cpg_base.specs.Graph.{Graph}
 use Rattle.cpg_base.specs.Scenario.{Scenario}

@@ -1,5 +1,5 @@
--- Proof of `least`: the least scenario in which a column of an item is earlier than the release of its process or
--- something that the item waits for.
+-- Proof of `WaitedInputsTimeJudge::least`: the least scenario in which a column of an item is earlier than the release
+-- of its process or something that the item waits for.
 use Rattle.std.proofs.Common.{◌≡◌, ◌<◌, ◌≤◌, ◌==◌, ◌∙◌, length, Contains, All, arith, sym, ap, subst}
 use Rattle.std.specs.List.{list_any}
 use Rattle.std.proofs.lemmas.List.Elements.{All-weaker, All-contains_itself}
@@ -70,7 +70,7 @@ returns-then-column-release c =
       c.release.ensures,
       ap (λ h. (process_at h c.args.item).release) c.problem-problem.ensures.problem,
     ) in
-    -- so the least scenario of the column is the first violation
+    -- so the least scenario of the column is the least in which it breaks V5
     let first : IsFirst g c.args.admitted.now.order (matches c.args.column.now.cube) c.in_ok-least-2.least =
     rw (← c.problem-problem.ensures.problem) (c.in_ok-least-2.ensures.first c.args.admitted.now.order) in
     first_released c.problem-problem.ensures.admitted c.args.tables.now.nodes c.requires.suits.rules c.args.item

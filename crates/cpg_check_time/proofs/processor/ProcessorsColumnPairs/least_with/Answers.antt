@@ -1,5 +1,5 @@
--- Proof of `ProcessorsColumnPairs::least_with`: the least scenario in which the execution that a column starts overlaps
--- one of another process of its node.
+-- Proof of `ProcessorsColumnPairs::least_with`: the least scenario in which the execution of process `item` that a
+-- column starts overlaps one of process `other`, if that is on the same node.
 use Rattle.std.proofs.Common.{◌≡◌, ◌∙◌, arith, sym, subst}
 use Rattle.std.specs.List.{list_any}
 use Rattle.cpg_base.specs.Duration.{duration}
@@ -12,7 +12,8 @@ use Rattle.cpg_check_time.proofs.Judging.{columns_are}
 use Rattle.cpg_check_time.proofs.ProcessorLaws.{overlaps_both, starts_late, ends_early, other_node}
 use Rattle.cpg_check_time.proofs.processor.ProcessorsColumnPairs.least_with.Goals as goal
 
--- the column's longest execution ends before the other item's first column, so none overlaps
+-- the longest execution that the column starts ends by the other item's first column, so none of the other item's
+-- executions overlaps it
 pub returns-then-row-column : goal.returns-then-row-column
 returns-then-row-column c = λ s i.
     let g = c.args.admitted.now.graph in
@@ -27,7 +28,8 @@ returns-then-row-column c = λ s i.
     c.problem-problem.ensures.admitted.limits.few_processes s i c.requires.item c.index-rows-other.result.first
     row.first (omega (arith, c.if-row-column.true, longest))
 
--- the other item's longest execution from its last column ends before the column, so none overlaps
+-- the other item's longest execution from its last column ends by the column's time, so none of its executions overlaps
+-- the one that the column starts
 pub returns-then-saturating_add-column : goal.returns-then-saturating_add-column
 returns-then-saturating_add-column c = λ s i.
     let g = c.args.admitted.now.graph in
@@ -53,7 +55,8 @@ least_near-requires-clause-columns c =
     (c.requires.fits.each c.args.other c.index-rows-other.result (omega (arith, c.requires.other))) in
     rw row.all (columns_are c.problem-problem.ensures.admitted c.args.tables.now.nodes c.requires.lawful c.args.other)
 
--- the question fits: its column and both processes are the graph's
+-- the question is about the graph: the graph is within its limits, its processes are the two, and the column is one of
+-- the tables' columns, so it has the graph's variables and an early time
 pub least_near-requires-clause-fits : goal.least_near-requires-clause-fits
 least_near-requires-clause-fits c = record {
   limits = c.problem-problem.ensures.admitted.limits;
@@ -67,8 +70,8 @@ pub least_near-requires-clause-near : goal.least_near-requires-clause-near
 least_near-requires-clause-near c = λ s d t. overlaps_both c.args.admitted.now.graph
     c.problem-problem.ensures.admitted.limits c.args.item c.requires.item c.args.column.now c.args.other d s t
 
--- both processes are on one node, and the search went over all columns that may overlap, so its answer is that of the
--- clash
+-- both processes are on one node, and the search went over all columns whose executions may overlap, so what it found
+-- is the least scenario in which the column and the other process clash
 pub returns : goal.returns
 returns c =
     let g = c.args.admitted.now.graph in

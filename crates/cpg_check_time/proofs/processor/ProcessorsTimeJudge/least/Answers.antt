@@ -1,5 +1,5 @@
--- Proof of `least`: the least scenario in which the execution that a column starts overlaps one of a lower process of
--- its node.
+-- Proof of `ProcessorsTimeJudge::least`: the least scenario in which the execution that a column starts overlaps one of
+-- a lower process of its node.
 use Rattle.std.proofs.Common.{◌<◌, arith, ap, length}
 use Rattle.cpg_base.specs.Graph.{process_count}
 use Rattle.cpg_check_time.proofs.ProcessorLaws.{first_overlap}

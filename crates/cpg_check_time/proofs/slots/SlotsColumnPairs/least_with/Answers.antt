@@ -1,5 +1,5 @@
--- Proof of `SlotsColumnPairs::least_with`: the least scenario in which a column matches together with one of another
--- item that the same node sends at the same time.
+-- Proof of `SlotsColumnPairs::least_with`: the least scenario in which a column of `item` matches together with one of
+-- `other` at the same time, if the node of `item` sends `other`.
 use Rattle.std.proofs.Common.{◌≡◌, ◌∙◌, sym, subst, true}
 use Rattle.std.specs.List.{list_any}
 use Rattle.cpg_base.specs.Graph.{home, is_sent}
@@ -40,7 +40,7 @@ least_near-requires-clause-columns c =
     (c.requires.fits.each c.args.other c.index-rows-other.result c.requires.other) in
     rw row.all (columns_are c.problem-problem.ensures.admitted c.args.tables.now.nodes c.requires.lawful c.args.other)
 
--- the question fits: the column's cube has variables of the graph alone
+-- the question is about the graph: the column's cube has variables of the graph alone
 pub least_near-requires-clause-fits : goal.least_near-requires-clause-fits
 least_near-requires-clause-fits c = c.requires.column.cube.known
 
@@ -48,8 +48,8 @@ least_near-requires-clause-fits c = c.requires.column.cube.known
 pub least_near-requires-clause-near : goal.least_near-requires-clause-near
 least_near-requires-clause-near c = λ s d t. shares_both c.args.column.now s d t
 
--- the node sends both items, and the search went over all columns that may share the slot, so its answer is that of the
--- clash
+-- the node of the item sends the other one, and the search went over all columns that may share the slot, so what it
+-- found is the least scenario in which the column and the other item clash
 pub returns : goal.returns
 returns c =
     let g = c.args.admitted.now.graph in

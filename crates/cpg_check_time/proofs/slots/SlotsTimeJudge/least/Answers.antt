@@ -1,5 +1,5 @@
--- Proof of `least`: the least scenario in which a column of an item breaks V7: it isn't at the start of a slot of the
--- node, or shares its slot with a lower item of the node.
+-- Proof of `SlotsTimeJudge::least`: the least scenario in which a column of an item breaks V7: it isn't at the start of
+-- a slot of the node, or shares its slot with a lower item of the node.
 use Rattle.std.proofs.Common.{◌≡◌, ◌==◌, ◌∙◌, true, false, sym, eqb-true, true≢false, eq-eqb}
 use Rattle.cpg_base.specs.Bus.{next_slot}
 use Rattle.cpg_base.specs.Graph.{home, is_sent}

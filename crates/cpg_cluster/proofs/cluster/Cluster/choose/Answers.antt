@@ -1,5 +1,5 @@
--- Proof of `Cluster::choose`, which asks the nodes from `first` on, round the circle, until one takes its turn or
--- all have been asked.
+-- Proof of `Cluster::choose`, which asks the nodes from node `first` on, round the circle, until one takes its turn or all
+-- have been asked, and returns how many waited.
 use Rattle.std.proofs.Common.{◌≡◌, ◌+◌, refl, sym, ap, arith, length, subst}
 use Rattle.std.proofs.lemmas.List.{length-map}
 use Rattle.cpg_cluster.specs.Playing.{Playing}
@@ -18,8 +18,8 @@ loop-asked-init c = record {
 }
 
 -- there are as many members as nodes
-count-t : (c : goal.In-Took) → c.len-nodes.result ≡ length c.args.self.now.graph.nodes
-count-t c = omega (
+count-took : (c : goal.In-Took) → c.len-nodes.result ≡ length c.args.self.now.graph.nodes
+count-took c = omega (
   arith,
   c.len-nodes.ensures,
   ap (λ (p : Playing). length p.graph.nodes) c.self.view_is,
@@ -31,19 +31,19 @@ count-t c = omega (
 pub returns-in-Took-clause-state : goal.returns-in-Took-clause-state
 returns-in-Took-clause-state c = took_state c.args.self.now c.loop-asked.self c.step.new.self c.len-nodes.result
     c.args.first c.loop-asked.asked c.loop-asked.waits
-    (count-t c) c.loop-asked.invariant.same c.in-Took.ensures.step
+    (count-took c) c.loop-asked.invariant.same c.in-Took.ensures.step
     c.loop-asked.invariant.choosing c.loop-asked-test.true c.in-Took.ensures.answer
 
 -- as many nodes waited as in the choice
 pub returns-in-Took-clause-waits : goal.returns-in-Took-clause-waits
 returns-in-Took-clause-waits c = took_waits c.args.self.now c.loop-asked.self c.step.new.self c.len-nodes.result
     c.args.first c.loop-asked.asked c.loop-asked.waits
-    (count-t c) c.loop-asked.invariant.same c.in-Took.ensures.step
+    (count-took c) c.loop-asked.invariant.same c.in-Took.ensures.step
     c.loop-asked.invariant.choosing c.loop-asked-test.true c.in-Took.ensures.answer
 
 -- there are as many members as nodes
-count-j : (c : goal.Joined-step) → c.len-nodes.result ≡ length c.args.self.now.graph.nodes
-count-j c = omega (
+count-joined : (c : goal.Joined-step) → c.len-nodes.result ≡ length c.args.self.now.graph.nodes
+count-joined c = omega (
   arith,
   c.len-nodes.ensures,
   ap (λ (p : Playing). length p.graph.nodes) c.self.view_is,
@@ -58,7 +58,7 @@ loop-asked-preserved c = elim c.match-step.branch [
   | in-Waits w ↦
       let r = waits_more c.args.self.now c.loop-asked.self c.step.new.self c.len-nodes.result c.args.first
       c.loop-asked.asked c.loop-asked.waits
-      (count-j c) c.loop-asked.invariant.same c.step.ensures.step
+      (count-joined c) c.loop-asked.invariant.same c.step.ensures.step
       c.loop-asked.invariant.choosing c.loop-asked-test.true w.in-Waits.on (w.in-Waits.ensures.answer) in
       record {
         same = r.0;
@@ -70,7 +70,7 @@ loop-asked-preserved c = elim c.match-step.branch [
   | in-Done w ↦
       let r = done_more c.args.self.now c.loop-asked.self c.step.new.self c.len-nodes.result c.args.first
       c.loop-asked.asked c.loop-asked.waits
-      (count-j c) c.loop-asked.invariant.same c.step.ensures.step
+      (count-joined c) c.loop-asked.invariant.same c.step.ensures.step
       c.loop-asked.invariant.choosing c.loop-asked-test.true (w.in-Done.ensures.answer) in
       record {
         same = r.0;

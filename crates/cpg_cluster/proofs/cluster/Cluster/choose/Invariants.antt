@@ -1,5 +1,5 @@
--- Loops of `Cluster::choose`, which asks the nodes from `first` on, round the circle, until one takes its turn or
--- all have been asked.
+-- Loops of `Cluster::choose`, which asks the nodes from node `first` on, round the circle, until one takes its turn or all
+-- have been asked, and returns how many waited.
 use Rattle.std.proofs.Common.{◌≡◌, ◌-◌}
 use Rattle.cpg_cluster.proofs.Driven.{IsChoosing}
 use Rattle.cpg_cluster.proofs.cluster.Cluster.choose.Given as goal

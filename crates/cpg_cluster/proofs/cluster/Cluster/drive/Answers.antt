@@ -1,4 +1,4 @@
--- Proof of `Cluster::drive`, which asks nodes until every node is done.
+-- Proof of `Cluster::drive`, which asks nodes until every node is done, and returns how often a node waited.
 use Rattle.std.proofs.Common.{◌/◌, ◌%◌, ◌^◌, ◌*◌, ◌+◌, ◌≡◌, ◌<◌, ◌≤◌, refl, sym, ap, ◌∙◌, arith, length, subst, List}
 use Rattle.std.proofs.Common.{true}
 use Rattle.std.specs.Prelude.{is_some}
@@ -55,11 +55,11 @@ some c = omega (
 -- In the choice some node takes its turn, as one isn't done, and this leaves fewer instants.
 nearer : (c : goal.After-choose-waits) → remaining c.choose-waits.new.self.cluster < remaining c.loop-self.self.cluster
 nearer c =
-    let n = c.self-in-loop-self.inside in
-    let v = c.self-in-loop-self.invariant in
-    c.choose-waits.ensures.nearer (takes_at n.problem (record { scenario = n.scenario; lengths = n.lengths })
-    n.members.items c.loop-self.self c.self-in-loop-self.view_is v.playing (left c) _
-    (subst (λ n. (c.next_number-drawn.result / 2 ^ 33) % c.len-nodes.result < n) (count c)
+    let inside = c.self-in-loop-self.inside in
+    let invariant = c.self-in-loop-self.invariant in
+    c.choose-waits.ensures.nearer (takes_at inside.problem (record { scenario = inside.scenario; lengths = inside.lengths })
+    inside.members.items c.loop-self.self c.self-in-loop-self.view_is invariant.playing (left c) _
+    (subst (λ nodes. (c.next_number-drawn.result / 2 ^ 33) % c.len-nodes.result < nodes) (count c)
     (mod-lt (c.next_number-drawn.result / 2 ^ 33) (some c))))
 
 -- the choice uses up an instant, and at most 16 nodes wait in it, as there are no more
@@ -81,11 +81,11 @@ spent c = omega (
 -- the count of waits doesn't overflow: it is at most 16 times the instants that were left at the start, which are few
 pub overflow_add-waits : goal.overflow_add-waits
 overflow_add-waits c =
-    let n = c.self.inside in
+    let inside = c.self.inside in
     omega (
       arith,
       spent c,
-      most_at n.problem (record { scenario = n.scenario; lengths = n.lengths }) n.members.items c.args.self.now
+      most_at inside.problem (record { scenario = inside.scenario; lengths = inside.lengths }) inside.members.items c.args.self.now
           c.self.view_is c.self.invariant.playing c.self.invariant.few,
     )
 
@@ -97,28 +97,28 @@ loop-self-smaller c = nearer c
 -- wasn't done.
 pub loop-self-preserved : goal.loop-self-preserved
 loop-self-preserved c =
-    let n = c.self-in-loop-self.inside in
-    let v = c.self-in-loop-self.invariant in
+    let inside = c.self-in-loop-self.inside in
+    let invariant = c.self-in-loop-self.invariant in
     let r = drive_step c.args.self.now c.loop-self.self c.choose-waits.new.self c.args.number c.loop-self.drawn
     c.loop-self.waits c.next_number-drawn.result _ c.choose-waits.result
     c.loop-self.invariant.same c.loop-self.invariant.driving
-    (left_at n.problem (record { scenario = n.scenario; lengths = n.lengths }) n.members.items c.loop-self.self
-    c.self-in-loop-self.view_is v.playing (left c)) c.next_number-drawn.ensures
-    (ap (λ n. (c.next_number-drawn.result / 2 ^ 33) % n) (count c)) c.choose-waits.ensures.state
+    (left_at inside.problem (record { scenario = inside.scenario; lengths = inside.lengths }) inside.members.items c.loop-self.self
+    c.self-in-loop-self.view_is invariant.playing (left c)) c.next_number-drawn.ensures
+    (ap (λ nodes. (c.next_number-drawn.result / 2 ^ 33) % nodes) (count c)) c.choose-waits.ensures.state
     c.choose-waits.ensures.waits in
     record { same = r.0; driving = r.1; spent = spent c }
 
 -- when no member has a next instant, every node is done
 pub returns-clause-driven : goal.returns-clause-driven
 returns-clause-driven c =
-    let n = c.self-in-loop-self.inside in
-    let v = c.self-in-loop-self.invariant in
+    let inside = c.self-in-loop-self.inside in
+    let invariant = c.self-in-loop-self.invariant in
     driving_done c.args.self.now.graph c.args.self.now.world c.args.number c.args.self.now.cluster
     c.loop-self.self.cluster c.loop-self.drawn c.loop-self.waits c.loop-self.invariant.driving
     (subst (λ (g : Graph). AllDone g c.loop-self.self.cluster)
     (ap (λ (p : Playing). p.graph) c.loop-self.invariant.same)
-    (done_at n.problem (record { scenario = n.scenario; lengths = n.lengths }) n.members.items c.loop-self.self
-    c.self-in-loop-self.view_is v.playing
+    (done_at inside.problem (record { scenario = inside.scenario; lengths = inside.lengths }) inside.members.items c.loop-self.self
+    c.self-in-loop-self.view_is invariant.playing
     (sym (c.loop-self-test.ensures.left
     ∙ ap (list_any (λ (m : Member). is_some (next m.node.dispatcher))) c.as_slice.ensures.value))))
 

@@ -1,4 +1,4 @@
--- Loops of `Cluster::drive`, which asks nodes until every node is done.
+-- Loops of `Cluster::drive`, which asks nodes until every node is done, and returns how often a node waited.
 use Rattle.std.proofs.Common.{◌≡◌, ◌≤◌, ◌+◌, ◌*◌}
 use Rattle.cpg_cluster.specs.Driving.{remaining}
 use Rattle.cpg_cluster.proofs.Drives.{IsDriving}

@@ -1,4 +1,5 @@
--- Proof of `Cluster::step`, which asks a node to take the turn of its next instant.
+-- Proof of `Cluster::step`, which asks a node: it takes the turn of its next instant, unless it has none or waits on
+-- another node, and then nothing changes.
 use Rattle.std.proofs.Common.{set, ◌≡◌, ◌<◌, ◌≤◌, arith, sym, ap, ◌∙◌, ℕ, length, filter, get_or, List, Some, subst}
 use Rattle.std.specs.Prelude.{All}
 use Rattle.std.specs.Vec.{vec_capacity}
@@ -28,19 +29,19 @@ waited_on-requires-clause-few c = omega (arith, c.self.invariant.few, ap length 
 -- the arrivals of the member are indexed for each node
 pub waited_on-requires-clause-indexed : goal.waited_on-requires-clause-indexed
 waited_on-requires-clause-indexed c =
-    let n = c.self.inside in
-    let v = c.self.invariant in
+    let inside = c.self.inside in
+    let invariant = c.self.invariant in
     let m = c.index-member.result.now in
     subst (λ (ms : List Member). AreIndexed m.node.dispatcher.table.hears m.senders.items (length ms) m.arrivals.items)
     (sym c.as_slice.ensures.value)
-    (indexed n.problem (record { scenario = n.scenario; lengths = n.lengths }) n.members.items v.playing v.members
+    (indexed inside.problem (record { scenario = inside.scenario; lengths = inside.lengths }) inside.members.items invariant.playing invariant.members
     c.args.node m c.index-member.ensures
     (omega (
       arith,
       c.requires,
       ap (λ (p : Playing). length p.graph.nodes) c.self.view_is,
-      v.playing.shape.count,
-      length-map n.members.items (λ (m : Member). m.node.dispatcher.table),
+      invariant.playing.shape.count,
+      length-map inside.members.items (λ (m : Member). m.node.dispatcher.table),
     )))
 
 -- The node waits on another. Helpers of this case end in `-w`.
@@ -63,9 +64,9 @@ comes-w c = sym c.next.ensures.next ∙ c.in-Some.is
 waits : (c : goal.In-Some-waited_on) →
     Waits c.in-Some-waited_on.on ≡ answer c.self.inside.problem (cluster_of c.self.inside.members.items) c.args.node
 waits c =
-    let n = c.self.inside in
-    let v = c.self.invariant in
-    asked n.problem (record { scenario = n.scenario; lengths = n.lengths }) n.members.items v.playing v.members
+    let inside = c.self.inside in
+    let invariant = c.self.invariant in
+    asked inside.problem (record { scenario = inside.scenario; lengths = inside.lengths }) inside.members.items invariant.playing invariant.members
     c.args.node c.index-member.result.now c.index-member.ensures
     (within-w c) c.in-Some.time (comes-w c) (Waits c.in-Some-waited_on.on) c.index-member.result.now
     (sym (ap answer_if c.in-Some-waited_on.is) ∙ c.waited_on.ensures c.index-member.result.now ∙
@@ -81,12 +82,12 @@ returns-in-Some-waited_on-clause-answer c =
 -- a node that waits leaves the state as it was
 pub returns-in-Some-waited_on-clause-step : goal.returns-in-Some-waited_on-clause-step
 returns-in-Some-waited_on-clause-step c =
-    let n = c.self.inside in
-    let v = c.self.invariant in
+    let inside = c.self.inside in
+    let invariant = c.self.invariant in
     subst (λ (p : Playing). p ≡ stepped p c.args.node) c.self.view_is
-    (ap (λ (d : Cluster). record (playing_of n) { cluster = d })
-    (sym (waits_step n.problem (record { scenario = n.scenario; lengths = n.lengths }) n.members.items v.playing
-    v.members c.args.node c.index-member.result.now c.index-member.ensures
+    (ap (λ (d : Cluster). record (playing_of inside) { cluster = d })
+    (sym (waits_step inside.problem (record { scenario = inside.scenario; lengths = inside.lengths }) inside.members.items invariant.playing
+    invariant.members c.args.node c.index-member.result.now c.index-member.ensures
     (within-w c) c.in-Some.time (comes-w c) c.in-Some-waited_on.on (waits c))))
 
 -- a node that waits takes no turn
@@ -114,44 +115,44 @@ comes-f c = sym c.next.ensures.next ∙ c.in-Some.is
 -- a node hears only items of the graph
 pub gather_frames-requires-clause-items : goal.gather_frames-requires-clause-items
 gather_frames-requires-clause-items c =
-    let n = c.self.inside in
-    let v = c.self.invariant in
-    subst (λ (rows : List Row). All (λ (row : Row). row.item < item_count n.problem) rows)
+    let inside = c.self.inside in
+    let invariant = c.self.invariant in
+    subst (λ (rows : List Row). All (λ (row : Row). row.item < item_count inside.problem) rows)
     (sym (c.hears.ensures.hears ∙ ap (λ (t : NodeTable). t.hears) c.table.ensures))
-    (hears_there n.problem (record { scenario = n.scenario; lengths = n.lengths }) n.members.items v.playing c.args.node
+    (hears_there inside.problem (record { scenario = inside.scenario; lengths = inside.lengths }) inside.members.items invariant.playing c.args.node
     c.index-member.result.now c.index-member.ensures (within-f c))
 
 -- each member has noted what it has done
 pub gather_frames-requires-clause-noted : goal.gather_frames-requires-clause-noted
 gather_frames-requires-clause-noted c =
-    let n = c.self.inside in
-    let v = c.self.invariant in
-    subst (λ (ms : List Member). (i x : ℕ) (d : Member) → i < length ms → x < item_count n.problem →
+    let inside = c.self.inside in
+    let invariant = c.self.invariant in
+    subst (λ (ms : List Member). (i x : ℕ) (d : Member) → i < length ms → x < item_count inside.problem →
     HasNoted (get_or ms i d) x) (sym c.as_slice-2.ensures.value)
-    (all_noted n.problem (record { scenario = n.scenario; lengths = n.lengths }) n.members.items v.playing v.members)
+    (all_noted inside.problem (record { scenario = inside.scenario; lengths = inside.lengths }) inside.members.items invariant.playing invariant.members)
 
 -- no more frames arrive than the node has hear rows, and there is room for those
 pub gather_frames-requires-clause-room : goal.gather_frames-requires-clause-room
 gather_frames-requires-clause-room c =
-    let n = c.self.inside in
-    let v = c.self.invariant in
+    let inside = c.self.inside in
+    let invariant = c.self.invariant in
     -- the frames that arrive are those by the members' acts
-    let is : frames_by n.problem n.scenario.values c.as_slice-2.result.now c.in-Some.time c.hears.result.now
+    let is : frames_by inside.problem inside.scenario.values c.as_slice-2.result.now c.in-Some.time c.hears.result.now
     c.as_slice-3.result.now
-    ≡ frames_by n.problem n.scenario.values n.members.items c.in-Some.time
+    ≡ frames_by inside.problem inside.scenario.values inside.members.items c.in-Some.time
     c.index-member.result.now.node.dispatcher.table.hears c.index-member.result.now.senders.items =
-    (λ i. frames_by n.problem n.scenario.values (c.as_slice-2.ensures.value i) c.in-Some.time
+    (λ i. frames_by inside.problem inside.scenario.values (c.as_slice-2.ensures.value i) c.in-Some.time
     ((c.hears.ensures.hears ∙ ap (λ (t : NodeTable). t.hears) c.table.ensures) i)
     (c.as_slice-3.ensures.value i)) in
     -- they are no more than the node's hear rows, for which there is room
     omega (
       arith,
       ap (λ (l : List Frame). length l) is,
-      frames_fit n.problem (record { scenario = n.scenario; lengths = n.lengths }) n.members.items v.playing v.members
+      frames_fit inside.problem (record { scenario = inside.scenario; lengths = inside.lengths }) inside.members.items invariant.playing invariant.members
           c.args.node c.index-member.result.now c.index-member.ensures
           (within-f c) c.in-Some.time (comes-f c),
-      subst (λ (m : Member). length m.node.dispatcher.table.hears ≤ vec_capacity n.frames) (sym c.index-member.ensures)
-          (v.frames c.args.node c.index-member.result.now (within-f c)),
+      subst (λ (m : Member). length m.node.dispatcher.table.hears ≤ vec_capacity inside.frames) (sym c.index-member.ensures)
+          (invariant.frames c.args.node c.index-member.result.now (within-f c)),
     )
 
 -- the node is one of the members
@@ -181,9 +182,9 @@ mut-t c = ap (λ (m : Member). next m.node.dispatcher) (same-t c) ∙ comes-t c
 took-t : (c : goal.After-as_slice-4) →
     Took ≡ answer c.self.inside.problem (cluster_of c.self.inside.members.items) c.args.node
 took-t c =
-    let n = c.self.inside in
-    let v = c.self.invariant in
-    asked n.problem (record { scenario = n.scenario; lengths = n.lengths }) n.members.items v.playing v.members
+    let inside = c.self.inside in
+    let invariant = c.self.invariant in
+    asked inside.problem (record { scenario = inside.scenario; lengths = inside.lengths }) inside.members.items invariant.playing invariant.members
     c.args.node c.index-member.result.now c.index-member.ensures
     (within-t c) c.in-Some.time (comes-t c) Took c.index-member.result.now
     (sym (ap answer_if c.in_default-waited_on.is) ∙ c.waited_on.ensures c.index-member.result.now ∙
@@ -197,75 +198,75 @@ frames-t : (c : goal.After-as_slice-4) →
     ≡ frames_by c.self.inside.problem c.self.inside.scenario.values c.self.inside.members.items c.in-Some.time
     c.index_mut-member.result.now.node.dispatcher.table.hears c.index_mut-member.result.now.senders.items
 frames-t c =
-    let n = c.self.inside in
-    let v = c.self.invariant in
+    let inside = c.self.inside in
+    let invariant = c.self.invariant in
     c.as_slice-4.ensures.value ∙ c.gather_frames.ensures.frames
-    ∙ (λ i. frames_by n.problem n.scenario.values (c.as_slice-2.ensures.value i) c.in-Some.time
+    ∙ (λ i. frames_by inside.problem inside.scenario.values (c.as_slice-2.ensures.value i) c.in-Some.time
     ((c.hears.ensures.hears ∙ ap (λ (t : NodeTable). t.hears) c.table.ensures) i)
     (c.as_slice-3.ensures.value i))
-    ∙ ap (λ (m : Member). frames_by n.problem n.scenario.values n.members.items c.in-Some.time
+    ∙ ap (λ (m : Member). frames_by inside.problem inside.scenario.values inside.members.items c.in-Some.time
     m.node.dispatcher.table.hears m.senders.items) (sym (same-t c))
 
 -- the node's table says of each of its processes what the graph says
 pub take_turn-requires-clause-own : goal.take_turn-requires-clause-own
 take_turn-requires-clause-own c =
-    let n = c.self.inside in
-    let v = c.self.invariant in
-    own_all n.problem (record { scenario = n.scenario; lengths = n.lengths }) n.members.items v.playing v.members
+    let inside = c.self.inside in
+    let invariant = c.self.invariant in
+    own_all inside.problem (record { scenario = inside.scenario; lengths = inside.lengths }) inside.members.items invariant.playing invariant.members
     c.args.node c.index_mut-member.result.now c.index_mut-member.ensures.value
     (within-t c) c.in-Some.time (mut-t c)
 
 -- the node may take the reports of all executions that are over
 pub take_turn-requires-clause-finish : goal.take_turn-requires-clause-finish
 take_turn-requires-clause-finish c =
-    let n = c.self.inside in
-    let v = c.self.invariant in
-    finish_all n.problem (record { scenario = n.scenario; lengths = n.lengths }) n.members.items v.playing v.members
+    let inside = c.self.inside in
+    let invariant = c.self.invariant in
+    finish_all inside.problem (record { scenario = inside.scenario; lengths = inside.lengths }) inside.members.items invariant.playing invariant.members
     c.args.node c.index_mut-member.result.now c.index_mut-member.ensures.value
     (within-t c) c.in-Some.time (mut-t c)
 
 -- after the reports the node may take its turn
 pub take_turn-requires-clause-turn : goal.take_turn-requires-clause-turn
 take_turn-requires-clause-turn c =
-    let n = c.self.inside in
-    let v = c.self.invariant in
-    turn_may n.problem (record { scenario = n.scenario; lengths = n.lengths }) n.members.items v.playing v.members
+    let inside = c.self.inside in
+    let invariant = c.self.invariant in
+    turn_may inside.problem (record { scenario = inside.scenario; lengths = inside.lengths }) inside.members.items invariant.playing invariant.members
     c.args.node c.index_mut-member.result.now c.index_mut-member.ensures.value
     (within-t c) c.in-Some.time (mut-t c) c.as_slice-4.result.now (frames-t c)
 
 -- the reports do not change the next instant
 pub take_turn-requires-clause-next : goal.take_turn-requires-clause-next
 take_turn-requires-clause-next c =
-    let n = c.self.inside in
-    let v = c.self.invariant in
-    ready_next n.problem (record { scenario = n.scenario; lengths = n.lengths }) n.members.items v.playing v.members
+    let inside = c.self.inside in
+    let invariant = c.self.invariant in
+    ready_next inside.problem (record { scenario = inside.scenario; lengths = inside.lengths }) inside.members.items invariant.playing invariant.members
     c.args.node c.index_mut-member.result.now c.index_mut-member.ensures.value
     (within-t c) c.in-Some.time (mut-t c)
 
 -- each process reports once, so there is room for the reports
 pub take_turn-requires-clause-reports_fit : goal.take_turn-requires-clause-reports_fit
 take_turn-requires-clause-reports_fit c =
-    let n = c.self.inside in
-    let v = c.self.invariant in
-    reports_fit n.problem (record { scenario = n.scenario; lengths = n.lengths }) n.members.items v.playing v.members
+    let inside = c.self.inside in
+    let invariant = c.self.invariant in
+    reports_fit inside.problem (record { scenario = inside.scenario; lengths = inside.lengths }) inside.members.items invariant.playing invariant.members
     c.args.node c.index_mut-member.result.now c.index_mut-member.ensures.value
     (within-t c) c.in-Some.time (mut-t c) c.as_slice-4.result.now (frames-t c) (took-t c)
 
 -- each process ends once, so there is room for the ends
 pub take_turn-requires-clause-ends_fit : goal.take_turn-requires-clause-ends_fit
 take_turn-requires-clause-ends_fit c =
-    let n = c.self.inside in
-    let v = c.self.invariant in
-    ends_fit n.problem (record { scenario = n.scenario; lengths = n.lengths }) n.members.items v.playing v.members
+    let inside = c.self.inside in
+    let invariant = c.self.invariant in
+    ends_fit inside.problem (record { scenario = inside.scenario; lengths = inside.lengths }) inside.members.items invariant.playing invariant.members
     c.args.node c.index_mut-member.result.now c.index_mut-member.ensures.value
     (within-t c) c.in-Some.time (mut-t c) c.as_slice-4.result.now (frames-t c) (took-t c)
 
 -- each row acts once, so there is room for the acts
 pub take_turn-requires-clause-acts_fit : goal.take_turn-requires-clause-acts_fit
 take_turn-requires-clause-acts_fit c =
-    let n = c.self.inside in
-    let v = c.self.invariant in
-    acts_fit n.problem (record { scenario = n.scenario; lengths = n.lengths }) n.members.items v.playing v.members
+    let inside = c.self.inside in
+    let invariant = c.self.invariant in
+    acts_fit inside.problem (record { scenario = inside.scenario; lengths = inside.lengths }) inside.members.items invariant.playing invariant.members
     c.args.node c.index_mut-member.result.now c.index_mut-member.ensures.value
     (within-t c) c.in-Some.time (mut-t c) c.as_slice-4.result.now (frames-t c) (took-t c)
 
@@ -298,9 +299,9 @@ mut-a c = ap (λ (m : Member). next m.node.dispatcher) (same-a c) ∙ comes-a c
 took-a : (c : goal.After-self-1) →
     Took ≡ answer c.self.inside.problem (cluster_of c.self.inside.members.items) c.args.node
 took-a c =
-    let n = c.self.inside in
-    let v = c.self.invariant in
-    asked n.problem (record { scenario = n.scenario; lengths = n.lengths }) n.members.items v.playing v.members
+    let inside = c.self.inside in
+    let invariant = c.self.invariant in
+    asked inside.problem (record { scenario = inside.scenario; lengths = inside.lengths }) inside.members.items invariant.playing invariant.members
     c.args.node c.index-member.result.now c.index-member.ensures
     (within-a c) c.in-Some.time (comes-a c) Took c.index-member.result.now
     (sym (ap answer_if c.in_default-waited_on.is) ∙ c.waited_on.ensures c.index-member.result.now ∙
@@ -314,46 +315,46 @@ frames-a : (c : goal.After-self-1) →
     ≡ frames_by c.self.inside.problem c.self.inside.scenario.values c.self.inside.members.items c.in-Some.time
     c.index_mut-member.result.now.node.dispatcher.table.hears c.index_mut-member.result.now.senders.items
 frames-a c =
-    let n = c.self.inside in
-    let v = c.self.invariant in
+    let inside = c.self.inside in
+    let invariant = c.self.invariant in
     c.as_slice-4.ensures.value ∙ c.gather_frames.ensures.frames
-    ∙ (λ i. frames_by n.problem n.scenario.values (c.as_slice-2.ensures.value i) c.in-Some.time
+    ∙ (λ i. frames_by inside.problem inside.scenario.values (c.as_slice-2.ensures.value i) c.in-Some.time
     ((c.hears.ensures.hears ∙ ap (λ (t : NodeTable). t.hears) c.table.ensures) i)
     (c.as_slice-3.ensures.value i))
-    ∙ ap (λ (m : Member). frames_by n.problem n.scenario.values n.members.items c.in-Some.time
+    ∙ ap (λ (m : Member). frames_by inside.problem inside.scenario.values inside.members.items c.in-Some.time
     m.node.dispatcher.table.hears m.senders.items) (sym (same-a c))
 
 -- after the turn it is a play still, and each member keeps what it should
 pub invariant_of-self : goal.invariant_of-self
 invariant_of-self c =
-    let n = c.self.inside in
-    let v = c.self.invariant in
+    let inside = c.self.inside in
+    let invariant = c.self.invariant in
     record {
       -- it is a play, one ask further
-      playing = (playing_then n.problem (record { scenario = n.scenario; lengths = n.lengths }) n.members.items
-          v.playing v.members c.args.node c.index_mut-member.result.now
+      playing = (playing_then inside.problem (record { scenario = inside.scenario; lengths = inside.lengths }) inside.members.items
+          invariant.playing invariant.members c.args.node c.index_mut-member.result.now
           c.index_mut-member.ensures.value (within-a c) c.in-Some.time (mut-a c) c.as_slice-4.result.now (frames-a c)
           (took-a c) c.take_turn.new.member c.take_turn.ensures.node c.take_turn.ensures.acts c.take_turn.ensures.noted
           c.take_turn.ensures.ends c.take_turn.ensures.reports c.take_turn.ensures.same
           c.take_turn.ensures.room);
       -- there are still at most 16 members
-      few = omega (arith, v.few, length-set n.members.items c.args.node c.take_turn.new.member);
+      few = omega (arith, invariant.few, length-set inside.members.items c.args.node c.take_turn.new.member);
       -- each member keeps what it should
-      members = (fits_then n.problem (record { scenario = n.scenario; lengths = n.lengths }) n.members.items v.playing
-          v.members c.args.node c.index_mut-member.result.now
+      members = (fits_then inside.problem (record { scenario = inside.scenario; lengths = inside.lengths }) inside.members.items invariant.playing
+          invariant.members c.args.node c.index_mut-member.result.now
           c.index_mut-member.ensures.value (within-a c) c.in-Some.time (mut-a c) c.as_slice-4.result.now (frames-a c)
           (took-a c) c.take_turn.new.member c.take_turn.ensures.node c.take_turn.ensures.acts c.take_turn.ensures.noted
           c.take_turn.ensures.ends c.take_turn.ensures.reports c.take_turn.ensures.same
           c.take_turn.ensures.room);
       -- and there is room for the frames of each node's turns
-      frames = (heard_then n.problem (record { scenario = n.scenario; lengths = n.lengths }) n.members.items v.playing
-          v.members c.args.node c.index_mut-member.result.now
+      frames = (heard_then inside.problem (record { scenario = inside.scenario; lengths = inside.lengths }) inside.members.items invariant.playing
+          invariant.members c.args.node c.index_mut-member.result.now
           c.index_mut-member.ensures.value (within-a c) c.in-Some.time (mut-a c) c.as_slice-4.result.now (frames-a c)
           (took-a c) c.take_turn.new.member c.take_turn.ensures.node c.take_turn.ensures.acts c.take_turn.ensures.noted
           c.take_turn.ensures.ends c.take_turn.ensures.reports c.take_turn.ensures.same
           c.take_turn.ensures.room _
-          (subst (λ (most : ℕ). All (λ (m : Member). length m.node.dispatcher.table.hears ≤ most) n.members.items)
-          (sym c.gather_frames.ensures.room) v.frames));
+          (subst (λ (most : ℕ). All (λ (m : Member). length m.node.dispatcher.table.hears ≤ most) inside.members.items)
+          (sym c.gather_frames.ensures.room) invariant.frames));
     }
 
 -- the node took its turn, which is the answer of the state
@@ -363,9 +364,9 @@ returns-clause-answer c = took-a c ∙ ap (λ (p : Playing). answer p.graph p.cl
 -- the members after the turn are the state after the node is asked
 pub returns-clause-step : goal.returns-clause-step
 returns-clause-step c =
-    let n = c.self.inside in
-    let v = c.self.invariant in
-    (play_then n.problem (record { scenario = n.scenario; lengths = n.lengths }) n.members.items v.playing v.members
+    let inside = c.self.inside in
+    let invariant = c.self.invariant in
+    (play_then inside.problem (record { scenario = inside.scenario; lengths = inside.lengths }) inside.members.items invariant.playing invariant.members
     c.args.node c.index_mut-member.result.now c.index_mut-member.ensures.value
     (within-a c) c.in-Some.time (mut-a c) c.as_slice-4.result.now (frames-a c)
     (took-a c) c.take_turn.new.member c.take_turn.ensures.node c.take_turn.ensures.acts c.take_turn.ensures.noted
@@ -375,11 +376,11 @@ returns-clause-step c =
 -- a turn leaves its node fewer instants
 pub returns-clause-nearer : goal.returns-clause-nearer
 returns-clause-nearer c e =
-    let n = c.self.inside in
-    let v = c.self.invariant in
-    subst (λ (p : Playing). remaining (cluster_of (set n.members.items c.args.node c.take_turn.new.member))
+    let inside = c.self.inside in
+    let invariant = c.self.invariant in
+    subst (λ (p : Playing). remaining (cluster_of (set inside.members.items c.args.node c.take_turn.new.member))
     < remaining p.cluster) c.self.view_is
-    (nearer_then n.problem (record { scenario = n.scenario; lengths = n.lengths }) n.members.items v.playing v.members
+    (nearer_then inside.problem (record { scenario = inside.scenario; lengths = inside.lengths }) inside.members.items invariant.playing invariant.members
     c.args.node c.index_mut-member.result.now c.index_mut-member.ensures.value
     (within-a c) c.in-Some.time (mut-a c) c.as_slice-4.result.now (frames-a c)
     (took-a c) c.take_turn.new.member c.take_turn.ensures.node c.take_turn.ensures.acts c.take_turn.ensures.noted
@@ -396,23 +397,23 @@ returns-in-Some-waited_on-clause-least c h =
 -- a node without a next instant is done, so it has done all that is due on it
 pub returns-in_default-clause-whole : goal.returns-in_default-clause-whole
 returns-in_default-clause-whole c _ =
-    let n = c.self.inside in
+    let inside = c.self.inside in
     -- there is such a member
-    let within : c.args.node < length n.members.items =
+    let within : c.args.node < length inside.members.items =
     omega (
       arith,
       c.requires,
       ap (λ (p : Playing). length p.graph.nodes) c.self.view_is,
       c.self.invariant.playing.shape.count,
-      length-map n.members.items (λ (m : Member). m.node.dispatcher.table),
+      length-map inside.members.items (λ (m : Member). m.node.dispatcher.table),
     ) in
     -- its node has no next instant
-    let none = ap next (dispatcher_is n.members.items c.args.node c.index-member.result.now within
+    let none = ap next (dispatcher_is inside.members.items c.args.node c.index-member.result.now within
     ∙ ap (λ (m : Member). m.node.dispatcher) (sym c.index-member.ensures)) ∙ sym c.next.ensures.next ∙
     c.in_default.is in
-    all_at (playing_of n) c.args.self.now c.self.view_is c.self.invariant.playing c.args.node c.requires
+    all_at (playing_of inside) c.args.self.now c.self.view_is c.self.invariant.playing c.args.node c.requires
     (ap (λ (p : Playing). answer p.graph p.cluster c.args.node) (sym c.self.view_is)
-    ∙ ap (answer_at n.problem (cluster_of n.members.items) c.args.node) none)
+    ∙ ap (answer_at inside.problem (cluster_of inside.members.items) c.args.node) none)
 
 -- the node took its turn, so it didn't answer that it is done
 pub returns-clause-whole : goal.returns-clause-whole

@@ -10,7 +10,7 @@ pub returns-in_default-clause-apart : goal.returns-in_default-clause-apart
 returns-in_default-clause-apart c =
     let e = c.raised_bounds.ensures in
     let meet : do_meet c.args.problem.now c.args.self.now c.args.other.now ≡ false = search rules in
-    apart_from_meet c.args.problem.now e.within.few_processes c.args.self.now c.args.other.now e.cubes.0 e.cubes.1 meet
+    apart_from_meet c.args.problem.now e.limits.few_processes c.args.self.now c.args.other.now e.cubes.0 e.cubes.1 meet
 
 -- the written scenario is that of the greater lows, which is the least that both cubes match
 pub returns-clause-least : goal.returns-clause-least
@@ -19,5 +19,5 @@ returns-clause-least c order =
     let meet : do_meet c.args.problem.now c.args.self.now c.args.other.now ≡ true = search rules in
     let same : c.write_lows.new.least ≡ both_lows c.args.problem.now c.args.self.now c.args.other.now =
     c.write_lows.ensures.lows ∙ c.in-Some.ensures.lows in
-    rw same (both-least c.args.problem.now e.within.few_processes c.args.self.now c.args.other.now e.cubes.0
+    rw same (both-least c.args.problem.now e.limits.few_processes c.args.self.now c.args.other.now e.cubes.0
     e.cubes.1 meet order)

@@ -9,7 +9,7 @@ pub returns-clause-all : goal.returns-clause-all
 returns-clause-all c =
     let g = c.args.problem.now in
     let e = c.is_within.ensures in
-    let few = e.within.few_processes in (
+    let few = e.limits.few_processes in (
       (λ t. within_from g few c.args.self.now c.args.other.now e.cubes.0 e.cubes.1 (sym e.exact ∙ t)),
       (λ h. e.exact ∙ to_within g few c.args.self.now c.args.other.now e.cubes.0 e.cubes.1 h),
     )

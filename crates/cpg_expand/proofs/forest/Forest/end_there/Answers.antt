@@ -1,5 +1,4 @@
--- Proof of `Forest::end_there`, which returns the ends of a process, with 0 where it isn't active. `inside` is the
--- forest as the code has it, list by list.
+-- Proof of `Forest::end_there`, which returns the ends of a process, with 0 where it isn't active.
 use Rattle.std.proofs.Common.{refl}
 use Rattle.cpg_expand.specs.Forest.{ForestState, ends_of}
 use Rattle.cpg_expand.proofs.GuardTrees.{ends_read, ends_tree, read_end}
@@ -16,12 +15,11 @@ returns c =
       ends = c.self.inside.ends.items;
       ready = c.self.inside.ready.items;
       free = c.self.inside.free.items;
-      wide =
-          c.self.inside.wide;
+      wide = c.self.inside.wide;
     } in
-    let both = read_end g c.index.result.now (ends_of g f c.args.process) c.in_ok-there.there
+    let tree_and_times = read_end g c.index.result.now (ends_of g f c.args.process) c.in_ok-there.there
     (ends_read g f c.requires.forest inside c.self.view_is c.index.result.now c.args.process c.args.process
     c.index.ensures refl c.requires.process)
     (ends_tree g f c.requires.forest c.args.process c.requires.process) c.in_ok-there.ensures.is
     c.in_ok-there.ensures.each c.in_ok-there.ensures.pass in
-    record { tree = both.0; later = both.1 }
+    record { tree = tree_and_times.0; later = tree_and_times.1 }

@@ -1,5 +1,5 @@
--- Proof of `Forest::heard_and`, which returns from when on a node has heard a condition and `further` is reached too.
--- `inside` is the forest as the code has it, list by list.
+-- Proof of `Forest::heard_and`, which returns the later of two times in each scenario: from when on a node has heard a
+-- condition, and `further`. Where the condition isn't told, that is `further`.
 use Rattle.std.proofs.Common.{◌≡◌, ◌∙◌, refl, sym, ap, subst}
 use Rattle.cpg_base.specs.Bus.{slot_length}
 use Rattle.cpg_base.specs.Graph.{home, node_of}
@@ -28,13 +28,12 @@ returns-in_ok-both c =
       ends = c.self.inside.ends.items;
       ready = c.self.inside.ready.items;
       free = c.self.inside.free.items;
-      wide =
-          c.self.inside.wide;
+      wide = c.self.inside.wide;
     } in
-    -- the tree that is read is that of the process in the forest
+    -- the tree that is read is that of the process's ends in the forest
     let same : end ≡ ends_of g f p = ends_read g f c.requires.forest inside c.self.view_is end p p c.index.ensures refl
     c.process_of-process.ensures.within in
-    -- so it is a tree of the graph
+    -- so the process's tree is one of the graph
     let of_end : IsTree g end =
     subst (IsTree g) (sym same) (ends_tree g f c.requires.forest p c.process_of-process.ensures.within) in
     record {
@@ -63,13 +62,12 @@ returns-in_ok-both-2 c =
       ends = c.self.inside.ends.items;
       ready = c.self.inside.ready.items;
       free = c.self.inside.free.items;
-      wide =
-          c.self.inside.wide;
+      wide = c.self.inside.wide;
     } in
-    -- the tree that is read is that of the item in the forest
+    -- the tree that is read is that of the item's times in the forest
     let same : times ≡ times_of g f x = times_read g f c.requires.forest inside c.self.view_is times x x
     c.index-else-node_of-node.ensures refl c.broadcast_item-item.ensures.within in
-    -- so it is a tree of the graph
+    -- so the item's tree is one of the graph
     let of_times : IsTree g times =
     subst (IsTree g) (sym same) (times_tree g f c.requires.forest x c.broadcast_item-item.ensures.within) in
     record {

@@ -1,5 +1,5 @@
--- Proof of `Forest::ready_and`, which returns from when on a node is ready and `there` is reached too. `inside` is the
--- forest as the code has it, list by list.
+-- Proof of `Forest::ready_and`, which returns the later of two times in each scenario: from when on a node is ready,
+-- which `ready` says, and `there`.
 use Rattle.std.proofs.Common.{◌<◌, ◌≡◌, refl, sym, subst}
 use Rattle.cpg_base.specs.Graph.{process_count}
 use Rattle.cpg_tree.specs.Tree.{TreeState}
@@ -28,10 +28,9 @@ returns-in_ok-both-in-After c =
       ends = c.self.inside.ends.items;
       ready = c.self.inside.ready.items;
       free = c.self.inside.free.items;
-      wide =
-          c.self.inside.wide;
+      wide = c.self.inside.wide;
     } in
-    -- the tree that is read is that of the process in the forest
+    -- the tree that is read is that of the process's ends in the forest
     let same : end ≡ ends_of g f p =
     ends_read g f c.requires.forest inside c.self.view_is end p p c.index.ensures refl l in
     let of : IsTree g end = subst (IsTree g) (sym same) (ends_tree g f c.requires.forest p l) in

@@ -1,5 +1,5 @@
--- Proof of `Forest::ready_and_input`, which returns from when on a node is ready and an input from another node has
--- arrived.
+-- Proof of `Forest::ready_and_input`, which returns from when on a node is ready, which `ready` says, and an input from
+-- another node (`edge`) has arrived. Where its message isn't sent, the node's being ready alone counts.
 use Rattle.std.proofs.Common.{subst}
 use Rattle.cpg_base.specs.Bus.{slot_length}
 use Rattle.cpg_base.specs.Graph.{home}

@@ -1,5 +1,5 @@
--- Proof of `Forest::started`, which returns the starts of a process at `release` or later, once its node is ready.
--- `inside` is the forest as the code has it, list by list.
+-- Proof of `Forest::started`, which returns the starts of a process at `release` or later, once its node is ready,
+-- which `ready` says.
 use Rattle.std.proofs.Common.{◌<◌, ◌≡◌, [], refl, sym, subst}
 use Rattle.cpg_base.specs.Graph.{process_count}
 use Rattle.cpg_tree.specs.Tree.{TreeState}
@@ -27,10 +27,9 @@ returns-in_ok-start-in-After c =
       ends = c.self.inside.ends.items;
       ready = c.self.inside.ready.items;
       free = c.self.inside.free.items;
-      wide =
-          c.self.inside.wide;
+      wide = c.self.inside.wide;
     } in
-    -- the tree that is read is that of the process in the forest
+    -- the tree that is read is that of the process's ends in the forest
     let same : end ≡ ends_of g f p =
     ends_read g f c.requires.forest inside c.self.view_is end p p c.index.ensures refl l in
     let of : IsTree g end = subst (IsTree g) (sym same) (ends_tree g f c.requires.forest p l) in

@@ -1,6 +1,6 @@
--- Proof of `Forest::started_by_frame_where`, which returns the starts of a process at `release` or later, once its
--- node is ready and the frame of an item has arrived, where `active` is true; no time elsewhere. `inside` is the
--- forest as the code has it, list by list.
+-- Proof of `Forest::started_by_frame_where`, which returns the starts of a process where `active` is true, and no time
+-- elsewhere. It starts at `release` or later, once its node is ready, which `ready` says, and the frame of an item has
+-- arrived. Where the item isn't sent, its frame isn't waited for.
 use Rattle.std.proofs.Common.{◌<◌, ◌≡◌, ◌∙◌, refl, sym, ap, subst}
 use Rattle.cpg_base.specs.Bus.{slot_length}
 use Rattle.cpg_base.specs.Graph.{home, process_count}
@@ -34,18 +34,17 @@ returns-in_ok-start-in-After c =
       ends = c.self.inside.ends.items;
       ready = c.self.inside.ready.items;
       free = c.self.inside.free.items;
-      wide =
-          c.self.inside.wide;
+      wide = c.self.inside.wide;
     } in
-    -- the tree that is read is that of the item in the forest
+    -- the tree that is read is that of the item's times in the forest
     let same : times ≡ times_of g f x =
     times_read g f c.requires.forest inside c.self.view_is times x x c.index-times.ensures refl c.requires.item in
-    -- the tree that is read is that of the process in the forest
+    -- the tree that is read is that of the process's ends in the forest
     let same_end : end ≡ ends_of g f p =
     ends_read g f c.requires.forest inside c.self.view_is end p p c.index-end.ensures refl l in
-    -- so it is a tree of the graph
+    -- so the item's tree is one of the graph
     let of_times : IsTree g times = subst (IsTree g) (sym same) (times_tree g f c.requires.forest x c.requires.item) in
-    -- so it is a tree of the graph
+    -- so the process's tree is one of the graph
     let of_end : IsTree g end = subst (IsTree g) (sym same_end) (ends_tree g f c.requires.forest p l) in
     record {
       tree = same_tree g c.args.active.now start c.requires.active.faults c.in_ok-start-in-After.ensures.is.faults
@@ -77,13 +76,12 @@ returns-in_ok-start-in-At c =
       ends = c.self.inside.ends.items;
       ready = c.self.inside.ready.items;
       free = c.self.inside.free.items;
-      wide =
-          c.self.inside.wide;
+      wide = c.self.inside.wide;
     } in
-    -- the tree that is read is that of the item in the forest
+    -- the tree that is read is that of the item's times in the forest
     let same : times ≡ times_of g f x =
     times_read g f c.requires.forest inside c.self.view_is times x x c.index-times.ensures refl c.requires.item in
-    -- so it is a tree of the graph
+    -- so the item's tree is one of the graph
     let of_times : IsTree g times = subst (IsTree g) (sym same) (times_tree g f c.requires.forest x c.requires.item) in
     record {
       tree = same_tree g c.args.active.now start c.requires.active.faults c.in_ok-start-in-At.ensures.is.faults

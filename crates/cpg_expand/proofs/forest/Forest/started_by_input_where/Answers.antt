@@ -1,5 +1,6 @@
--- Proof of `Forest::started_by_input_where`, which returns the starts of a process at `release` or later, once its
--- node is ready and an input from another node has arrived, where `active` is true; no time elsewhere.
+-- Proof of `Forest::started_by_input_where`, which returns the starts of a process where `active` is true, and no time
+-- elsewhere. It starts at `release` or later, once its node is ready, which `ready` says, and an input from another
+-- node (`edge`) has arrived. Where its message isn't sent, it isn't waited for.
 use Rattle.std.proofs.Common.{subst}
 use Rattle.cpg_base.specs.Bus.{slot_length}
 use Rattle.cpg_base.specs.Graph.{home}

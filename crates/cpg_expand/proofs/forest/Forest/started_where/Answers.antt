@@ -1,5 +1,5 @@
--- Proof of `Forest::started_where`, which returns the starts of a process at `release` or later, once its node is
--- ready, where `active` is true; no time elsewhere.
+-- Proof of `Forest::started_where`, which returns the starts of a process where `active` is true, and no time
+-- elsewhere. It starts at `release` or later, once its node is ready, which `ready` says.
 use Rattle.std.proofs.Common.{ℕ, Option, None, subst}
 use Rattle.cpg_tree.specs.Tree.{TreeState, IsConstant}
 use Rattle.cpg_tree.specs.Variables.{is_variable}

@@ -1,4 +1,5 @@
--- Proof of `test`: a tree that is true if a guard leads to an active leaf, for a guard that tests a condition.
+-- Proof of `Activity::test`, which returns the tree of where a guard that tests a condition leads to an active leaf,
+-- given the trees of its two sides.
 use Rattle.cpg_tree.proofs.Forks.{of_answer}
 use Rattle.cpg_expand.proofs.GuardTrees.{active_test}
 use Rattle.cpg_expand.proofs.guarded.ActivityDescentBool.test.Goals as goal

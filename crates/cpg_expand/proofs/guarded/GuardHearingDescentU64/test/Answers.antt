@@ -1,4 +1,5 @@
--- Proof of `test`: when a node has heard what a guard tests, for a guard that tests a condition.
+-- Proof of `GuardHearing::test`, which returns the tree of when a node has heard what a guard that tests a condition
+-- tests on the scenario's way, given the trees of its two sides.
 use Rattle.cpg_expand.proofs.GuardTrees.{heard_test}
 use Rattle.cpg_expand.proofs.guarded.GuardHearingDescentU64.test.Goals as goal
 

@@ -1,4 +1,5 @@
--- Proof of `test`: the starts of a process, for a guard that tests a condition.
+-- Proof of `Starting::test`, which returns the tree of the starts of a process whose guard tests a condition, given the
+-- trees of the guard's two sides.
 use Rattle.cpg_tree.proofs.Forks.{of_answer}
 use Rattle.cpg_expand.specs.Forest.{ready_by}
 use Rattle.cpg_expand.proofs.GuardTrees.{start_test}

@@ -1,4 +1,5 @@
--- Loops of `Lane::begin`: starts a process if it is active, and otherwise lets its node wait for what decides it.
+-- Loops of `Lane::begin`: starts a process in each course of a track if it is active, and otherwise lets its node wait
+-- in each for what decides it.
 use Rattle.std.proofs.Common.{◌≡◌, ◌+◌, true}
 use Rattle.cpg_latest.specs.Course.{AreHalf}
 use Rattle.cpg_latest.specs.Lanes.{CanBegin, HasSentTo, IsLastEnd}

@@ -1,4 +1,4 @@
--- Proof of `Lane::excess`: how far an end with all the faults is past its due at most, in time units.
+-- Proof of `Lane::excess`: how far an end with all the faults is past its due at most, in time units, or 0 if none is.
 use Rattle.std.proofs.Common.{◌∙◌, ◌-◌, max, ap, ap₂}
 use Rattle.cpg_base.specs.Duration.{due}
 use Rattle.cpg_run.specs.Run.{end_in}

@@ -1,4 +1,4 @@
--- Loops of `Lane::excess`: how far an end with all the faults is past its due at most, in time units.
+-- Loops of `Lane::excess`: how far an end with all the faults is past its due at most, in time units, or 0 if none is.
 use Rattle.std.proofs.Common.{◌≡◌, ◌-◌, map}
 use Rattle.cpg_base.specs.Duration.{due}
 use Rattle.cpg_base.specs.Numbers.{greatest, numbers_below}

@@ -1,4 +1,4 @@
--- Proof of `Lane::finish`: the greatest end with all the faults, in time units.
+-- Proof of `Lane::finish`: the greatest end with all the faults, in time units, or 0 if no process is active.
 use Rattle.std.proofs.Common.{◌∙◌, max, ap}
 use Rattle.cpg_run.specs.Run.{end_in}
 use Rattle.cpg_latest.proofs.Found.{greatest_below}

@@ -1,4 +1,4 @@
--- Loops of `Lane::finish`: the greatest end with all the faults, in time units.
+-- Loops of `Lane::finish`: the greatest end with all the faults, in time units, or 0 if no process is active.
 use Rattle.std.proofs.Common.{◌≡◌, map}
 use Rattle.cpg_base.specs.Numbers.{greatest, numbers_below}
 use Rattle.cpg_run.specs.Run.{end_in}

@@ -1,4 +1,4 @@
--- Loops of `Lane::none`: a lane in which nothing is known.
+-- Loops of `Lane::none`: a lane in whose courses nothing is known, and all nodes are ready and their slots free at 0.
 use Rattle.std.proofs.Common.{◌≡◌, length, replicate}
 use Rattle.cpg_run.specs.Known.{no_times}
 use Rattle.cpg_latest.proofs.lanes.Lane.none.Given as goal

@@ -1,4 +1,5 @@
--- Proof of `Lane::send`: sends the item at a place of what a process sends, if it is active.
+-- Proof of `Lane::send`: sends the item at a place in the queue of a process in each course of a track, if it is
+-- active.
 use Rattle.std.proofs.Common.{◌≡◌, ◌∙◌, ◌+◌, ◌^◌, ◌<◌, false, true, refl, sym, ap, length, get_or, Contains, subst}
 use Rattle.std.proofs.Common.{arith}
 use Rattle.std.proofs.lemmas.List.Elements.{Contains-get_or}

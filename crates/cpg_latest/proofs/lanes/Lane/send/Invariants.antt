@@ -1,4 +1,5 @@
--- Loops of `Lane::send`: sends the item at a place of what a process sends, if it is active.
+-- Loops of `Lane::send`: sends the item at a place in the queue of a process in each course of a track, if it is
+-- active.
 use Rattle.std.proofs.Common.{◌+◌}
 use Rattle.cpg_latest.specs.Course.{AreHalf}
 use Rattle.cpg_latest.specs.Lanes.{HasSentTo}

@@ -1,5 +1,5 @@
--- Proof of `Lane::send_time`: when an item of a process could be sent with all the faults if it were not frozen, and
--- `None` exactly if it is inactive.
+-- Proof of `Lane::send_time`: when an item of a process could be sent at the latest, with all the faults, if it were
+-- not frozen, and `None` exactly if it is inactive.
 use Rattle.cpg_run.proofs.Senders.{queued_slot}
 use Rattle.cpg_latest.proofs.lanes.Lane.send_time.Goals as goal
 

@@ -1,4 +1,5 @@
--- Proof of `Follower::feed_piece`: reads the next piece of the stream and feeds it.
+-- Proof of `Follower::feed_piece`: reads the next piece of the stream and feeds it; if the shelf meets a fault, nothing is
+-- fed.
 use Rattle.std.proofs.Common.{rules, ◌≡◌, ◌+◌, ◌++◌, ◌∙◌, List, arith, sym, ap, subst, length, take}
 use Rattle.std.proofs.lemmas.List.{length-append}
 use Rattle.cpg_io.proofs.Agreeing.{read_rest}

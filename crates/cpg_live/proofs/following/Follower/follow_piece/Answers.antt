@@ -22,23 +22,24 @@ returns-in_default-clause-along g c start name past a =
 pub returns-then-is_err-clause-along : goal.returns-then-is_err-clause-along
 returns-then-is_err-clause-along g c start name past a =
     let f = c.args.self.now in
-    let n = c.feed_piece.new.self in
+    -- the follower after the piece, the shelf before and after it, and what `out` had taken before its lines and after them
+    let fed = c.feed_piece.new.self in
     let shelf = g.S.Shelf.state c.args.shelf.now in
     let rest = g.S.Shelf.state c.feed_piece.new.shelf in
-    let now = (g.O.Sink.state c.args.out.now).taken in
-    let out = (g.O.Sink.state c.tell.new.out).taken in
+    let taken_before = (g.O.Sink.state c.args.out.now).taken in
+    let taken_after = (g.O.Sink.state c.tell.new.out).taken in
     -- the fetch of the stream and the state after the piece
-    let k = fed_on name past shelf rest c.in-Ok.fed.count start now f n a c.in-Ok.ensures.piece in
+    let along = fed_on name past shelf rest c.in-Ok.fed.count start taken_before f fed a c.in-Ok.ensures.piece in
     let failed : is_err c.tell.result ≡ true = search rules in
     -- the sink has counted a fault, and took a proper prefix of the lines
     record {
-      fetch = k.fetch;
-      named = k.named;
-      history_is = k.history_is;
+      fetch = along.fetch;
+      named = along.named;
+      history_is = along.history_is;
       is = (
         on_err c.tell.result failed c.tell.ensures.cause.failed,
-        fed_cut name past rest.history start now out f.head f.table f.live.progress.acts f.told n.read n.live k
-            (subst (TookPrefix now out) (lines_told shelf rest f n c.in-Ok.fed.count c.in-Ok.ensures.piece)
+        fed_cut name past rest.history start taken_before taken_after f.head f.table f.live.progress.acts f.told fed.read fed.live along
+            (subst (TookPrefix taken_before taken_after) (lines_told shelf rest f fed c.in-Ok.fed.count c.in-Ok.ensures.piece)
             (on_err c.tell.result failed c.tell.ensures.part)),
       );
     }
@@ -47,30 +48,31 @@ returns-then-is_err-clause-along g c start name past a =
 pub returns-in-Some-clause-along : goal.returns-in-Some-clause-along
 returns-in-Some-clause-along g c start name past a =
     let f = c.args.self.now in
-    let n = c.feed_piece.new.self in
+    -- the follower after the piece, the shelf before and after it, and what `out` had taken before its lines and after them
+    let fed = c.feed_piece.new.self in
     let shelf = g.S.Shelf.state c.args.shelf.now in
     let rest = g.S.Shelf.state c.feed_piece.new.shelf in
-    let now = (g.O.Sink.state c.args.out.now).taken in
-    let out = (g.O.Sink.state c.tell.new.out).taken in
+    let taken_before = (g.O.Sink.state c.args.out.now).taken in
+    let taken_after = (g.O.Sink.state c.tell.new.out).taken in
     -- the fetch of the stream and the state after the piece
-    let k = fed_on name past shelf rest c.in-Ok.fed.count start now f n a c.in-Ok.ensures.piece in
+    let along = fed_on name past shelf rest c.in-Ok.fed.count start taken_before f fed a c.in-Ok.ensures.piece in
     -- all lines were written, and the piece has a lawless record
     let told_all : is_err c.tell.result ≡ false = search rules in
-    let lawless : n.live.lawless ≡ Some c.in-Some.lawless = search rules in
+    let lawless : fed.live.lawless ≡ Some c.in-Some.lawless = search rules in
     -- the stream is refused by it, after all lines
     record {
-      fetch = k.fetch;
-      named = k.named;
-      history_is = k.history_is;
+      fetch = along.fetch;
+      named = along.named;
+      history_is = along.history_is;
       is = (
-        act_lines f.head n.live.progress.acts,
-        fed_lawless name past rest.history start now out f.head f.table f.live.progress.acts f.told n.read n.live k
+        act_lines f.head fed.live.progress.acts,
+        fed_lawless name past rest.history start taken_before taken_after f.head f.table f.live.progress.acts f.told fed.read fed.live along
             c.in-Some.lawless lawless,
         record {
           faultless = on_ok c.tell.result told_all c.tell.ensures.cause.kept;
           taken =
-              wrote_all name past rest.history start now out f.head f.table f.live.progress.acts f.told n.read n.live k
-              (subst (Took now out) (lines_told shelf rest f n c.in-Ok.fed.count c.in-Ok.ensures.piece)
+              wrote_all name past rest.history start taken_before taken_after f.head f.table f.live.progress.acts f.told fed.read fed.live along
+              (subst (Took taken_before taken_after) (lines_told shelf rest f fed c.in-Ok.fed.count c.in-Ok.ensures.piece)
               (on_ok c.tell.result told_all c.tell.ensures.whole));
         },
       );
@@ -80,32 +82,33 @@ returns-in-Some-clause-along g c start name past a =
 pub returns-then-self-gt-STREAM_LIMIT-clause-along : goal.returns-then-self-gt-STREAM_LIMIT-clause-along
 returns-then-self-gt-STREAM_LIMIT-clause-along g c start name past a =
     let f = c.args.self.now in
-    let n = c.feed_piece.new.self in
+    -- the follower after the piece, the shelf before and after it, and what `out` had taken before its lines and after them
+    let fed = c.feed_piece.new.self in
     let shelf = g.S.Shelf.state c.args.shelf.now in
     let rest = g.S.Shelf.state c.feed_piece.new.shelf in
-    let now = (g.O.Sink.state c.args.out.now).taken in
-    let out = (g.O.Sink.state c.tell.new.out).taken in
+    let taken_before = (g.O.Sink.state c.args.out.now).taken in
+    let taken_after = (g.O.Sink.state c.tell.new.out).taken in
     -- the fetch of the stream and the state after the piece
-    let k = fed_on name past shelf rest c.in-Ok.fed.count start now f n a c.in-Ok.ensures.piece in
+    let along = fed_on name past shelf rest c.in-Ok.fed.count start taken_before f fed a c.in-Ok.ensures.piece in
     -- all lines were written, no record is lawless, and the bytes are more than the limit
     let told_all : is_err c.tell.result ≡ false = search rules in
-    let none : n.live.lawless ≡ None = search rules in
-    let read : c.self.inside.read ≡ n.read = ap (λ (f : Follower). f.read) (c.self.view_is ∙ c.tell.ensures.state) in
-    let over : STREAM_LIMIT < n.read = omega (arith, c.if-self-gt-STREAM_LIMIT.true, read) in
+    let none : fed.live.lawless ≡ None = search rules in
+    let read : c.self.inside.read ≡ fed.read = ap (λ (f : Follower). f.read) (c.self.view_is ∙ c.tell.ensures.state) in
+    let over : STREAM_LIMIT < fed.read = omega (arith, c.if-self-gt-STREAM_LIMIT.true, read) in
     -- the stream is refused as too long, after all lines
     record {
-      fetch = k.fetch;
-      named = k.named;
-      history_is = k.history_is;
+      fetch = along.fetch;
+      named = along.named;
+      history_is = along.history_is;
       is = (
-        act_lines f.head n.live.progress.acts,
-        fed_long name past rest.history start now out f.head f.table f.live.progress.acts f.told n.read
-            n.live k none over,
+        act_lines f.head fed.live.progress.acts,
+        fed_long name past rest.history start taken_before taken_after f.head f.table f.live.progress.acts f.told fed.read
+            fed.live along none over,
         record {
           faultless = on_ok c.tell.result told_all c.tell.ensures.cause.kept;
           taken =
-              wrote_all name past rest.history start now out f.head f.table f.live.progress.acts f.told n.read n.live k
-              (subst (Took now out) (lines_told shelf rest f n c.in-Ok.fed.count c.in-Ok.ensures.piece)
+              wrote_all name past rest.history start taken_before taken_after f.head f.table f.live.progress.acts f.told fed.read fed.live along
+              (subst (Took taken_before taken_after) (lines_told shelf rest f fed c.in-Ok.fed.count c.in-Ok.ensures.piece)
               (on_ok c.tell.result told_all c.tell.ensures.whole));
         },
       );
@@ -115,18 +118,19 @@ returns-then-self-gt-STREAM_LIMIT-clause-along g c start name past a =
 pub returns-clause-along : goal.returns-clause-along
 returns-clause-along g c start name past a =
     let f = c.args.self.now in
-    let n = c.feed_piece.new.self in
+    -- the follower after the piece, the shelf before and after it, and what `out` had taken before its lines and after them
+    let fed = c.feed_piece.new.self in
     let shelf = g.S.Shelf.state c.args.shelf.now in
     let rest = g.S.Shelf.state c.feed_piece.new.shelf in
-    let now = (g.O.Sink.state c.args.out.now).taken in
-    let out = (g.O.Sink.state c.tell.new.out).taken in
+    let taken_before = (g.O.Sink.state c.args.out.now).taken in
+    let taken_after = (g.O.Sink.state c.tell.new.out).taken in
     let told_all : is_err c.tell.result ≡ false = search rules in
-    let none : n.live.lawless ≡ None = search rules in
-    let read : c.self.inside.read ≡ n.read = ap (λ (f : Follower). f.read) (c.self.view_is ∙ c.tell.ensures.state) in
-    let within : n.read ≤ STREAM_LIMIT = omega (arith, c.if-self-gt-STREAM_LIMIT.false, read) in
-    along_at name past shelf rest c.in-Ok.fed.count start now out f n c.tell.new.self a
+    let none : fed.live.lawless ≡ None = search rules in
+    let read : c.self.inside.read ≡ fed.read = ap (λ (f : Follower). f.read) (c.self.view_is ∙ c.tell.ensures.state) in
+    let within : fed.read ≤ STREAM_LIMIT = omega (arith, c.if-self-gt-STREAM_LIMIT.false, read) in
+    along_at name past shelf rest c.in-Ok.fed.count start taken_before taken_after f fed c.tell.new.self a
     c.in-Ok.ensures.piece none within
-    (subst (Took now out) (lines_told shelf rest f n c.in-Ok.fed.count c.in-Ok.ensures.piece)
+    (subst (Took taken_before taken_after) (lines_told shelf rest f fed c.in-Ok.fed.count c.in-Ok.ensures.piece)
     (on_ok c.tell.result told_all c.tell.ensures.whole)) c.tell.ensures.state
 
 -- a piece that can't be read leaves the follower as it was

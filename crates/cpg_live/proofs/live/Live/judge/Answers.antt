@@ -1,4 +1,4 @@
--- Proof of `Live::judge`: takes a record, or notes that it is lawless.
+-- Proof of `Live::judge`: takes a record, or notes that it is lawless, for its kind, its time or what it says.
 use Rattle.std.proofs.Common.{◌≡◌, true, ap, ◌∙◌, subst, arith}
 use Rattle.cpg_node.specs.Dispatcher.{is_after}
 use Rattle.cpg_node.proofs.Rooms.{after_later}

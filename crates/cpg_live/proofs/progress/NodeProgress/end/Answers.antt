@@ -1,4 +1,4 @@
--- Proof of `NodeProgress::end`: takes the end of an execution of a process.
+-- Proof of `NodeProgress::end`: takes the end of an execution of a process, unless the process can't report it then.
 use Rattle.std.proofs.Common.{◌≡◌, true, sym, ◌∙◌, subst}
 use Rattle.cpg_node.specs.Dispatcher.{is_after}
 use Rattle.cpg_live.specs.Stream.{NodeProgress}

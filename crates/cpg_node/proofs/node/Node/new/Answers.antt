@@ -3,7 +3,7 @@ use Rattle.std.proofs.Common.{sym, subst, None, refl, rules}
 use Rattle.std.proofs.lemmas.List.Elements.{All-replicate}
 use Rattle.cpg_node.specs.Plan.{Planned}
 use Rattle.cpg_node.specs.State.{IsTimed, AreTimed}
-use Rattle.cpg_node.proofs.Turning.{line_open, next_open}
+use Rattle.cpg_node.proofs.Turning.{place_open, next_open}
 use Rattle.cpg_node.proofs.TableBounds.{plan_early}
 use Rattle.cpg_node.proofs.node.Node.new.Goals as goal
 
@@ -17,9 +17,9 @@ invariant_of-result c = record {
       (All-replicate IsTimed _ None tt);
   planned = c.in_ok-plan.ensures.same;
   early = plan_early c.args.table c.own.ensures.made c.in_ok-plan.plan.items c.in_ok-plan.ensures.same;
-  entries = line_open (λ (p : Planned). p.time) c.in_ok-plan.plan.items c.in_ok-plan.ensures.rises;
+  entries = place_open (λ (p : Planned). p.time) c.in_ok-plan.plan.items c.in_ok-plan.ensures.rises;
   times = c.in_ok-times.ensures.same;
-  instants = line_open (λ t. t) c.in_ok-times.times.items c.in_ok-times.ensures.rises;
+  instants = place_open (λ t. t) c.in_ok-times.times.items c.in_ok-times.ensures.rises;
   next = next_open
       (record { table = c.args.table; heard = c.in_ok-heard.heard.items; running = c.in_ok-running.running.items; last = None }) refl;
   room = search rules;

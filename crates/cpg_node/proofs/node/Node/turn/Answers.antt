@@ -10,11 +10,11 @@ use Rattle.cpg_node.specs.Dispatcher.{Running, Range, least_of, is_after, possib
 use Rattle.cpg_node.specs.Dispatcher.{acts_of_turn, zip_with, running_after}
 use Rattle.cpg_node.specs.Sound.{dispatcher_of}
 use Rattle.cpg_node.specs.State.{AreTimed, earlier}
-use Rattle.cpg_node.specs.Plan.{IsLine, act_of, takes}
+use Rattle.cpg_node.specs.Plan.{IsPlaceAfter, act_of, takes}
 use Rattle.cpg_node.proofs.Next.{next_is}
 use Rattle.cpg_node.proofs.Lines.{moves_on_seen}
 use Rattle.cpg_node.proofs.TableBounds.{AreShort, times_short}
-use Rattle.cpg_node.proofs.Turning.{length_zip, acts_are, line_moves, early_turn, timed_turn, next_found, turn_is}
+use Rattle.cpg_node.proofs.Turning.{length_zip, acts_are, place_moves, early_turn, timed_turn, next_found, turn_is}
 use Rattle.cpg_node.proofs.Turning.{returned_turn, returned_acts}
 use Rattle.cpg_node.proofs.node.Node.turn.Goals as goal
 
@@ -67,7 +67,7 @@ heard_length c = ap length (with_items_is c.self.inside.heard c.hear_all.new.hea
 
 -- the place of the times moves on to the first after the instant of the turn
 instants : (c : goal.After-self-6-1) →
-    IsLine (λ t. t) (Some c.in-Some.time) c.self.inside.times.items c.past_times-self-inside.result
+    IsPlaceAfter (λ t. t) (Some c.in-Some.time) c.self.inside.times.items c.past_times-self-inside.result
 instants c = moves_on_seen (λ t. t) c.self.inside.last c.self.inside.times.items c.as_slice-7.result.now
     c.self.inside.times_place c.past_times-self-inside.result c.in-Some.time
     c.self.invariant.instants
@@ -104,7 +104,7 @@ invariant_of-self c =
       planned = v.planned;
       early = v.early;
       -- the places of the plan and of the times move on to what is after the instant
-      entries = line_moves n.table n.heard.items n.running.items n.last c.in-Some.time n.plan.items
+      entries = place_moves n.table n.heard.items n.running.items n.last c.in-Some.time n.plan.items
           c.as_slice-3.result.now c.deref.result.now n.plan_place c.past_entries-plan_end.result v.planned
           v.entries (sym v.next ∙ c.in-Some.is)
           c.as_slice-3.ensures.value c.deref.ensures.value c.past_entries-plan_end.ensures.within

@@ -13,7 +13,7 @@ loop-variable-init c =
 pub returns-clause-is : goal.returns-clause-is
 returns-clause-is c = record {
   long = search rules;
-  longer = c.loop-variable.invariant.long;
+  high_long = c.loop-variable.invariant.long;
   lows = λ v l. get_or-replicate 256 v 0 0 l;
   counts =
       λ v l. c.loop-variable.invariant.done v (search rules);
